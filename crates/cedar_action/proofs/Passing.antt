@@ -1,4 +1,4 @@
--- A list with an element that passes a test, and what is left of it.
+-- Filtering a list that has an element which passes the test.
 use Rattle.std.proofs.Common.{◌≡◌, Bool, true, false, ℕ, zero, suc, ◌<◌, List, [], ◌∷◌, length, map, get_or, arith}
 use Rattle.std.proofs.Common.{sym, ap, ◌∙◌, if◌then◌else◌}
 use Rattle.std.specs.List.{filter}
@@ -11,7 +11,7 @@ left : {B : Type 0} (b : Bool) (y : B) (rest : List B) → (if b then y ∷ rest
 left true y rest none = absurd (cc)
 left false y rest none = none
 
--- where an element's value passes, something is left of the values
+-- If the value of an element passes the test, the filtered list of values is not empty.
 pub one_passes : {A B : Type 0} (f : A → B) (p : B → Bool) (xs : List A) (i : ℕ) (x : A) → i < length xs
     → x ≡ get_or xs i x → p (f x) ≡ true → filter p (map f xs) ≡ [] → ⊥
 one_passes f p [] i x within at pass none = absurd (omega arith)

@@ -13,7 +13,7 @@ use Rattle.cedar_action.specs.laws.UidCopies.{Shared, parts}
 use Rattle.cedar_action.specs.RuleTexts.{after_comma}
 use Rattle.cedar_terms.specs.UidTrees.{is_ascii_uid}
 
--- lists are ordered as the lists of their parts
+-- Lists of shared uids are ordered as the lists of their parts.
 pub shared_lists_cmp : (us vs : List Shared)
     → slice_cmp (λ u v. uid_cmp (parts u) (parts v)) us vs ≡ slice_cmp uid_cmp (map parts us) (map parts vs)
 shared_lists_cmp [] [] = refl
@@ -26,11 +26,11 @@ then_Equal Less = refl
 then_Equal Equal = refl
 then_Equal Greater = refl
 
--- lists of one uid are ordered as these
+-- Lists of one uid are ordered as their uids.
 pub lists_of_one_cmp : (u v : UidParts) → slice_cmp uid_cmp (u ∷ []) (v ∷ []) ≡ uid_cmp u v
 lists_of_one_cmp u v = then_Equal (uid_cmp u v)
 
--- a list feeds what the list of its parts does
+-- A list of shared uids feeds the same input to a hasher as the list of its parts.
 pub shared_lists_fed : (us : List Shared)
     → fed.slice (λ u. uid_hash_input (parts u)) us ≡ fed.slice uid_hash_input (map parts us)
 shared_lists_fed us = λ i. fed.usize (sym (length-map us parts) i) ++ sym (flat_map-map uid_hash_input parts us) i

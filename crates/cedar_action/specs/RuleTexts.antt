@@ -1,4 +1,4 @@
--- How constraints of actions are written.
+-- The printed texts of action constraints.
 use Rattle.std.specs.Prelude.{ℕ, List, [], ◌∷◌, ◌++◌, Bool, true, Option, Some, None, if◌then◌else◌, codes}
 use Rattle.std.specs.List.{list_all, flat_map}
 use Rattle.cedar_ids.specs.Uid.{UidParts}
@@ -6,20 +6,20 @@ use Rattle.cedar_ids.specs.Printed.{printed_uid}
 use Rattle.cedar_action.specs.Rules.{ActionRule, any_action, among, just, among_slot, just_slot}
 use Rattle.cedar_terms.specs.UidTrees.{is_ascii_uid}
 
--- a uid after another one
+-- The text of a uid after another one: a comma and the uid.
 abbrev pub after_comma : UidParts → List ℕ
 after_comma u = codes "," ++ printed_uid u
 
--- uids joined by commas, with no blanks
+-- The texts of uids, separated by commas without spaces.
 abbrev pub uids_text : List UidParts → List ℕ
 uids_text [] = []
 uids_text (u ∷ us) = printed_uid u ++ flat_map after_comma us
 
--- what is known of the text of any uids
+-- The specified output of printing uids: their text if all eids are ASCII, else unspecified.
 abbrev pub uids_output : List UidParts → Option (List ℕ)
 uids_output us = if list_all is_ascii_uid us then Some (uids_text us) else None
 
--- `action`; `action in [U,W]`; `action == U`; `action in ?action`; `action == ?action`
+-- The text of a rule: `action`, `action in [U,W]`, `action == U`, `action in ?action` or `action == ?action`.
 abbrev pub rule_text : ActionRule → List ℕ
 rule_text any_action = codes "action"
 rule_text (among us) = codes "action in [" ++ (uids_text us ++ codes "]")
@@ -27,7 +27,7 @@ rule_text (just u) = codes "action == " ++ printed_uid u
 rule_text among_slot = codes "action in ?action"
 rule_text just_slot = codes "action == ?action"
 
--- whether all eids in it are ASCII
+-- Whether all eids in a rule are ASCII.
 abbrev pub is_ascii_rule : ActionRule → Bool
 is_ascii_rule any_action = true
 is_ascii_rule (among us) = list_all is_ascii_uid us
@@ -35,6 +35,6 @@ is_ascii_rule (just u) = is_ascii_uid u
 is_ascii_rule among_slot = true
 is_ascii_rule just_slot = true
 
--- what is known of the text of any rule
+-- The specified output of printing a rule: its text if all eids are ASCII, else unspecified.
 abbrev pub rule_output : ActionRule → Option (List ℕ)
 rule_output a = if is_ascii_rule a then Some (rule_text a) else None

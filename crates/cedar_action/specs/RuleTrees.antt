@@ -1,4 +1,4 @@
--- The expressions that constraints of actions stand for.
+-- The expressions of action constraints.
 use Rattle.std.specs.Prelude.{map, true}
 use Rattle.cedar_terms.specs.LiteralTree.{bool_literal}
 use Rattle.cedar_terms.specs.ExprTree.{ExprTree, val_node, var_node, slot_node, eq_node, in_node, set_node, expr_trees}
@@ -7,7 +7,8 @@ use Rattle.cedar_terms.specs.declared.var.Var.TheVariants as vars
 use Rattle.cedar_action.specs.Rules.{ActionRule, any_action, among, just, among_slot, just_slot}
 use Rattle.cedar_terms.specs.UidTrees.{uid_expr}
 
--- `true`; `action in` the set of the uids in their order; `action == U`; `action in` or `==` its slot
+-- The expression of a rule: `true`, `action in` the set of the uids in order, `action == U`, `action in ?action` or
+-- `action == ?action`.
 abbrev pub rule_expr : ActionRule → ExprTree
 rule_expr any_action = val_node (bool_literal true)
 rule_expr (among us) = in_node (var_node vars.Action) (set_node (expr_trees (map uid_expr us)))

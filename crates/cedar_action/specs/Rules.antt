@@ -1,8 +1,9 @@
--- Constraints of actions as callers see them. No location is in them.
+-- Action constraints as callers see them. Locations are not part of them.
 use Rattle.std.specs.Prelude.{List}
 use Rattle.cedar_ids.specs.Uid.{UidParts}
 
--- what an action has to be: anything; in one of some uids; equal to a uid; in what its slot is bound to; equal to that
+-- The condition on an action. `any_action` allows every action. `among` is `in` a list of uids, and `just` is `==` a
+-- uid. `among_slot` is `in ?action`, and `just_slot` is `== ?action`.
 pub data ActionRule : Type 0 where
   any_action : ActionRule
   among : List UidParts → ActionRule

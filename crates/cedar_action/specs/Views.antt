@@ -1,4 +1,4 @@
--- What callers see of constraints of actions, and of what iterators of their uids have left.
+-- Action constraints, and the remaining items of their iterators, as callers see them.
 use Rattle.std.specs.Prelude.{List, [], ◌∷◌, map, reverse}
 use Rattle.std.specs.Borrow.{Bor}
 use Rattle.cedar_ids.specs.Uid.{UidParts}
@@ -10,7 +10,7 @@ use Rattle.cedar_action.specs.declared.action.ActionConstraint.TheVariants as ac
 use Rattle.cedar_action.specs.declared.iters.EntityIterator.{EntityIterator}
 use Rattle.cedar_action.specs.declared.iters.EntityIterator.TheVariants as iterators
 
--- a constraint of an action without locations
+-- The constraint without its locations.
 abbrev pub rule_of : ActionConstraint → ActionRule
 rule_of actions.Any = any_action
 rule_of (actions.In us) = among (map (λ u. uid_parts u.value) us.items)
@@ -18,11 +18,11 @@ rule_of (actions.Eq u) = just (uid_parts u.value)
 rule_of (actions.InSlot l) = among_slot
 rule_of (actions.EqSlot l) = just_slot
 
--- the uids of a list, from the back
+-- The uids of a list, from the back.
 abbrev pub from_the_back : List (Bor EntityUID) → List UidParts
 from_the_back us = reverse (map (λ u. uid_parts u.now) us)
 
--- the uids that an iterator has still to give, in turn
+-- The remaining uids of an iterator, in order.
 abbrev pub uids_left : EntityIterator → List UidParts
 uids_left iterators.None = []
 uids_left (iterators.One u) = uid_parts u.now ∷ []

@@ -1,4 +1,4 @@
-//! What a policy asks of the action: anything, one uid, one of a list, or what its slot is bound to.
+//! Constraints on the action of a request.
 ghost use Rattle.std.specs.Prelude.{◌≡◌, ◌&&◌, ◌++◌, IfOk, OnErr, List, map, true, false};
 ghost use Rattle.std.specs.Fmt.{WritesOnOk};
 ghost use Rattle.std.specs.List.{list_all, flat_map, filter};
@@ -41,35 +41,42 @@ use std::rc::Rc;
 use std::{fmt, slice};
 use thiserror::Error;
 
-/// What the action of a request has to be.
+/// The condition that a policy places on the action of a request.
 ///
-/// The order is by kind, as the kinds are listed here, then by the uids item by item. Equality, order and hash look at
-/// no location and take no memory. `clone` takes memory for a list and shares its uids. `Display` writes `action`,
-/// `action in [U,W]`, `action == U`, `action in ?action` or `action == ?action` and takes no memory: exactly so where
-/// all eids are ASCII, else with an eid past ASCII as `str::escape_debug` writes it. The original has no slot of the
-/// action.
+/// The order is by kind, in the order of the variants, then by the uids item by item. Equality, order and hash ignore
+/// locations and do not allocate. `clone` allocates a new list and shares its uids.
+///
+/// `Display` writes `action`, `action in [U,W]`, `action == U`, `action in ?action` or `action == ?action`. An eid that
+/// is not ASCII is written as by `str::escape_debug`. Writing does not allocate.
+///
+/// # Differences from cedar-policy-core
+///
+/// The original has no slot for the action.
 #[derive(Debug, Drop)]
 pub enum ActionConstraint {
-    /// Anything.
+    /// Any action.
     Any,
-    /// In one of these uids.
+    /// Any action that is in one of these uids.
     In(Vec<Rc<EntityUID>>),
-    /// Equal to this uid.
+    /// Only the action with this uid.
     Eq(Rc<EntityUID>),
-    /// In what the action's slot is bound to, and where that slot stands in a source, if it is known.
+    /// Any action that is in the entity bound to the action's slot. Contains the location of the slot, if it is known.
     InSlot(Option<Loc>),
-    /// Equal to what the action's slot is bound to, and where that slot stands, if it is known.
+    /// Only the action bound to the action's slot. Contains the location of the slot, if it is known.
     EqSlot(Option<Loc>),
 }
 
-/// Why the types of an action's constraint were refused. The original answers the uids alone, and has no
-/// refusal for memory.
+/// The reason why the types in an action constraint are invalid.
+///
+/// # Differences from cedar-policy-core
+///
+/// The original returns only the uids. It has no variant for allocation failures.
 #[derive(Debug, Drop, Error)]
 pub enum ActionTypesError {
-    /// These uids, in the order of the list, are not actions.
+    /// These uids are not actions. They are in the order of the list.
     #[error("the action constraint holds uids that are not actions: {}", JoinedUids(.0))]
     NotActions(NonEmpty<Rc<EntityUID>>),
-    /// Memory was refused.
+    /// An allocation failed.
     #[error("out of memory")]
     Memory,
 }
@@ -90,7 +97,7 @@ impl<T: Drop> From<AllocFailed<T>> for ActionTypesError {
     }
 }
 
-/// Some uids as a refusal writes them: joined by commas, with no blanks. Writing them takes no memory.
+/// The uids of an error as its message shows them: separated by commas, without spaces. Writing does not allocate.
 #[derive(Debug, Drop)]
 pub struct JoinedUids<'a>(pub &'a NonEmpty<Rc<EntityUID>>);
 
@@ -103,15 +110,22 @@ impl fmt::Display for JoinedUids<'_> {
 }
 
 impl ActionConstraint {
-    /// Anything. Takes no memory.
+    /// Returns the constraint that allows any action. Does not allocate.
     pub fn any() -> ActionConstraint
         ensures { rule_of result ≡ any_action }
     {
         ActionConstraint::Any
     }
 
-    /// In one of these uids, in this order, which it comes to share. Takes memory linear in the list, and
-    /// is refused only where that is.
+    /// Returns the constraint `in euids`, with the uids in this order.
+    ///
+    /// # Errors
+    ///
+    /// Returns `AllocError` if an allocation fails.
+    ///
+    /// # Complexity
+    ///
+    /// O(n), where n is the length of the list. Allocates a shared copy of each uid.
     pub fn is_in(alloc: Global, euids: Vec<EntityUID>) -> Result<ActionConstraint, AllocError>
         ensures { IfOk result (λ c. rule_of c ≡ among (map uid_parts euids.items)) }
     {
@@ -119,7 +133,11 @@ impl ActionConstraint {
         Ok(ActionConstraint::In(euids))
     }
 
-    /// Equal to this uid, which it comes to share. Takes memory for that.
+    /// Returns the constraint `== euid`. Allocates a shared copy of the uid.
+    ///
+    /// # Errors
+    ///
+    /// Returns `AllocError` if an allocation fails.
     pub fn is_eq(alloc: Global, euid: EntityUID) -> Result<ActionConstraint, AllocError>
         ensures { IfOk result (λ c. rule_of c ≡ just (uid_parts euid)) }
     {
@@ -127,26 +145,38 @@ impl ActionConstraint {
         Ok(ActionConstraint::Eq(euid))
     }
 
-    /// In what the action's slot is bound to; the slot has no location. Takes no memory. It is this project's own.
+    /// Returns the constraint `in ?action`. The slot has no location. Does not allocate.
+    ///
+    /// # Differences from cedar-policy-core
+    ///
+    /// The original has no such function.
     pub fn is_in_slot() -> ActionConstraint
         ensures { rule_of result ≡ among_slot }
     {
         ActionConstraint::InSlot(None)
     }
 
-    /// Equal to what the action's slot is bound to; the slot has no location. Takes no memory. It is this project's
-    /// own.
+    /// Returns the constraint `== ?action`. The slot has no location. Does not allocate.
+    ///
+    /// # Differences from cedar-policy-core
+    ///
+    /// The original has no such function.
     pub fn is_eq_slot() -> ActionConstraint
         ensures { rule_of result ≡ just_slot }
     {
         ActionConstraint::EqSlot(None)
     }
 
-    /// The constraint with the uid in the place of the slot: in the list of that one uid, or equal to it. Any other
-    /// stays.
+    /// Replaces the action's slot by the uid. `in ?action` becomes `in` a list of this uid, and `== ?action` becomes
+    /// `==` this uid. Any other constraint is returned unchanged.
     ///
-    /// Takes memory for that list alone, and is refused only where that is; a refusal drops the constraint. It is this
-    /// project's own.
+    /// # Errors
+    ///
+    /// Returns `AllocError` and drops the constraint if an allocation fails, which is possible only for `in ?action`.
+    ///
+    /// # Differences from cedar-policy-core
+    ///
+    /// The original has no such function.
     pub fn with_filled_slot(
         self,
         alloc: Global,
@@ -168,9 +198,17 @@ impl ActionConstraint {
         }
     }
 
-    /// The expression of the constraint: `true`, `action in` the set of the uids in their order, `action ==` the uid,
-    /// or `action in` or `==` its slot, which stands where the constraint has it. Takes memory linear in the list; the
-    /// uids are shared.
+    /// Returns the constraint as an expression: `true`, `action in` the set of the uids in order, `action ==` the uid,
+    /// or `action in` or `==` its slot. The node of the slot has the location of the constraint's slot. The uids are
+    /// shared.
+    ///
+    /// # Errors
+    ///
+    /// Returns `AllocError` if an allocation fails.
+    ///
+    /// # Complexity
+    ///
+    /// O(n), where n is the number of uids. Allocates O(n).
     pub fn as_expr(&self, alloc: Global) -> Result<Expr, AllocError>
         ensures { IfOk result (λ e. e ≡ rule_expr (rule_of self.now)) }
     {
@@ -186,8 +224,16 @@ impl ActionConstraint {
         }
     }
 
-    /// The uids of the constraint: of a list from the back, repeats kept; of the slot none. Takes memory for a list of
-    /// references where the constraint has a list, else none.
+    /// Iterates over the uids of the constraint. A list is read from the back, with its repetitions. A slot has no
+    /// uids.
+    ///
+    /// # Errors
+    ///
+    /// Returns `AllocError` if an allocation fails.
+    ///
+    /// # Complexity
+    ///
+    /// Allocates a list of references if the constraint has a list of uids. Else it does not allocate.
     pub fn iter_euids(&self, alloc: Global) -> Result<EntityIterator<'_>, AllocError>
         ensures { IfOk result (λ i. uids_left i ≡ uids_given (rule_of self.now)) }
     {
@@ -200,7 +246,15 @@ impl ActionConstraint {
         }
     }
 
-    /// The types of the uids that `iter_euids` gives, in its order. Takes memory as that does.
+    /// Iterates over the types of the uids, in the order of [`ActionConstraint::iter_euids`].
+    ///
+    /// # Errors
+    ///
+    /// Returns `AllocError` if an allocation fails.
+    ///
+    /// # Complexity
+    ///
+    /// As [`ActionConstraint::iter_euids`].
     pub fn iter_entity_type_names(&self, alloc: Global) -> Result<ActionTypeNames<'_>, AllocError>
         ensures { IfOk result (λ i. i ≡ map name_part (uids_given (rule_of self.now))) }
     {
@@ -208,12 +262,18 @@ impl ActionConstraint {
         Ok(ActionTypeNames::of(euids))
     }
 
-    /// `Ok` exactly where each uid is an action: where the last component of its type is `Action`, whatever
-    /// its path. The slot passes.
+    /// Checks that each uid is an action: that the last component of its type is `Action`, in any namespace. A slot
+    /// passes the check.
     ///
-    /// `NotActions` has exactly the others, in the order of the list, repeats kept, and they are shared.
-    /// Takes memory for these alone, so that a constraint that passes takes none; `Memory` comes only where there is
-    /// one and that was refused. Reads each uid's type once.
+    /// # Errors
+    ///
+    /// - `NotActions`: some uids are not actions. The error shares exactly these uids, in the order of the list and
+    ///   with repetitions.
+    /// - `Memory`: an allocation failed, which is possible only if some uid is not an action.
+    ///
+    /// # Complexity
+    ///
+    /// O(n), where n is the number of uids. Allocates only for the error.
     pub fn check_action_types(&self, alloc: Global) -> Result<(), ActionTypesError>
         ensures { ChecksTypes result (rule_of self.now) }
     {
@@ -226,8 +286,11 @@ impl ActionConstraint {
         }
     }
 
-    /// The constraint itself where each uid is an action, else the refusal of `check_action_types`. Takes
-    /// memory as that does; a refusal drops the constraint.
+    /// Returns the constraint itself, if each uid is an action.
+    ///
+    /// # Errors
+    ///
+    /// As [`ActionConstraint::check_action_types`]. The constraint is then dropped.
     pub fn contains_only_action_types(
         self,
         alloc: Global,
@@ -240,7 +303,7 @@ impl ActionConstraint {
         }
     }
 
-    // The place of its kind among the kinds.
+    // Returns the index of the kind.
     fn kind(&self) -> u8
         ensures { result ≡ rule_kind (rule_of self.now) }
     {
@@ -253,7 +316,7 @@ impl ActionConstraint {
         }
     }
 
-    // How this constraint and another stand in the order.
+    // Compares two constraints.
     fn compare(&self, other: &ActionConstraint) -> Ordering
         ensures { result ≡ rule_cmp (rule_of self.now) (rule_of other.now) }
     {
@@ -277,7 +340,7 @@ ghost use Rattle.std.specs.Prelude.{[], ◌∷◌, MatchOption, fold};
 ghost use Rattle.cedar_ids.specs.Uid.{uid_cmp, uid_hash_input};
 ghost use Rattle.std.specs.Hash as fed;
 
-// How two lists stand in the order.
+// Compares two lists of uids.
 fn compare_lists(us: &Vec<Rc<EntityUID>>, vs: &Vec<Rc<EntityUID>>) -> Ordering
     ensures { result ≡ slice_cmp uid_cmp (map (λ u. uid_parts u.value) us.now.items)
         (map (λ u. uid_parts u.value) vs.now.items) }
@@ -285,7 +348,7 @@ fn compare_lists(us: &Vec<Rc<EntityUID>>, vs: &Vec<Rc<EntityUID>>) -> Ordering
     us.cmp(vs)
 }
 
-// How two lists of one uid stand in the order.
+// Compares two uids, as lists of one uid.
 #[tactic(auto, using(crate::proofs::UidLists::lists_of_one_cmp))]
 fn compare_uids(u: &EntityUID, v: &EntityUID) -> Ordering
     ensures { result ≡ slice_cmp uid_cmp (uid_parts u.now ∷ []) (uid_parts v.now ∷ []) }
@@ -293,7 +356,7 @@ fn compare_uids(u: &EntityUID, v: &EntityUID) -> Ordering
     u.cmp(v)
 }
 
-// Some uids, each to be shared.
+// Moves each uid into a shared allocation.
 fn shared(alloc: Global, euids: Vec<EntityUID>) -> Result<Vec<Rc<EntityUID>>, AllocError>
     ensures { IfOk result (λ us. map (λ u. uid_parts u.value) us.items ≡ map uid_parts euids.items) }
 {
@@ -304,7 +367,7 @@ fn shared(alloc: Global, euids: Vec<EntityUID>) -> Result<Vec<Rc<EntityUID>>, Al
     Ok(all)
 }
 
-// The action's slot, where it stands.
+// Returns the expression of the action's slot, with this location.
 fn slot_at(alloc: Global, loc: &Option<Loc>) -> Result<Expr, AllocError>
     ensures { IfOk result (λ e. e ≡ slot_node Action) }
 {
@@ -312,7 +375,7 @@ fn slot_at(alloc: Global, loc: &Option<Loc>) -> Result<Expr, AllocError>
     Ok(expr.with_maybe_source_loc(loc.clone()?))
 }
 
-// That the action lies in what an expression is.
+// Returns the expression `action in right`.
 fn action_is_in(alloc: Global, right: Expr) -> Result<Expr, AllocError>
     ensures { IfOk result (λ e. e ≡ in_node (var_node vars.Action) right) }
 {
@@ -320,7 +383,7 @@ fn action_is_in(alloc: Global, right: Expr) -> Result<Expr, AllocError>
     Expr::is_in(alloc, left, right)
 }
 
-// That the action is what an expression is.
+// Returns the expression `action == right`.
 fn action_is_eq(alloc: Global, right: Expr) -> Result<Expr, AllocError>
     ensures { IfOk result (λ e. e ≡ eq_node (var_node vars.Action) right) }
 {
@@ -328,7 +391,7 @@ fn action_is_eq(alloc: Global, right: Expr) -> Result<Expr, AllocError>
     Expr::is_eq(alloc, left, right)
 }
 
-// The set of some uids.
+// Returns the set expression of some uids.
 fn euids_into_expr(alloc: Global, euids: &Vec<Rc<EntityUID>>) -> Result<Expr, AllocError>
     ensures { IfOk result
         (λ e. e ≡ set_node (expr_trees (map uid_expr (map (λ u. uid_parts u.value) euids.now.items)))) }
@@ -340,7 +403,7 @@ fn euids_into_expr(alloc: Global, euids: &Vec<Rc<EntityUID>>) -> Result<Expr, Al
     Expr::set(alloc, exprs)
 }
 
-// The iterator of a list.
+// Returns the iterator over a list of uids.
 fn bunch(alloc: Global, euids: &Vec<Rc<EntityUID>>) -> Result<EntityIterator<'_>, AllocError>
     ensures { IfOk result
         (λ i. uids_left i ≡ uids_given (among (map (λ u. uid_parts u.value) euids.now.items))) }
@@ -349,7 +412,7 @@ fn bunch(alloc: Global, euids: &Vec<Rc<EntityUID>>) -> Result<EntityIterator<'_>
     Ok(EntityIterator::Bunch(euids))
 }
 
-// References to some uids.
+// Returns references to some uids.
 fn references<'a>(
     alloc: Global,
     euids: &'a Vec<Rc<EntityUID>>,
@@ -365,14 +428,14 @@ fn references<'a>(
     Ok(all)
 }
 
-// Whether it is the uid of something that is no action.
+// Returns whether a uid is not the uid of an action.
 fn is_no_action(euid: &EntityUID) -> bool
     ensures { result ≡ is_no_action (uid_parts euid.now) }
 {
     !euid.is_action()
 }
 
-// Refuses a uid that is no action.
+// Returns an error with the uid if it is not an action.
 fn check_one(alloc: Global, euid: &Rc<EntityUID>) -> Result<(), ActionTypesError>
     ensures { ChecksTypes result (just (uid_parts euid.now.value)) }
 {
@@ -384,7 +447,7 @@ fn check_one(alloc: Global, euid: &Rc<EntityUID>) -> Result<(), ActionTypesError
     Err(ActionTypesError::NotActions(NonEmpty { head, tail }))
 }
 
-// Refuses the uids of a list that are no actions.
+// Returns an error with the uids of a list that are not actions, if there are any.
 fn check_all(alloc: Global, euids: &Vec<Rc<EntityUID>>) -> Result<(), ActionTypesError>
     ensures { ChecksTypes result (among (map (λ u. uid_parts u.value) euids.now.items)) }
 {
@@ -395,7 +458,7 @@ fn check_all(alloc: Global, euids: &Vec<Rc<EntityUID>>) -> Result<(), ActionType
     }
 }
 
-// The uids that are no actions, in the order of the list.
+// Returns the uids that are not actions, in the order of the list.
 fn non_actions(alloc: Global, euids: &Vec<Rc<EntityUID>>) -> Result<Vec<Rc<EntityUID>>, AllocError>
     ensures ok { IfOk result (λ us. map (λ u. uid_parts u.value) us.items
         ≡ filter is_no_action (map (λ u. uid_parts u.value) euids.now.items)) }
@@ -411,7 +474,7 @@ fn non_actions(alloc: Global, euids: &Vec<Rc<EntityUID>>) -> Result<Vec<Rc<Entit
     Ok(found)
 }
 
-// The list, if it is not empty.
+// Returns the list as a non-empty list, if it has an element.
 fn non_empty(mut euids: Vec<Rc<EntityUID>>) -> Option<NonEmpty<Rc<EntityUID>>>
     ensures { MatchOption result (euids.items ≡ []) (λ us. all_of us ≡ euids.items) }
 {
@@ -440,7 +503,7 @@ impl fmt::Display for ActionConstraint {
     }
 }
 
-// Writes the uids of a refusal, joined by commas.
+// Writes the uids of an error, separated by commas.
 fn write_all<W: fmt::Write>(
     uids: &NonEmpty<Rc<EntityUID>>,
     f: &mut fmt::Formatter<W>,
@@ -452,7 +515,7 @@ fn write_all<W: fmt::Write>(
     write_listed(&uids.head, uids.tail.as_slice(), f)
 }
 
-// Writes some uids, joined by commas.
+// Writes some uids, separated by commas.
 fn write_euids<W: fmt::Write>(euids: &[Rc<EntityUID>], f: &mut fmt::Formatter<W>) -> fmt::Result
     ensures { list_all is_ascii_uid (map (λ u. uid_parts u.value) euids.now) ≡ true
         → WritesOnOk W.write_str_gives f.old result
@@ -464,7 +527,7 @@ fn write_euids<W: fmt::Write>(euids: &[Rc<EntityUID>], f: &mut fmt::Formatter<W>
     }
 }
 
-// Writes a uid, and others after it.
+// Writes a uid, and then others with a comma before each.
 fn write_listed<W: fmt::Write>(
     first: &EntityUID,
     rest: &[Rc<EntityUID>],
@@ -480,7 +543,7 @@ fn write_listed<W: fmt::Write>(
     write_more(rest, f)
 }
 
-// Writes a comma before each.
+// Writes each uid with a comma before it.
 fn write_more<W: fmt::Write>(euids: &[Rc<EntityUID>], f: &mut fmt::Formatter<W>) -> fmt::Result
     ensures { list_all (λ u. is_ascii_uid (uid_parts u.value)) euids.now ≡ true
         → WritesOnOk W.write_str_gives f.old result
@@ -561,7 +624,7 @@ impl Hash for ActionConstraint {
     }
 }
 
-// Feeds a list of uids.
+// Feeds a list of uids to the hasher.
 #[tactic(auto, using(crate::proofs::UidLists::shared_lists_fed))]
 fn hash_list<H: Hasher>(euids: &[Rc<EntityUID>], state: &mut H)
     ensures { state.new ≡ fold H.write state.old

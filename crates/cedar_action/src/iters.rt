@@ -1,4 +1,4 @@
-//! The iterators of constraints of actions. Contracts see each as the list of what it has left.
+//! The iterators of action constraints. Contracts see each as the list of its remaining items.
 ghost use Rattle.std.specs.Prelude.{◌≡◌, ◌++◌, List, map};
 ghost use Rattle.std.specs.Iterator.{YieldsFirstBy, item_count};
 ghost use Rattle.cedar_ids.specs.Uid.{UidParts, name_part};
@@ -9,7 +9,11 @@ ghost use Rattle.cedar_action.specs.Views.{uids_left, from_the_back};
 use cedar_ids::entity::{EntityType, EntityUID};
 use std::marker::Model;
 
-/// The uids of a constraint of an action. Public here, private in the original.
+/// An iterator over the uids of an action constraint.
+///
+/// # Differences from cedar-policy-core
+///
+/// This type is private in the original.
 #[derive(Drop)]
 pub enum EntityIterator<'a> {
     /// No uid.
@@ -27,7 +31,7 @@ impl<'a> Iterator for EntityIterator<'a> {
 
     ghost remaining = { item_count uids_left };
 
-    /// The next uid. Takes no memory.
+    /// Returns the next uid. Does not allocate.
     fn next(&mut self) -> Option<&'a EntityUID> {
         match self {
             EntityIterator::None => None,
@@ -41,7 +45,7 @@ impl<'a> Iterator for EntityIterator<'a> {
     }
 }
 
-// The last of some uids, which is taken out.
+// Removes the last uid and returns it.
 #[tactic(auto, using(crate::proofs::Bunch::last_comes_first))]
 fn pop_last<'a>(euids: &mut Vec<&'a EntityUID>) -> Option<&'a EntityUID>
     ensures { YieldsFirstBy (λ u. uid_parts u.now) from_the_back euids.old.items result euids.new.items }
@@ -49,7 +53,7 @@ fn pop_last<'a>(euids: &mut Vec<&'a EntityUID>) -> Option<&'a EntityUID>
     euids.pop()
 }
 
-/// The types of the uids of a constraint of an action, in the order of its iterator of uids.
+/// An iterator over the types of the uids of an action constraint, in the order of [`EntityIterator`].
 #[derive(Drop)]
 pub struct ActionTypeNames<'a> {
     euids: EntityIterator<'a>,
@@ -67,7 +71,7 @@ impl<'a> Model for ActionTypeNames<'a> {
 }
 
 impl<'a> ActionTypeNames<'a> {
-    // The types of these uids.
+    // Creates an iterator over the types of these uids.
     pub(crate) fn of(euids: EntityIterator<'a>) -> ActionTypeNames<'a>
         ensures { result ≡ map name_part (uids_left euids.entry) }
     {

@@ -1,8 +1,11 @@
-//! Constraints of actions: what a policy asks of the action that it is for.
+//! Action constraints: the conditions that a policy places on the action.
 //!
-//! Contracts see a constraint as a rule without locations (`specs/Rules.antt`), so equality, order and hash never
-//! look at a location. Three files hold what callers read: `specs/RuleTrees.antt` says which expression a rule
-//! stands for, `specs/RuleTexts.antt` how it is written, and `specs/RuleReads.antt` which uids it names.
+//! Equality, order and hash ignore locations. Contracts see a constraint as a rule without locations
+//! (`specs/Rules.antt`).
+//!
+//! - `specs/RuleTrees.antt` specifies the expression of a rule.
+//! - `specs/RuleTexts.antt` specifies its printed text.
+//! - `specs/RuleReads.antt` specifies its uids.
 #![tactic(auto)]
 
 pub mod action;

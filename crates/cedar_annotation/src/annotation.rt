@@ -1,4 +1,4 @@
-//! Annotations of a policy: keys and texts that no decision depends on.
+//! Annotations of policies: keys and texts that do not affect any decision.
 ghost use Rattle.std.specs.Prelude.{◌≡◌, IfOk, List, ℕ, IsTrue, ◌↔◌, []};
 ghost use Rattle.std.specs.Option.{option_map};
 ghost use Rattle.std.specs.Iterator.{YieldsFirst, YieldsFirstBy, item_count};
@@ -28,15 +28,18 @@ use std::marker::Model;
 
 /// The value of an annotation of a policy: any text.
 ///
-/// Contracts see its bytes. Equality, order (by bytes) and hash are those of the value and look at no
-/// location; in the original the order may see it. `clone` takes memory for a copy of the value. `Display`
-/// writes the value between quotes and takes no memory: by the table of escapes where it is ASCII, else as
-/// `str::escape_debug` writes it.
+/// Equality, order and hash use only the value, and ignore the location. The order compares bytes. `clone` allocates a
+/// copy of the value. `Display` writes the escaped value between quotes. If the value is not ASCII, it is written as by
+/// `str::escape_debug`. Writing does not allocate. Contracts see the bytes of the value.
+///
+/// # Differences from cedar-policy-core
+///
+/// In the original the order may depend on the location.
 #[derive(Debug, Drop)]
 pub struct Annotation {
     /// The value.
     pub val: String,
-    /// Where the key and the value stand, if that is known.
+    /// The location of the key and the value, if it is known.
     pub loc: Option<Loc>,
 }
 
@@ -50,8 +53,12 @@ impl Model for Annotation {
 }
 
 impl Annotation {
-    /// The annotation with this value, or with the empty text where there is none. Takes no memory: `alloc`
-    /// goes with the empty text. The original takes no allocator here.
+    /// Creates an annotation with this value, or with the empty text for `None`. Does not allocate: `alloc` becomes the
+    /// allocator of the empty text.
+    ///
+    /// # Differences from cedar-policy-core
+    ///
+    /// The original takes no allocator.
     pub fn with_optional_value(alloc: Global, val: Option<String>, loc: Option<Loc>) -> Annotation
         ensures { result ≡ value_or_empty val }
     {
@@ -64,7 +71,7 @@ impl Annotation {
         }
     }
 
-    /// The value. Takes no memory.
+    /// Returns the value. Does not allocate.
     pub fn as_ref(&self) -> &str
         ensures { result.now ≡ self.now }
     {
@@ -142,10 +149,10 @@ impl fmt::Display for Annotation {
 
 /// The annotations of a policy: a map from keys to values.
 ///
-/// Contracts see the list of its pairs, keys ascending by bytes. Equality, order and hash are those of this
-/// list and look at no location. `clone` takes memory linear in it. `Display` writes a line `@key("value")`
-/// for each pair, by key, and takes no memory: exactly so where all values are ASCII, else with a value past
-/// ASCII as `str::escape_debug` writes it.
+/// Equality, order and hash use the pairs in ascending order of their keys, and ignore locations. `clone` allocates in
+/// proportion to the content. `Display` writes a line `@key("value")` for each pair, by key. A value that is not ASCII
+/// is written as by `str::escape_debug`. Writing does not allocate. Contracts see the list of the pairs, with keys in
+/// ascending order of their bytes.
 #[derive(Debug, Drop)]
 pub struct Annotations {
     pairs: BTreeMap<AnyId, Annotation>,
@@ -163,7 +170,7 @@ impl Model for Annotations {
 }
 
 impl Annotations {
-    /// No annotations. Takes no memory.
+    /// Creates an empty map. Does not allocate.
     pub fn new(alloc: Global) -> Annotations
         ensures { result ≡ [] }
     {
@@ -172,10 +179,19 @@ impl Annotations {
         }
     }
 
-    /// The annotations of these pairs: of several pairs with one key the last counts.
+    /// Creates the annotations of these pairs. If a key occurs more than once, its last value is kept.
     ///
-    /// Takes memory linear in the list, and is refused only where that is; looks a key up for each pair. In
-    /// the original any iterator of pairs collects into annotations.
+    /// # Errors
+    ///
+    /// Returns `AllocError` if an allocation fails.
+    ///
+    /// # Complexity
+    ///
+    /// One lookup for each pair. Allocates O(n), where n is the length of the list.
+    ///
+    /// # Differences from cedar-policy-core
+    ///
+    /// The original collects annotations from any iterator of pairs.
     pub fn try_from_iter(
         alloc: Global,
         pairs: Vec<(AnyId, Annotation)>,
@@ -186,14 +202,18 @@ impl Annotations {
         Ok(Annotations { pairs })
     }
 
-    /// The annotation at a key. Takes no memory; the cost is logarithmic in their number.
+    /// Returns the annotation with this key, if there is one.
+    ///
+    /// # Complexity
+    ///
+    /// O(log n), where n is the number of annotations. Does not allocate.
     pub fn get(&self, key: &AnyId) -> Option<&Annotation>
         ensures { option_map (λ a. a.now) result ≡ value_at key.now self.now }
     {
         self.pairs.get(key)
     }
 
-    /// All annotations with their keys, by key. Takes no memory.
+    /// Iterates over the annotations with their keys, in ascending order of the keys. Does not allocate.
     pub fn iter(&self) -> Iter<'_>
         ensures pairs { result ≡ self.now }
         ensures ascending { KeysAscend self.now }
@@ -203,7 +223,7 @@ impl Annotations {
         }
     }
 
-    /// Whether there are none. Takes no memory.
+    /// Returns whether there are no annotations. Does not allocate.
     pub fn is_empty(&self) -> bool
         ensures { IsTrue result ↔ (self.now ≡ []) }
     {
@@ -211,7 +231,7 @@ impl Annotations {
     }
 }
 
-// The map of some pairs, of which the last with a key counts.
+// Returns the map of some pairs. The last value of a key is kept.
 fn collected(
     alloc: Global,
     pairs: Vec<(AnyId, Annotation)>,
@@ -248,7 +268,7 @@ impl IntoIterator for Annotations {
     }
 }
 
-/// The annotations of a policy with their keys, by key.
+/// An iterator over the annotations of a policy with their keys, in ascending order of the keys.
 #[derive(Debug, Drop)]
 pub struct Iter<'a> {
     inner: btree_map::Iter<'a, AnyId, Annotation>,
@@ -277,7 +297,7 @@ impl<'a> Iterator for Iter<'a> {
     }
 }
 
-/// The annotations of a policy with their keys, by key, handed over.
+/// An owning iterator over the annotations of a policy with their keys, in ascending order of the keys.
 #[derive(Debug, Drop)]
 pub struct IntoIter {
     inner: btree_map::IntoIter<AnyId, Annotation>,

@@ -1,7 +1,7 @@
-//! Annotations: what a policy says of itself, keys and texts that no decision depends on.
+//! Annotations of policies: keys and texts that do not affect any decision.
 //!
-//! Contracts see annotations as a finite map from keys to values, all by their bytes and without locations
-//! (`specs/Annotations.antt`), so equality, order and hash (`specs/AnnotationOrder.antt`) never look at a location.
+//! Equality, order and hash ignore locations. Contracts see annotations as a finite map from keys to values, both by
+//! their bytes (`specs/Annotations.antt`). `specs/AnnotationOrder.antt` specifies equality, order and hash.
 #![tactic(auto)]
 
 pub mod annotation;

@@ -1,9 +1,10 @@
-//! Copies of names, uids, values and expressions that share nothing with what they are copies of.
+//! Deep copies of names, uids, values and expressions. A deep copy shares nothing with its source.
 //!
-//! Much of what stores and policy sets hold is shared by counted pointers, whose counts are not atomic: what shares stays
-//! on one thread. What is made here takes from its source nothing but bytes, so it may go to another thread.
+//! Stores and policy sets share much of their content by reference-counted pointers with non-atomic counts, so their
+//! parts must stay on one thread. A deep copy has only bytes from its source, so it can be sent to another thread.
 //!
-//! Proved: each copy is equal to its source. That nothing is shared is tested: no contract sees where a thing is kept.
+//! Proved: each copy is equal to its source. That nothing is shared is tested, because contracts do not describe where
+//! a value is stored.
 #![tactic(auto, using(cedar_ids::specs::laws::UidOfLaws::same_uid_decides))]
 
 pub mod own_uids;

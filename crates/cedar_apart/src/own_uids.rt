@@ -9,18 +9,18 @@ use std::alloc::{AllocError, Global};
 use std::collections::HashSet;
 use std::hash::BuildHasher;
 
-// So many types are shared at the most.
+// The greatest number of types that are shared.
 const MOST: usize = 16;
 
-/// The uids that a copy has, each once, and the types that these have, up to 16 of them: what is asked for again is
-/// shared within the copy, which so takes no more memory than what it is a copy of.
+/// The uids of a copy, each once, and up to 16 of their types. An equal uid or type is shared within the copy. So the
+/// copy needs no more memory than its source.
 #[derive(Drop)]
 pub struct OwnUids<S: BuildHasher> {
     uids: HashSet<SharedUid, S>,
     types: Vec<EntityType>,
 }
 
-// The type of these that has the name of a type, shared once more, if one has.
+// Returns the known type with the same name, shared once more, if there is one.
 fn known_type(types: &[EntityType], ty: &EntityType) -> Result<Option<EntityType>, AllocError>
     ensures { IfOk result (λ o. IfSome o (λ t. type_name t ≡ type_name ty.now)) }
 {
@@ -33,7 +33,8 @@ fn known_type(types: &[EntityType], ty: &EntityType) -> Result<Option<EntityType
     Ok(None)
 }
 
-// A type of the copy, as a type is: one that is there, or a copy, which is there from then on, while there are few.
+// Returns the type of the copy that is equal to `ty`: a known one, or a copy. The copy becomes known, unless there are
+// too many.
 fn own_type(
     alloc: Global,
     types: &mut Vec<EntityType>,
@@ -52,7 +53,7 @@ fn own_type(
 }
 
 impl<S: BuildHasher + Clone> OwnUids<S> {
-    /// No uid. Takes no memory.
+    /// Creates an empty set of uids. Does not allocate.
     pub fn new(alloc: Global, hasher: S) -> OwnUids<S> {
         OwnUids {
             uids: HashSet::with_hasher(alloc, hasher),
@@ -60,12 +61,12 @@ impl<S: BuildHasher + Clone> OwnUids<S> {
         }
     }
 
-    /// What builds the hashers. Takes no memory.
+    /// Returns the hasher builder. Does not allocate.
     pub fn hasher(&self) -> &S {
         self.uids.hasher()
     }
 
-    // A uid that is there, shared once more.
+    // Returns the known uid, shared once more, if there is one.
     fn known(&self, uid: &EntityUID) -> Result<Option<SharedUid>, AllocError>
         ensures { IfOk result (λ o. IfSome o (λ s. s ≡ uid.now)) }
     {
@@ -75,8 +76,12 @@ impl<S: BuildHasher + Clone> OwnUids<S> {
         }
     }
 
-    /// The uid of the copy that is equal to a uid, which shares nothing with that: one that is there, shared once more,
-    /// or a copy, which is there from then on. Takes memory, and is refused only where that is.
+    /// Returns a uid that is equal to `uid` and shares nothing with it: a known uid of this set, or a new copy, which
+    /// is then known.
+    ///
+    /// # Errors
+    ///
+    /// Returns `AllocError` if an allocation fails.
     pub fn shared(&mut self, alloc: Global, uid: &EntityUID) -> Result<SharedUid, AllocError>
         ensures { IfOk result (λ s. s ≡ uid.now) }
     {

@@ -1,4 +1,4 @@
-//! Copies of names, types and uids that share nothing with what they are copies of.
+//! Deep copies of names, types and uids.
 ghost use Rattle.std.specs.Prelude.{◌≡◌, IfOk};
 ghost use Rattle.cedar_ids.specs.Views.{type_name};
 ghost use Rattle.cedar_ids.specs.UidOf.{uid_parts};
@@ -7,13 +7,16 @@ use cedar_ids::entity::{Eid, EntityType, EntityUID};
 use cedar_ids::name::Name;
 use std::alloc::{AllocError, Global};
 
-/// A copy of a name, which shares nothing with it: the name that its text is read as. Its location is that text.
+/// Returns a deep copy of a name. It parses the text of the name, and the location of the copy is that text. Linear in
+/// the length of the text.
 ///
-/// It takes memory, and is refused only where that is; its cost is linear in the text.
+/// # Errors
+///
+/// Returns `AllocError` if an allocation fails.
 pub fn name_apart(alloc: Global, name: &Name) -> Result<Name, AllocError>
     ensures { IfOk result (λ n. n ≡ name.now) }
 {
-    // No effect at run time: this call says that the components are ids.
+    // No effect at run time: the contract of this call states that the components are ids.
     let _ = name.basename();
     let text = name.to_string(alloc)?;
     match Name::from_normalized_str(alloc, text.as_str()) {
@@ -22,8 +25,11 @@ pub fn name_apart(alloc: Global, name: &Name) -> Result<Name, AllocError>
     }
 }
 
-/// A copy of a type, which shares nothing with it, and has no location. It takes memory, and is refused only where that
-/// is.
+/// Returns a deep copy of a type, without a location.
+///
+/// # Errors
+///
+/// Returns `AllocError` if an allocation fails.
 pub fn type_apart(alloc: Global, ty: &EntityType) -> Result<EntityType, AllocError>
     ensures { IfOk result (λ t. type_name t ≡ type_name ty.now) }
 {
@@ -31,7 +37,7 @@ pub fn type_apart(alloc: Global, ty: &EntityType) -> Result<EntityType, AllocErr
     EntityType::EntityType(name).with_loc(None)
 }
 
-// The uid of a type of one's own and a copy of the eid of a uid, where the type is the uid's. It has no location.
+// Creates a uid from its own copy of the type and a copy of the eid of `uid`. It has no location.
 pub(crate) fn uid_of_type(
     alloc: Global,
     ty: EntityType,
@@ -44,9 +50,11 @@ pub(crate) fn uid_of_type(
     Ok(EntityUID::from_components(ty, Eid::new(eid), None))
 }
 
-/// A copy of a uid, which shares nothing with it, and has no location.
+/// Returns a deep copy of a uid, without a location. Linear in the length of the uid's text.
 ///
-/// It takes memory, and is refused only where that is; its cost is linear in the uid's text.
+/// # Errors
+///
+/// Returns `AllocError` if an allocation fails.
 pub fn uid_apart(alloc: Global, uid: &EntityUID) -> Result<EntityUID, AllocError>
     ensures { IfOk result (λ u. u ≡ uid.now) }
 {

@@ -1,16 +1,20 @@
-//! Copies of partial values and of expressions that share nothing with what they are copies of.
+//! Deep copies of partial values and of expressions.
 ghost use Rattle.std.specs.Prelude.{◌≡◌, IfOk};
 
 use cedar_c_trees::{expr_of, partial_value_of, write_expr, write_partial};
 use cedar_terms::{Expr, PartialValue};
 use std::alloc::{AllocError, Global};
 
-/// A copy of a partial value, which shares nothing with it, and has no locations: it is written as nodes over a text,
-/// and these are read. What was read is compared with the value, so that what is given is equal to it.
+/// Returns a deep copy of a partial value, without locations.
 ///
-/// It takes memory, and is refused where that is. It is also refused where the value has more than `CEDAR_LEVELS`
-/// levels, or a set made by hand that is not in order: no value that came as nodes is such a one. It goes by stacks of
-/// its own, but for comparing, which goes down by recursion.
+/// The value is encoded as nodes over a text, and the nodes are decoded. The result is compared with the value, so it
+/// is equal. Encoding and decoding use explicit stacks; only the comparison recurses.
+///
+/// # Errors
+///
+/// Returns `AllocError` if an allocation fails. `AllocError` is also returned if the value has more than `CEDAR_LEVELS`
+/// levels, or has a set that was not built in order. A value that was decoded from nodes has at most that many levels,
+/// and its sets are in order.
 pub fn partial_apart(alloc: Global, partial: &PartialValue) -> Result<PartialValue, AllocError>
     ensures { IfOk result (λ v. v ≡ partial.now) }
 {
@@ -27,8 +31,11 @@ pub fn partial_apart(alloc: Global, partial: &PartialValue) -> Result<PartialVal
     }
 }
 
-/// A copy of an expression, which shares nothing with it, and has no locations: made, compared and refused as that of a
-/// partial value.
+/// Returns a deep copy of an expression, without locations. It is made and compared as in [`partial_apart`].
+///
+/// # Errors
+///
+/// The errors of [`partial_apart`].
 pub fn expr_apart(alloc: Global, expr: &Expr) -> Result<Expr, AllocError>
     ensures { IfOk result (λ e. e ≡ expr.now) }
 {

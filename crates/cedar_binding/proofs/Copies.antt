@@ -1,4 +1,4 @@
--- A copy of a uid is the same.
+-- A copy of a uid is the same uid.
 use Rattle.std.proofs.Common.{◌≡◌, ap}
 use Rattle.cedar_ids.specs.declared.entity.EntityUID.{EntityUID}
 use Rattle.cedar_ids.specs.declared.entity.EntityUID.TheVariants as uids

@@ -1,4 +1,4 @@
--- A list with an element that passes a test, and what is left of it.
+-- Filtering a list that has an element which passes the test.
 use Rattle.std.proofs.Common.{◌≡◌, Bool, true, false, ℕ, zero, suc, ◌<◌, List, [], ◌∷◌, length, get_or, arith, sym}
 use Rattle.std.proofs.Common.{ap, ◌∙◌, if◌then◌else◌}
 use Rattle.std.specs.List.{filter}
@@ -11,7 +11,7 @@ left : {A : Type 0} (b : Bool) (y : A) (rest : List A) → (if b then y ∷ rest
 left true y rest none = absurd (cc)
 left false y rest none = none
 
--- where an element passes, something is left
+-- If an element passes the test, the filtered list is not empty.
 pub one_left : {A : Type 0} (p : A → Bool) (xs : List A) (i : ℕ) (x : A) → i < length xs → x ≡ get_or xs i x
     → p x ≡ true → filter p xs ≡ [] → ⊥
 one_left p [] i x within at pass none = absurd (omega arith)

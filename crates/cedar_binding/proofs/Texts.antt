@@ -1,4 +1,4 @@
--- A text of the slots of a list, one slot more.
+-- The text of a list of slots, after one more slot is written.
 use Rattle.std.proofs.Common.{◌≡◌, ℕ, ◌+◌, ◌<◌, Bool, true, List, [], ◌∷◌, ◌++◌, zero, suc, length, take, get_or, arith}
 use Rattle.std.proofs.Common.{ap, sym, ◌∙◌, append-nil}
 use Rattle.std.specs.List.{flat_map, list_all}

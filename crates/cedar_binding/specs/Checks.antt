@@ -1,4 +1,4 @@
--- What the check of bindings answers.
+-- The results of checking bindings.
 use Rattle.std.specs.Prelude.{◌≡◌, List, Some, Result, Ok, Err}
 use Rattle.cedar_ids.specs.UidOf.{uid_parts}
 use Rattle.cedar_terms.specs.declared.slot.SlotId.{SlotId}
@@ -6,8 +6,9 @@ use Rattle.cedar_binding.specs.Bindings.{EnvParts, BindsExactly, FitsSlots, wron
 use Rattle.cedar_binding.specs.declared.err.LinkingError.{LinkingError}
 use Rattle.cedar_binding.specs.declared.err.LinkingError.TheVariants as errors
 
--- the refusal of bindings that don't fit: that the ids are others, with exactly the two lists, or else that the
--- action's slot is bound to no action; want of memory says nothing of them
+-- Whether an error is right for these slots and bindings. `ArityError` requires that the ids differ, and contains
+-- exactly the two lists. `NotAnAction` requires that the ids fit, and contains the wrong uid. `Memory` implies nothing,
+-- and the other errors are impossible.
 abbrev pub IsUnfit : LinkingError → List SlotId → EnvParts → Type 0
 IsUnfit (errors.ArityError u x) slots e =
     (BindsExactly slots e → ⊥) × (u.items ≡ unbound slots e) × (x.items ≡ extra slots e)
@@ -16,8 +17,8 @@ IsUnfit (errors.NoSuchTemplate i) slots e = ⊥
 IsUnfit (errors.PolicyIdConflict i) slots e = ⊥
 IsUnfit errors.Memory slots e = Unit {0}
 
--- `Ok` exactly where the bindings fit the slots, else the refusal. Want of memory comes only where they don't fit, so
--- that no memory is taken where they do
+-- Whether a result is right: `Ok` if the bindings fit the slots, else a right error. Even `Memory` is possible only if
+-- they do not fit.
 abbrev pub Binds : {A : Type 0} → Result A LinkingError → List SlotId → EnvParts → Type 0
 Binds (Ok a) slots e = FitsSlots slots e
 Binds (Err r) slots e = IsUnfit r slots e × (FitsSlots slots e → ⊥)

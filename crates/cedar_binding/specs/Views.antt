@@ -1,4 +1,4 @@
--- Bindings as callers see them: neither the order of a map nor a location is in it.
+-- Bindings as callers see them, without the order of a map and without locations.
 use Rattle.std.specs.Option.{option_map}
 use Rattle.std.specs.HashMap.{HashMap, get}
 use Rattle.cedar_ids.specs.UidOf.{uid_parts}
@@ -7,6 +7,6 @@ use Rattle.cedar_terms.specs.SlotTree.{same_slot}
 use Rattle.cedar_terms.specs.declared.slot.SlotId.{SlotId}
 use Rattle.cedar_binding.specs.Bindings.{EnvParts}
 
--- the bindings that a map holds
+-- The bindings in a map.
 abbrev pub env_of : {S : Type 0} → HashMap SlotId EntityUID S → EnvParts
 env_of m s = option_map uid_parts (get same_slot m s)

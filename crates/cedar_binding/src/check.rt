@@ -1,4 +1,4 @@
-//! Whether bindings fit the slots of a template.
+//! The check that bindings fit the slots of a template.
 ghost use Rattle.std.specs.Prelude.{◌≡◌, ◌&&◌, ◌↔◌, [], not, IfOk, OnErr, IsTrue};
 ghost use Rattle.std.specs.Option.{option_copied, option_map};
 ghost use Rattle.cedar_ids.specs.UidOf.{uid_parts};
@@ -12,13 +12,20 @@ use cedar_ids::entity::EntityUID;
 use cedar_terms::slot::{Slot, SlotId};
 use std::alloc::{AllocError, Global};
 
-/// `Ok` exactly where the bound ids are the ids of the slots, and the action's slot, if it is one of them, is bound to
-/// an action.
+/// Checks that the bound slot ids are exactly the ids of the slots. If the action's slot is bound, its uid must be an
+/// action.
 ///
-/// Where the ids are others, the `ArityError` has exactly the slots that are not bound, in their order, as often as
-/// they stand there, and the bound ids that are no slots, in the order of ids. Where they are not, `NotAnAction` has
-/// the uid. Takes memory for what a refusal has alone, so that bindings that fit take none; `Memory` comes only where
-/// they do not and that was refused. Reads each slot a few times.
+/// # Errors
+///
+/// - `ArityError`: the bound ids are not the ids of the slots. `unbound_values` has the slots that are not bound, in
+///   the order of `slots` and with repetitions. `extra_values` has the bound ids that are no slots, in the order of
+///   ids.
+/// - `NotAnAction`: the ids fit, but the action's slot is bound to this uid, which is not an action.
+/// - `Memory`: an allocation failed, which is possible only if the bindings do not fit.
+///
+/// # Complexity
+///
+/// Reads each slot a few times. Allocates only for the error.
 pub fn check_bindings(alloc: Global, slots: &[Slot], values: &SlotEnv) -> Result<(), LinkingError>
     ensures { Binds result slots.now (env_of values.now) }
 {
@@ -36,14 +43,14 @@ pub fn check_bindings(alloc: Global, slots: &[Slot], values: &SlotEnv) -> Result
     }
 }
 
-// Whether an id stands among some slots.
+// Returns whether one of the slots has this id.
 fn has_slot(slots: &[Slot], id: SlotId) -> bool
     ensures { result ≡ is_among slots.now id }
 {
     slots.iter().any(|slot| id == slot.id)
 }
 
-// The slots that are not bound.
+// Returns the slots that are not bound.
 fn unbound(alloc: Global, slots: &[Slot], values: &SlotEnv) -> Result<Vec<SlotId>, AllocError>
     ensures ok { IfOk result (λ ids. ids.items ≡ unbound slots.now (env_of values.now)) }
     ensures err { OnErr result (unbound slots.now (env_of values.now) ≡ [] → ⊥) }
@@ -57,14 +64,14 @@ fn unbound(alloc: Global, slots: &[Slot], values: &SlotEnv) -> Result<Vec<SlotId
     Ok(ids)
 }
 
-// Whether an id is bound and no slot.
+// Returns whether an id is bound but is not one of the slots.
 fn is_extra(slots: &[Slot], values: &SlotEnv, id: SlotId) -> bool
     ensures { result ≡ (binds (env_of values.now) id && not (is_among slots.now id)) }
 {
     !has_slot(slots, id) && is_bound(values, id)
 }
 
-// The bound ids that are no slots.
+// Returns the bound ids that are not among the slots.
 fn extra(alloc: Global, slots: &[Slot], values: &SlotEnv) -> Result<Vec<SlotId>, AllocError>
     ensures ok { IfOk result (λ ids. ids.items ≡ extra slots.now (env_of values.now)) }
     ensures err { OnErr result (extra slots.now (env_of values.now) ≡ [] → ⊥) }
@@ -78,7 +85,7 @@ fn extra(alloc: Global, slots: &[Slot], values: &SlotEnv) -> Result<Vec<SlotId>,
     Ok(ids)
 }
 
-// The uid that the action's slot is bound to, if it is no action.
+// Returns the uid bound to the action's slot, if it is not an action.
 fn wrong_action(values: &SlotEnv) -> Option<&EntityUID>
     ensures { option_map uid_parts (option_copied result) ≡ wrong_action (env_of values.now) }
 {
@@ -93,7 +100,7 @@ fn wrong_action(values: &SlotEnv) -> Option<&EntityUID>
     }
 }
 
-// Whether nothing is left over.
+// Returns whether both lists are empty.
 fn are_empty(unbound: &[SlotId], extra: &[SlotId]) -> bool
     ensures { IsTrue result ↔ ((unbound.now ≡ []) × (extra.now ≡ [])) }
 {

@@ -1,4 +1,4 @@
-//! Why a policy was not linked.
+//! The errors of linking a template.
 ghost use Rattle.std.specs.Prelude.{◌≡◌, Some, ◌∷◌};
 ghost use Rattle.std.specs.Fmt.{WritesOnOk};
 ghost use Rattle.std.specs.List.{flat_map};
@@ -12,39 +12,47 @@ use std::alloc::{AllocError, AllocFailed};
 use std::fmt;
 use thiserror::Error;
 
-/// Why a policy was not linked.
+/// The reason why a template could not be linked.
 ///
-/// Two refusals are equal where they are of one kind with equal ids or lists. `clone` takes memory for the
-/// lists and for the text of an id. The original has no refusal for memory.
+/// Two errors are equal if they have the same variant and equal content. `clone` allocates copies of the lists and of
+/// the id's text.
+///
+/// # Differences from cedar-policy-core
+///
+/// The original has no variant for allocation failures.
 #[derive(Clone, Debug, Drop, PartialEq, Eq, Error)]
 pub enum LinkingError {
     /// The bound ids are not the ids of the template's slots.
     #[error("{}", ArityText {unbound: .unbound_values, extra: .extra_values})]
     ArityError {
-        /// The slots of the template that are not bound, in their order, as often as they stand there.
+        /// The slots of the template that are not bound, in their order and with repetitions.
         unbound_values: Vec<SlotId>,
-        /// The bound ids that are no slots of the template, in the order of ids.
+        /// The bound ids that are not slots of the template, in the order of ids.
         extra_values: Vec<SlotId>,
     },
-    /// The action's slot is bound to a uid that is no action. The original has no slot of the action.
+    /// The action's slot is bound to a uid that is not an action.
+    ///
+    /// # Differences from cedar-policy-core
+    ///
+    /// The original has no slot for the action.
     #[error("the action slot is bound to `{uid}`, which is not an action")]
     NotAnAction {
-        /// The uid that it is bound to.
+        /// The uid bound to the slot.
         uid: EntityUID,
     },
-    /// There is no template of this id.
+    /// There is no template with this id.
     #[error("failed to find a template with id `{id}`")]
     NoSuchTemplate {
-        /// The id that was looked for.
+        /// The requested id.
         id: PolicyID,
     },
-    /// The id that the policy was to have is taken.
+    /// A policy with the id of the new link already exists.
     #[error("template-linked policy id `{id}` conflicts with an existing policy id")]
     PolicyIdConflict {
-        /// The id that is taken.
+        /// The id.
         id: PolicyID,
     },
-    /// Memory was refused.
+    /// An allocation failed.
     #[error("out of memory")]
     Memory,
 }
@@ -65,13 +73,17 @@ impl<T: Drop> From<AllocFailed<T>> for LinkingError {
     }
 }
 
-/// The two lists of a refusal as it writes them: a list that is empty is not named, but where both are the
-/// text is that of slots that were not bound. The original ends the program there. Writing takes no memory.
+/// The two lists of an `ArityError`, as its message shows them. An empty list is not mentioned. If both lists are
+/// empty, the text is that for unbound slots. Writing does not allocate.
+///
+/// # Differences from cedar-policy-core
+///
+/// If both lists are empty, the original panics.
 #[derive(Debug, Drop)]
 pub struct ArityText<'a> {
-    /// The slots that were not bound.
+    /// The slots that are not bound.
     pub unbound: &'a Vec<SlotId>,
-    /// The ids that were bound and are no slots.
+    /// The bound ids that are not slots.
     pub extra: &'a Vec<SlotId>,
 }
 
@@ -83,7 +95,7 @@ impl fmt::Display for ArityText<'_> {
     }
 }
 
-// Writes the two lists, each with what it is.
+// Writes the two lists, each with an explanation.
 fn write_arity<W: fmt::Write>(
     unbound: &[SlotId],
     extra: &[SlotId],
@@ -97,7 +109,7 @@ fn write_arity<W: fmt::Write>(
     }
 }
 
-// Writes the slots that were not bound.
+// Writes the slots that are not bound.
 fn write_unbound<W: fmt::Write>(unbound: &[SlotId], f: &mut fmt::Formatter<W>) -> fmt::Result
     ensures { WritesOnOk W.write_str_gives f.old result (unbound_text unbound.now) f.new }
 {
@@ -105,7 +117,7 @@ fn write_unbound<W: fmt::Write>(unbound: &[SlotId], f: &mut fmt::Formatter<W>) -
     write_slots(unbound, f)
 }
 
-// Writes some ids that are no slots, and before them the slots that were not bound, if there are any.
+// Writes the ids that are not slots, after the slots that are not bound, if there are any.
 fn write_extra<W: fmt::Write>(
     unbound: &[SlotId],
     first: SlotId,
@@ -131,7 +143,7 @@ fn write_extra<W: fmt::Write>(
     }
 }
 
-// Writes some slots, joined by commas.
+// Writes some slots, separated by commas.
 fn write_slots<W: fmt::Write>(slots: &[SlotId], f: &mut fmt::Formatter<W>) -> fmt::Result
     ensures { WritesOnOk W.write_str_gives f.old result (slots_text slots.now) f.new }
 {
@@ -141,7 +153,7 @@ fn write_slots<W: fmt::Write>(slots: &[SlotId], f: &mut fmt::Formatter<W>) -> fm
     }
 }
 
-// Writes a slot, and others after it.
+// Writes a slot, and then others with a comma before each.
 fn write_listed<W: fmt::Write>(
     first: SlotId,
     rest: &[SlotId],
@@ -153,7 +165,7 @@ fn write_listed<W: fmt::Write>(
     write_more(rest, f)
 }
 
-// Writes a comma before each.
+// Writes each slot with a comma before it.
 fn write_more<W: fmt::Write>(slots: &[SlotId], f: &mut fmt::Formatter<W>) -> fmt::Result
     ensures { WritesOnOk W.write_str_gives f.old result (flat_map slot_after_comma slots.now) f.new }
 {

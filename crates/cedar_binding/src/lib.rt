@@ -1,10 +1,11 @@
-//! What the slots of a template are bound to, and how that fits the slots.
+//! Bindings of a template's slots, and the check that they fit the slots.
 //!
-//! Contracts see bindings as the uid of each of three slots, the principal's, the action's and the resource's, of which
-//! each may be missing (`specs/Bindings.antt`), so neither the order in which a map gives its pairs nor a location is
-//! seen. That file also says when bindings fit some slots, and which slots and ids are left over where they don't;
-//! `specs/Checks.antt` says what the check answers, and `specs/BindingTexts.antt` how bindings and refusals are
-//! written.
+//! The order in which a map iterates has no effect, and locations are ignored. Contracts see bindings as an optional
+//! uid for each of the three slots: principal, action and resource.
+//!
+//! - `specs/Bindings.antt` specifies bindings, when they fit some slots, and which slots and ids do not fit.
+//! - `specs/Checks.antt` specifies the results of the check.
+//! - `specs/BindingTexts.antt` specifies how bindings and errors are printed.
 #![tactic(auto)]
 
 pub mod check;

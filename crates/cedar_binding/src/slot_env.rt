@@ -1,4 +1,4 @@
-//! Bindings: making, reading, copying, comparing and writing them.
+//! Bindings: construction, lookup, copying, comparison and printing.
 ghost use Rattle.std.specs.Prelude.{◌≡◌, ◌&&◌, true, Some, IfOk};
 ghost use Rattle.std.specs.Fmt.{WritesOnOk};
 ghost use Rattle.std.specs.List.{list_all};
@@ -16,21 +16,21 @@ use std::alloc::{AllocError, Global};
 use std::collections::HashMap;
 use std::fmt;
 
-/// What the slots of a template are bound to.
+/// The uids bound to the slots of a template.
 pub type SlotEnv = HashMap<SlotId, EntityUID>;
 
-/// The bindings of nothing. Takes no memory.
+/// Returns empty bindings. Does not allocate.
 pub fn no_bindings(alloc: Global) -> SlotEnv
     ensures { env_of result ≡ no_env }
 {
     HashMap::new(alloc)
 }
 
-/// The uid that a slot is bound to, if it is bound. Takes no memory.
+/// Returns the uid bound to a slot, if it is bound. Does not allocate.
 pub fn bound_to(values: &SlotEnv, id: SlotId) -> Option<&EntityUID>
     ensures { option_map uid_parts (option_copied result) ≡ bound_to (env_of values.now) id }
 {
-    // Three are bound at most, and to go through them costs less than to hash one.
+    // At most three slots are bound. A scan of them is cheaper than hashing one id.
     for (slot, uid) in values {
         if id == *slot {
             return Some(uid);
@@ -39,8 +39,11 @@ pub fn bound_to(values: &SlotEnv, id: SlotId) -> Option<&EntityUID>
     None
 }
 
-/// The same bindings once more, with the locations of their uids. Takes memory for the map and the eids, and
-/// is refused only where that is.
+/// Copies the bindings, with the locations of their uids.
+///
+/// # Errors
+///
+/// Returns `AllocError` if an allocation fails.
 pub fn copy_of_bindings(values: &SlotEnv) -> Result<SlotEnv, AllocError>
     ensures { IfOk result (λ copy. env_of copy ≡ env_of values.now) }
 {
@@ -48,9 +51,8 @@ pub fn copy_of_bindings(values: &SlotEnv) -> Result<SlotEnv, AllocError>
     Ok(copy)
 }
 
-/// The same bindings without the room that they do not need: a map of one binding has room for nine, of which each is
-/// as large as a uid. It asks for memory for a smaller table, and keeps the larger where that is refused, so it always
-/// succeeds.
+/// Returns the same bindings in a smaller table, if possible. A new map with one binding has room for nine, each as
+/// large as a uid. If the smaller table cannot be allocated, the larger one is kept, so this function always succeeds.
 pub fn fitted_bindings(values: SlotEnv) -> SlotEnv
     ensures { env_of result ≡ env_of values }
 {
@@ -59,18 +61,17 @@ pub fn fitted_bindings(values: SlotEnv) -> SlotEnv
     values
 }
 
-/// Whether both bind the same slots to equal uids, in whatever order the maps give them. It looks at no
-/// location and takes no memory.
+/// Returns whether both maps bind the same slots to equal uids, in any order of the maps. Ignores locations and does
+/// not allocate.
 pub fn same_bindings(one: &SlotEnv, other: &SlotEnv) -> bool
     ensures { result ≡ same_env (env_of one.now) (env_of other.now) }
 {
     one == other
 }
 
-/// Bindings as a link writes them: `?slot -> uid`, in the order of slots, joined by commas with no blank.
+/// Bindings as a link prints them: `?slot -> uid`, in the order of slots, separated by commas without spaces.
 ///
-/// Writing them takes no memory. The text is exactly so where the eids are ASCII, else with an eid past ASCII
-/// as `str::escape_debug` writes it.
+/// An eid that is not ASCII is written as by `str::escape_debug`. Writing does not allocate.
 #[derive(Debug, Drop)]
 pub struct JoinedBindings<'a>(pub &'a SlotEnv);
 
@@ -97,7 +98,7 @@ fn write_bindings<W: fmt::Write>(
     Ok(())
 }
 
-// Writes the binding of a slot, if it is bound, after a comma where a smaller one is bound too.
+// Writes the binding of a slot, if it is bound. Writes a comma first if a smaller slot is bound.
 fn write_bound<W: fmt::Write>(
     values: &SlotEnv,
     id: SlotId,
@@ -116,7 +117,7 @@ fn write_bound<W: fmt::Write>(
     }
 }
 
-// Whether a smaller slot is bound.
+// Returns whether a smaller slot is bound.
 fn is_bound_before(values: &SlotEnv, id: SlotId) -> bool
     ensures { result ≡ bound_before (env_of values.now) id }
 {
@@ -125,14 +126,14 @@ fn is_bound_before(values: &SlotEnv, id: SlotId) -> bool
         .any(|other| *other < id && is_bound(values, *other))
 }
 
-// Whether a slot is bound.
+// Returns whether a slot is bound.
 pub(crate) fn is_bound(values: &SlotEnv, id: SlotId) -> bool
     ensures { result ≡ binds (env_of values.now) id }
 {
     bound_to(values, id).is_some()
 }
 
-// Writes one binding, after a comma where there are others before it.
+// Writes one binding, with a comma first if `others` is true.
 fn write_next<W: fmt::Write>(
     others: bool,
     id: SlotId,

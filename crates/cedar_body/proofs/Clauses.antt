@@ -1,4 +1,4 @@
--- A clause that is shared, by the clause itself.
+-- A shared clause, in terms of the clause.
 use Rattle.std.proofs.Common.{◌≡◌, Option, Some, None, refl, Global}
 use Rattle.std.specs.declared.rc.Rc.{Rc}
 use Rattle.std.specs.Option.{option_eq, option_map}
@@ -10,7 +10,7 @@ use Rattle.cedar_body.specs.BodyEquality.{same_clause, clause_hash}
 abbrev pub SharedClause : Type 0
 SharedClause = Option (Rc ExprTree Global)
 
--- shared clauses are equal where the clauses are
+-- Shared clauses are equal if the clauses are.
 pub clauses_told : (x y : SharedClause) → option_eq (λ d e. same_expr d.value e.value) x y
     ≡ same_clause (option_map (λ e. e.value) x) (option_map (λ e. e.value) y)
 clauses_told None None = refl
@@ -18,7 +18,7 @@ clauses_told None (Some e) = refl
 clauses_told (Some d) None = refl
 clauses_told (Some d) (Some e) = refl
 
--- a shared clause feeds what the clause does
+-- A shared clause feeds the same input to a hasher as the clause.
 pub clause_fed : (x : SharedClause) → fed.option (λ e. expr_hash e.value) x ≡ clause_hash (option_map (λ e. e.value) x)
 clause_fed None = refl
 clause_fed (Some e) = refl

@@ -1,4 +1,4 @@
--- A body as callers see it, its condition, and the slots in that. No location is in it.
+-- A body as callers see it, its condition, and the slots in the condition. Locations are not part of it.
 use Rattle.std.specs.Prelude.{ℕ, List, [], true, Option, Some, None}
 use Rattle.cedar_terms.specs.LiteralTree.{bool_literal}
 use Rattle.cedar_terms.specs.ExprTree.{ExprTree, val_node, and_node}
@@ -12,8 +12,8 @@ use Rattle.cedar_action.specs.RuleTrees.{rule_expr}
 use Rattle.cedar_scope.specs.declared.variable.PrincipalOrResource.TheVariants as variables
 use Rattle.cedar_body.specs.declared.effect.Effect.{Effect}
 
--- its id, its annotations, its effect, what principal, action and resource have to be, and the clause if
--- it has one
+-- The parts of a body: its id, annotations and effect, the constraints on principal, action and resource, and its
+-- optional clause.
 pub record BodyParts : Type 0 where
   pub id : List ℕ
   pub annotations : AnnotationsView
@@ -23,37 +23,37 @@ pub record BodyParts : Type 0 where
   pub resource : Constraint
   pub clause : Option ExprTree
 
--- the expressions of the three constraints
+-- The expression of a body's constraint on the principal.
 abbrev pub principal_expr : BodyParts → ExprTree
 principal_expr b = constraint_expr variables.Principal b.principal
 
--- the expression of a body's constraint of the action
+-- The expression of a body's constraint on the action.
 abbrev pub action_expr : BodyParts → ExprTree
 action_expr b = rule_expr b.action
 
--- the expression of its constraint of the resource
+-- The expression of a body's constraint on the resource.
 abbrev pub resource_expr : BodyParts → ExprTree
 resource_expr b = constraint_expr variables.Resource b.resource
 
--- the clause, `true` where there is none
+-- The expression of an optional clause: `true` if there is none.
 abbrev pub clause_expr : Option ExprTree → ExprTree
 clause_expr None = val_node (bool_literal true)
 clause_expr (Some e) = e
 
--- the principal's constraint and (the action's and (the resource's and the clause))
+-- The condition of a body: `principal && (action && (resource && clause))`, with the expressions of the constraints.
 abbrev pub condition : BodyParts → ExprTree
 condition b = and_node (principal_expr b) (and_node (action_expr b) (and_node (resource_expr b) (clause_expr b.clause)))
 
--- the slots that the walk through the condition meets, as often as it meets them
+-- The slots of a body's condition, in the order of `walk` and with repetitions.
 abbrev pub body_slots : BodyParts → List SlotId
 body_slots b = slots_of (condition b)
 
--- the slots in a clause
+-- The slots of an optional clause.
 abbrev pub clause_slots : Option ExprTree → List SlotId
 clause_slots None = []
 clause_slots (Some e) = slots_of e
 
--- the same body under another id
+-- The body with another id, and all else unchanged.
 abbrev pub with_id : List ℕ → BodyParts → BodyParts
 with_id i b =
     record {

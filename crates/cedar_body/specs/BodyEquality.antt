@@ -1,4 +1,4 @@
--- The equality of bodies, and what they feed to a hasher.
+-- The equality and hash of bodies.
 use Rattle.std.specs.Prelude.{ℕ, List, ◌++◌, Bool, ◌&&◌, Option}
 use Rattle.std.specs.Option.{option_eq}
 use Rattle.std.specs.Hash as fed
@@ -11,11 +11,11 @@ use Rattle.cedar_action.specs.RuleOrder.{same_rule, rule_hash}
 use Rattle.cedar_body.specs.Effects.{same_effect, effect_hash}
 use Rattle.cedar_body.specs.Bodies.{BodyParts}
 
--- both have none, or equal ones
+-- Whether two clauses are both missing, or equal.
 abbrev pub same_clause : Option ExprTree → Option ExprTree → Bool
 same_clause = option_eq same_expr
 
--- equal ids, annotations, effects, constraints and clauses
+-- Whether two bodies have equal ids, annotations, effects, constraints and clauses.
 abbrev pub same_body : BodyParts → BodyParts → Bool
 same_body x y =
     same_text x.id y.id
@@ -24,11 +24,11 @@ same_body x y =
     && (same_constraint x.principal y.principal
     && (same_rule x.action y.action && (same_constraint x.resource y.resource && same_clause x.clause y.clause)))))
 
--- whether there is a clause, and the clause
+-- The input that a clause feeds to a hasher: whether there is one, then the clause.
 abbrev pub clause_hash : Option ExprTree → List (List ℕ)
 clause_hash c = fed.option expr_hash c
 
--- the parts in turn
+-- The input that a body feeds to a hasher: its parts in order.
 abbrev pub body_hash : BodyParts → List (List ℕ)
 body_hash b =
     fed.str b.id

@@ -1,4 +1,4 @@
--- How a proof tells effects and bodies apart.
+-- Codes by which a proof distinguishes effects and bodies.
 use Rattle.std.specs.Prelude.{◌≡◌, ℕ, List, Bool, true, false, Option, refl}
 use Rattle.std.specs.Coded.{Coded, code_by, coded×, coded_bool, coded_option}
 use Rattle.cedar_ids.specs.Codes.{text_code}
@@ -14,34 +14,34 @@ use Rattle.cedar_body.specs.Bodies.{BodyParts}
 use Rattle.cedar_body.specs.declared.effect.Effect.{Effect}
 use Rattle.cedar_body.specs.declared.effect.Effect.TheVariants.{Permit, Forbid}
 
--- whether an effect is `Permit`
+-- Whether an effect is `Permit`.
 abbrev pub is_permit : Effect → Bool
 is_permit Permit = true
 is_permit Forbid = false
 
--- the effect of which that is said
+-- The effect that is `Permit` if the Boolean is true, else `Forbid`.
 abbrev pub effect_where : Bool → Effect
 effect_where true = Permit
 effect_where false = Forbid
 
--- an effect is made again of whether it permits
+-- An effect is the one that `effect_where` returns for `is_permit`.
 pub effect_where-is_permit : (e : Effect) → effect_where (is_permit e) ≡ e
 effect_where-is_permit Permit = refl
 effect_where-is_permit Forbid = refl
 
--- how a proof tells effects apart
+-- The code of effects.
 abbrev pub effect_code : Coded Effect
 effect_code = code_by Bool coded_bool is_permit effect_where effect_where-is_permit
 
--- the parts of a body in a row
+-- The parts of a body, as nested pairs.
 abbrev pub BodyRow : Type 0
 BodyRow = List ℕ × (AnnotationsView × (Effect × (Constraint × (ActionRule × (Constraint × Option ExprTree)))))
 
--- the parts of a body, as pairs
+-- The parts of a body, as nested pairs.
 abbrev pub body_row : BodyParts → BodyRow
 body_row b = (b.id, (b.annotations, (b.effect, (b.principal, (b.action, (b.resource, b.clause))))))
 
--- the body of a row
+-- The body with these parts.
 abbrev pub body_with : BodyRow → BodyParts
 body_with p =
     record {
@@ -55,7 +55,7 @@ body_with p =
       clause = p.1.1.1.1.1.1;
     }
 
--- how a proof tells bodies apart
+-- The code of bodies.
 abbrev pub body_code : Coded BodyParts
 body_code =
     code_by BodyRow

@@ -1,8 +1,8 @@
--- What callers see of a body.
+-- A body as callers see it.
 use Rattle.cedar_body.specs.Bodies.{BodyParts}
 use Rattle.cedar_body.specs.declared.body.TemplateBody.{TemplateBody}
 use Rattle.cedar_body.specs.declared.body.TemplateBody.TheVariants as bodies
 
--- the parts of a body
+-- The parts of a body.
 abbrev pub body_of : TemplateBody → BodyParts
 body_of (bodies.TemplateBody b) = b

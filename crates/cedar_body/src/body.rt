@@ -1,4 +1,4 @@
-//! The body of a policy or a template: its parts, condition, equality and text.
+//! The body of a policy or template: its parts, condition, equality and text.
 ghost use Rattle.std.specs.Prelude.{◌≡◌, IfOk, fold, true};
 ghost use Rattle.std.specs.Option.{option_copied, option_map};
 ghost use Rattle.std.specs.Ordering.{on};
@@ -29,11 +29,11 @@ use std::hash::{Hash, Hasher};
 use std::marker::Model;
 use std::rc::Rc;
 
-/// What the body of a policy or a template holds: its id, its annotations, its effect, its three scope
-/// constraints, its clause if it has one, and a location if it has one.
+/// The parts of a policy's or template's body: id, annotations, effect, three scope constraints, an optional clause and
+/// an optional location.
 ///
-/// Contracts see all of this but locations. Equality and hash are those of the parts, look at no location and
-/// take no memory. `clone` takes memory for the id and for a list of actions, and shares the rest.
+/// Equality and hash use all parts except locations, and do not allocate. `clone` allocates for the id and for a list
+/// of actions, and shares the rest. Contracts see all parts except locations.
 #[derive(Debug, Drop)]
 pub struct TemplateBodyImpl {
     id: PolicyID,
@@ -69,7 +69,7 @@ impl Model for TemplateBodyImpl {
 }
 
 impl TemplateBodyImpl {
-    // A copy under another id.
+    // Copies the body, with another id.
     fn with_id(&self, id: PolicyID) -> Result<TemplateBodyImpl, AllocError>
         ensures { IfOk result (λ b. b ≡ with_id id self.now) }
     {
@@ -86,7 +86,7 @@ impl TemplateBodyImpl {
     }
 }
 
-// A further share of the clause, if there is one.
+// Shares the clause once more, if there is one.
 fn copied_clause(clause: &Option<Rc<Expr>>) -> Result<Option<Rc<Expr>>, AllocError>
     ensures { IfOk result (λ c. option_map (λ e. e.value) c ≡ option_map (λ e. e.value) clause.now) }
 {
@@ -104,25 +104,33 @@ impl Clone for TemplateBodyImpl {
     }
 }
 
-/// The body of a policy or a template: a static policy's body has no slots.
+/// The body of a policy or template. The body of a static policy has no slots.
 ///
-/// Contracts see its parts without locations. Equality and hash are those of the parts: the id, the
-/// annotations, the effect, the three constraints and the clause; they look at no location and take no memory.
-/// `clone` takes memory for the id and for a list of actions, and shares the rest.
+/// Equality and hash use the id, the annotations, the effect, the three constraints and the clause. They ignore
+/// locations and do not allocate. `clone` allocates for the id and for a list of actions, and shares the rest.
+/// Contracts see these parts without locations.
 ///
-/// `Display` takes no memory. It writes the annotations, a line each; then the effect and `(`, the three
-/// constraints on a line each, with commas between, and `)` on the next line; then `;`, or ` when {`, the
-/// clause on a line of its own, and `};`. Exactly so where all texts in it are ASCII, else with those past
-/// ASCII as `str::escape_debug` writes them.
+/// `Display` writes, in this order:
+///
+/// - the annotations, each on its own line;
+/// - the effect and `(`;
+/// - the three constraints, each on its own line, with commas between them;
+/// - `)` on the next line;
+/// - `;` if there is no clause, else ` when {`, the clause on its own line, and `};`.
+///
+/// Text that is not ASCII is written as by `str::escape_debug`. Writing does not allocate.
 #[derive(Debug, Drop)]
 pub enum TemplateBody {
-    /// The body that holds this.
+    /// The body with these parts.
     TemplateBody(TemplateBodyImpl),
 }
 
 impl TemplateBody {
-    /// The body of these parts. Takes memory to share the annotations and the clause, and is refused only
-    /// where that is.
+    /// Creates a body from its parts. Moves the annotations and the clause into shared pointers.
+    ///
+    /// # Errors
+    ///
+    /// Returns `AllocError` if an allocation fails.
     pub fn new(
         alloc: Global,
         id: PolicyID,
@@ -158,7 +166,7 @@ impl TemplateBody {
         ))
     }
 
-    /// The body of these parts, of which annotations and clause are shared already. Takes no memory.
+    /// Creates a body from its parts, with annotations and clause that are already shared. Does not allocate.
     pub fn new_shared(
         id: PolicyID,
         loc: Option<Loc>,
@@ -191,7 +199,7 @@ impl TemplateBody {
         })
     }
 
-    /// The id. Takes no memory, as no reader here does.
+    /// Returns the id. Does not allocate.
     pub fn id(&self) -> &PolicyID
         ensures { result.now ≡ (body_of self.now).id }
     {
@@ -199,14 +207,21 @@ impl TemplateBody {
         &body.id
     }
 
-    /// The location of the whole policy, if it is known.
+    /// Returns the location of the whole policy, if it is known. Does not allocate.
     pub fn loc(&self) -> Option<&Loc> {
         let TemplateBody::TemplateBody(body) = self;
         body.loc.as_ref()
     }
 
-    /// A copy under another id, its location kept. Takes memory as `clone` does, but for the id; is refused
-    /// only where that is, and then this body is as it was.
+    /// Copies the body, with another id and the same location. This body does not change.
+    ///
+    /// # Errors
+    ///
+    /// Returns `AllocError` if an allocation fails.
+    ///
+    /// # Complexity
+    ///
+    /// Allocates as `clone` does, except for the id.
     pub fn new_id(&self, id: PolicyID) -> Result<TemplateBody, AllocError>
         ensures { IfOk result (λ b. body_of b ≡ with_id id (body_of self.now)) }
     {
@@ -214,7 +229,7 @@ impl TemplateBody {
         Ok(TemplateBody::TemplateBody(body.with_id(id)?))
     }
 
-    /// The effect.
+    /// Returns the effect. Does not allocate.
     pub fn effect(&self) -> Effect
         ensures { result ≡ (body_of self.now).effect }
     {
@@ -222,7 +237,11 @@ impl TemplateBody {
         body.effect
     }
 
-    /// The annotation at a key, if there is one; the cost is logarithmic in their number.
+    /// Returns the annotation with this key, if there is one. Does not allocate.
+    ///
+    /// # Complexity
+    ///
+    /// O(log n), where n is the number of annotations.
     pub fn annotation(&self, key: &AnyId) -> Option<&Annotation>
         ensures { option_map (λ a. a.now) result ≡ value_at key.now (body_of self.now).annotations }
     {
@@ -230,7 +249,7 @@ impl TemplateBody {
         body.annotations.get(key)
     }
 
-    /// All annotations with their keys, by key.
+    /// Iterates over the annotations with their keys, in ascending order of the keys. Does not allocate.
     pub fn annotations(&self) -> Iter<'_>
         ensures pairs { result ≡ (body_of self.now).annotations }
         ensures ascending { KeysAscend (body_of self.now).annotations }
@@ -239,7 +258,7 @@ impl TemplateBody {
         body.annotations.iter()
     }
 
-    /// The annotations as they are shared.
+    /// Returns the shared annotations. Does not allocate.
     pub fn annotations_arc(&self) -> &Rc<Annotations>
         ensures { result.now.value ≡ (body_of self.now).annotations }
     {
@@ -247,7 +266,7 @@ impl TemplateBody {
         &body.annotations
     }
 
-    /// What the principal has to be.
+    /// Returns the constraint on the principal. Does not allocate.
     pub fn principal_constraint(&self) -> &PrincipalConstraint
         ensures { result.now ≡ (body_of self.now).principal }
     {
@@ -255,14 +274,18 @@ impl TemplateBody {
         &body.principal_constraint
     }
 
-    /// The expression of that, as `PrincipalConstraint::as_expr` makes it. Takes memory as that does.
+    /// Returns the constraint on the principal as an expression, as `PrincipalConstraint::as_expr` does.
+    ///
+    /// # Errors
+    ///
+    /// Returns `AllocError` if an allocation fails.
     pub fn principal_constraint_expr(&self, alloc: Global) -> Result<Expr, AllocError>
         ensures { IfOk result (λ e. e ≡ principal_expr (body_of self.now)) }
     {
         self.principal_constraint().as_expr(alloc)
     }
 
-    /// What the action has to be.
+    /// Returns the constraint on the action. Does not allocate.
     pub fn action_constraint(&self) -> &ActionConstraint
         ensures { rule_of result.now ≡ (body_of self.now).action }
     {
@@ -270,14 +293,18 @@ impl TemplateBody {
         &body.action_constraint
     }
 
-    /// The expression of that, as `ActionConstraint::as_expr` makes it. Takes memory as that does.
+    /// Returns the constraint on the action as an expression, as `ActionConstraint::as_expr` does.
+    ///
+    /// # Errors
+    ///
+    /// Returns `AllocError` if an allocation fails.
     pub fn action_constraint_expr(&self, alloc: Global) -> Result<Expr, AllocError>
         ensures { IfOk result (λ e. e ≡ action_expr (body_of self.now)) }
     {
         self.action_constraint().as_expr(alloc)
     }
 
-    /// What the resource has to be.
+    /// Returns the constraint on the resource. Does not allocate.
     pub fn resource_constraint(&self) -> &ResourceConstraint
         ensures { result.now ≡ (body_of self.now).resource }
     {
@@ -285,14 +312,18 @@ impl TemplateBody {
         &body.resource_constraint
     }
 
-    /// The expression of that, as `ResourceConstraint::as_expr` makes it. Takes memory as that does.
+    /// Returns the constraint on the resource as an expression, as `ResourceConstraint::as_expr` does.
+    ///
+    /// # Errors
+    ///
+    /// Returns `AllocError` if an allocation fails.
     pub fn resource_constraint_expr(&self, alloc: Global) -> Result<Expr, AllocError>
         ensures { IfOk result (λ e. e ≡ resource_expr (body_of self.now)) }
     {
         self.resource_constraint().as_expr(alloc)
     }
 
-    /// The clause, if there is one.
+    /// Returns the clause, if there is one. Does not allocate.
     pub fn non_scope_constraints(&self) -> Option<&Expr>
         ensures { option_copied result ≡ (body_of self.now).clause }
     {
@@ -302,7 +333,7 @@ impl TemplateBody {
         }
     }
 
-    /// The clause as it is shared, if there is one.
+    /// Returns the shared clause, if there is one. Does not allocate.
     pub fn non_scope_constraints_arc(&self) -> Option<&Rc<Expr>>
         ensures { option_map (λ e. e.now.value) result ≡ (body_of self.now).clause }
     {
@@ -310,12 +341,19 @@ impl TemplateBody {
         body.non_scope_constraints.as_ref()
     }
 
-    /// The condition: that the principal's constraint holds and (the action's and (the resource's and the
-    /// clause)), where a clause that is not there counts as `true`.
+    /// Returns the condition as an expression: `principal && (action && (resource && clause))`. The first three
+    /// operands are the constraints. A missing clause counts as `true`.
     ///
-    /// It always makes three nodes for this, and they have the body's location; a slot's node has that of its
-    /// reference. Takes memory for these and for the expressions of the constraints, linear in the list of the
-    /// action; the clause is shared. It is refused only where memory is.
+    /// The three `&&` nodes are always created, and have the location of the body. The node of a slot has the location
+    /// of its reference.
+    ///
+    /// # Errors
+    ///
+    /// Returns `AllocError` if an allocation fails.
+    ///
+    /// # Complexity
+    ///
+    /// O(n), where n is the number of uids in the action constraint. Allocates the new nodes and shares the clause.
     pub fn condition(&self, alloc: Global) -> Result<Expr, AllocError>
         ensures { IfOk result (λ e. e ≡ condition (body_of self.now)) }
     {
@@ -325,7 +363,7 @@ impl TemplateBody {
         self.principal_and(alloc, rest)
     }
 
-    // That the principal's constraint and the rest hold.
+    // Returns the principal's constraint `&&` the rest.
     fn principal_and(&self, alloc: Global, rest: Expr) -> Result<Expr, AllocError>
         ensures { IfOk result (λ e. e ≡ and_node (principal_expr (body_of self.now)) rest) }
     {
@@ -333,7 +371,7 @@ impl TemplateBody {
         self.both(alloc, principal, rest)
     }
 
-    // That the action's constraint and the rest hold.
+    // Returns the action's constraint `&&` the rest.
     fn action_and(&self, alloc: Global, rest: Expr) -> Result<Expr, AllocError>
         ensures { IfOk result (λ e. e ≡ and_node (action_expr (body_of self.now)) rest) }
     {
@@ -341,7 +379,7 @@ impl TemplateBody {
         self.both(alloc, action, rest)
     }
 
-    // That the resource's constraint and the rest hold.
+    // Returns the resource's constraint `&&` the rest.
     fn resource_and(&self, alloc: Global, rest: Expr) -> Result<Expr, AllocError>
         ensures { IfOk result (λ e. e ≡ and_node (resource_expr (body_of self.now)) rest) }
     {
@@ -349,7 +387,7 @@ impl TemplateBody {
         self.both(alloc, resource, rest)
     }
 
-    // The clause, `true` where there is none.
+    // Returns the clause, or `true` if there is none.
     fn clause_expr(&self, alloc: Global) -> Result<Expr, AllocError>
         ensures { IfOk result (λ e. e ≡ clause_expr (body_of self.now).clause) }
     {
@@ -359,7 +397,7 @@ impl TemplateBody {
         }
     }
 
-    // That both hold, at the body's location.
+    // Returns `left && right`, with the location of the body.
     fn both(&self, alloc: Global, left: Expr, right: Expr) -> Result<Expr, AllocError>
         ensures { IfOk result (λ e. e ≡ and_node left right) }
     {
@@ -369,7 +407,7 @@ impl TemplateBody {
     }
 }
 
-// The clause, to be shared.
+// Moves the clause into a shared allocation, if there is one.
 fn shared_clause(alloc: Global, clause: Option<Expr>) -> Result<Option<Rc<Expr>>, AllocError>
     ensures { IfOk result (λ c. option_map (λ e. e.value) c ≡ clause) }
 {
@@ -404,7 +442,7 @@ impl PartialEq for TemplateBodyImpl {
     }
 }
 
-// Whether both are not there, or are equal.
+// Returns whether both clauses are missing, or both are equal.
 #[tactic(auto, using(crate::proofs::Clauses::clauses_told))]
 fn same_clause(clause: &Option<Rc<Expr>>, other: &Option<Rc<Expr>>) -> bool
     ensures { result ≡ same_clause (option_map (λ e. e.value) clause.now) (option_map (λ e. e.value) other.now) }
@@ -432,7 +470,7 @@ impl Hash for TemplateBodyImpl {
     }
 }
 
-// Feeds whether there is a clause, and the clause.
+// Feeds whether there is a clause, and then the clause.
 #[tactic(auto, using(crate::proofs::Clauses::clause_fed))]
 fn feed_clause<H: Hasher>(clause: &Option<Rc<Expr>>, state: &mut H)
     ensures { state.new ≡ fold H.write state.old (clause_hash (option_map (λ e. e.value) clause.now)) }
@@ -493,7 +531,7 @@ impl TemplateBodyImpl {
     }
 }
 
-// Writes what follows the constraints: the clause, if there is one.
+// Writes the text after the constraints: `;`, or the clause.
 fn write_clause<W: fmt::Write>(clause: &Option<Rc<Expr>>, f: &mut fmt::Formatter<W>) -> fmt::Result
     ensures { is_ascii_clause (option_map (λ e. e.value) clause.now) ≡ true
         → WritesOnOk W.write_str_gives f.old result (clause_text (option_map (λ e. e.value) clause.now)) f.new }

@@ -1,4 +1,4 @@
-//! What a policy does: permit or forbid.
+//! The effect of a policy: permit or forbid.
 ghost use Rattle.std.specs.Prelude.{◌≡◌, Some};
 ghost use Rattle.std.specs.Ordering.{as_partial_cmp};
 ghost use Rattle.std.specs.Cmp.{partial_equiv_from_equiv};
@@ -11,20 +11,20 @@ use std::cmp::Ordering;
 use std::fmt;
 use std::hash::{Hash, Hasher};
 
-/// What a policy does to the requests that its condition holds of.
+/// The effect of a policy on the requests that satisfy its condition.
 ///
-/// `Permit` is the smaller. Copying, comparing, hashing and writing it take no memory; it is written in lower
-/// case, as `permit`.
+/// `Permit` is less than `Forbid`. `Display` writes the effect in lower case, for example `permit`. Copying, comparing,
+/// hashing and writing do not allocate.
 #[derive(Clone, Copy, Debug)]
 pub enum Effect {
-    /// It speaks for them.
+    /// The policy permits the request.
     Permit,
-    /// It speaks against them.
+    /// The policy forbids the request.
     Forbid,
 }
 
 impl Effect {
-    // The place of the effect among the two.
+    // Returns the index of the effect.
     fn index(self) -> u8
         ensures { result ≡ effect_index self }
     {

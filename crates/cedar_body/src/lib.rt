@@ -1,9 +1,12 @@
-//! Bodies of policies and templates: an id, annotations, an effect, three scope constraints and a clause.
+//! Bodies of policies and templates: an id, annotations, an effect, three scope constraints and an optional clause.
 //!
-//! Contracts see a body as a value without locations (`specs/Bodies.antt`), so equality and hash never look
-//! at a location. That file also says what a body's condition is, the one expression that its constraints
-//! and its clause make together, and which slots stand in it; `specs/BodyTexts.antt` says how a body is
-//! written. Templates and policies stand on this crate.
+//! Equality and hash ignore locations. Contracts see a body as a value without locations.
+//!
+//! - `specs/Bodies.antt` specifies the parts of a body, its condition and its slots. The condition is one expression of
+//!   the constraints and the clause.
+//! - `specs/BodyTexts.antt` specifies how a body is printed.
+//!
+//! Templates and policies build on this crate.
 #![tactic(auto)]
 
 pub mod body;

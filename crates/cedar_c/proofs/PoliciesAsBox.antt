@@ -1,4 +1,4 @@
--- A handle that holds a box, and its parts, own what a box at the same types owns.
+-- An open handle, and its parts, have the ownership of a box with the same types.
 use mir.Syntax.{impl, tnil, dnil}
 use mathlib.Core.List.{[]}
 use denote.Signature.{Slot, plain}

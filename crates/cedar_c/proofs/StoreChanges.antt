@@ -1,4 +1,4 @@
--- What the calls on handles of stores leave, from what the calls on what they hold do.
+-- The effects of the calls on handles of stores, from the effects of the calls on their contents.
 use Rattle.std.specs.Prelude.{◌≡◌, ◌⊎◌, ℕ, Bool, Option, Some, None, Result, Ok, Err}
 use Rattle.std.proofs.Common.{ap, sym, refl, subst, ◌∙◌, inl, inr, arith}
 use Rattle.cedar_c_lists.specs.Reasons.{Tells, number_of, status_of}
@@ -14,25 +14,25 @@ use Rattle.cedar_c_stores.specs.Reads.{MakesPartial}
 use Rattle.cedar_c.specs.declared.store_handle.Inner.{Inner}
 use Rattle.std.specs.Option.{IsSomeAnd}
 
--- what an open handle holds was changed, and put back
+-- The contents of an open handle were changed and put back.
 pub changed : (P : Result (Unit {0}) Reason → Kept → Kept → Type 0) (old new : Option Inner) (i k : Inner) (j : Kept)
     (r : Result (Unit {0}) Reason) (n : ℕ) → Some i ≡ old → k ≡ i → new ≡ Some (record { kept = j })
     → n ≡ status_of r → P r k.kept j → Changes P old n new
 changed P old new i k j r n was is put status p =
     subst (λ o. Changes P o n new) was (r, status, (record { kept = j }, put, subst (λ (x : Inner). P r x.kept j) is p))
 
--- nothing was made, and the handle holds what it held
+-- There was no result, and the handle is unchanged.
 pub filled_not : (made : Result Kept Reason) (w : Reason) (n : ℕ) (old : Option Inner) → n ≡ number_of w
     → (made ≡ Err w) ⊎ (w ≡ NoMemory) → FillsBy made old n old
 filled_not made w n old status (inl is) = (Err w, status, refl, inl (sym is))
 filled_not made w n old status (inr is) = (Err w, status, refl, inr (ap Err is))
 
--- what was made is what the handle holds
+-- The result is the contents of the handle.
 pub filled : (made : Result Kept Reason) (i : Inner) (old new : Option Inner) → made ≡ Ok i.kept → new ≡ Some i
     → FillsBy made old 0 new
 filled made i old new is put = (Ok i.kept, refl, (i, put, refl), inl (sym is))
 
--- what an open handle holds was changed, and put back, and a truth was told of it
+-- The contents of an open handle were changed and put back, and a Boolean was written.
 pub changed_telling : (P : Result Bool Reason → Kept → Kept → Type 0) (old new : Option Inner) (i k : Inner) (j : Kept)
     (r : Result Bool Reason) (n : ℕ) (was has : Bool) → Some i ≡ old → k ≡ i → new ≡ Some (record { kept = j })
     → Tells r n was has → P r k.kept j → GetsFrom P old n new was has
@@ -40,7 +40,7 @@ changed_telling P old new i k j r n was has held is put tells p =
     subst (λ o. GetsFrom P o n new was has) held
     (r, tells, (record { kept = j }, put, subst (λ (x : Inner). P r x.kept j) is p))
 
--- what an open handle holds was changed, and put back, and a number was told of it
+-- The contents of an open handle were changed and put back, and a number was written.
 pub changed_giving : (P : Result ℕ Reason → Kept → Kept → Type 0) (old new : Option Inner) (i k : Inner) (j : Kept)
     (r : Result ℕ Reason) (n was told : ℕ) → Some i ≡ old → k ≡ i → new ≡ Some (record { kept = j })
     → TellsValue r n was told → P r k.kept j → GivesFrom P old n new was told
@@ -48,7 +48,7 @@ changed_giving P old new i k j r n was told held is put tells p =
     subst (λ o. GivesFrom P o n new was told) held
     (r, tells, (record { kept = j }, put, subst (λ (x : Inner). P r x.kept j) is p))
 
--- what is so of a store that a handle is filled with is so of what it holds
+-- A property of the result with which a handle is filled is a property of its contents.
 pub holds : (P : Kept → Type 0) (k : Kept) (old new : Option Inner) (n : ℕ) → P k → FillsBy (Ok k) old n new → n ≡ ok
     → IsSomeAnd new (λ (i : Inner). P i.kept)
 holds P k old new n so f zero = elim f.3 [
@@ -58,7 +58,7 @@ holds P k old new n so f zero = elim f.3 [
   | inr is ↦ absurd (omega (arith, sym zero ∙ f.1 ∙ ap status_of is))
 ]
 
--- the store that an open handle holds became partial, and was put back
+-- The store of an open handle was made partial and put back.
 pub became_partial : (old new : Option Inner) (i k : Inner) (j : Kept) → Some i ≡ old → k ≡ i
     → new ≡ Some (record { kept = j }) → MakesPartial k.kept j → BecomesPartial old 0 new
 became_partial old new i k j was is put p =

@@ -1,9 +1,10 @@
--- Whether a text is a uid's, as a status.
+-- The status of a check of the text of a uid.
 use Rattle.std.specs.Prelude.{◌≡◌, ℕ, List, Result}
 use Rattle.cedar_c_lists.specs.Reasons.{status_of}
 use Rattle.cedar_c_lists.specs.Texts.{ChecksUid}
 use Rattle.cedar_c_lists.specs.declared.reason.Reason.{Reason}
 
--- the text is a uid's, or the status of why it is not read as one
+-- Holds if n is the status of checking a text: 0 if it is the text of a uid, and otherwise the number of the reason why
+-- it cannot be parsed.
 abbrev pub Checks : List ℕ → ℕ → Type 0
 Checks text n = (r : Result (Unit {0}) Reason) × (n ≡ status_of r) × ChecksUid r text

@@ -13,3 +13,4 @@ pub mod StoreNumbers
 pub mod StoreReads
 pub mod StoreValues
 pub mod UidCalls
+pub mod Versions

@@ -1,4 +1,4 @@
--- What the calls on handles of policy sets do, by what the calls of `cedar_c_sets` do with what they hold.
+-- The effects of the calls on handles of policy sets, by the effects of the calls in `cedar_c_sets` on their contents.
 use Rattle.std.specs.Prelude.{◌≡◌, ◌↔◌, ◌⊎◌, ℕ, List, Bool, [], Option, Some, None, Result, Ok, Err}
 use Rattle.std.specs.Global.{Box}
 use Rattle.std.specs.List.{concat}
@@ -19,74 +19,78 @@ use Rattle.cedar_c.specs.Copying.{CopiesOut}
 use Rattle.cedar_c.specs.Statuses.{ok, closed}
 use Rattle.cedar_c.specs.declared.policies_handle.Inner.{Inner}
 
--- what a handle keeps: a policy set that hashes with a key, its last answer and its last refusal
+-- The contents of an open handle: a policy set that hashes with a key, and its last results.
 abbrev pub Kept : Type 0
 Kept = KeptSet KeyedState KeyedHasher
 
--- an open handle with the set of a policy set
+-- Holds if the handle is open and has this policy set.
 abbrev pub HasSet : SetParts → Option Inner → Type 0
 HasSet b o = IsSomeAnd o (λ i. i.kept.set ≡ b)
 
--- an open handle that has no last answer and no last refusal
+-- Holds if the handle is open, without an answer, nodes or a last error.
 abbrev pub HasNoTexts : Option Inner → Type 0
 HasNoTexts o = IsSomeAnd o (λ i. IsUntold i.kept)
 
--- a closed handle says so; an open one says what became of a call, and holds what that left
+-- Holds for a call with the effect P on the contents of a handle. n is the status of its result. On a closed handle the
+-- status is `closed`, and nothing changes.
 abbrev pub Changes : (Result (Unit {0}) Reason → Kept → Kept → Type 0) → Option Inner → ℕ → Option Inner → Type 0
 Changes P None n new = (n ≡ closed) × (new ≡ None)
 Changes P (Some i) n new = (r : Result (Unit {0}) Reason) × (n ≡ status_of r)
     × ((j : Inner) × (new ≡ Some j) × P r i.kept j.kept)
 
--- a handle holds what was made, or is as it was
+-- Holds if the handle has a new result, or if there was an error and the handle is unchanged.
 abbrev pub IsFilled : Result Kept Reason → Option Inner → Option Inner → Type 0
 IsFilled (Ok k) old new = (j : Inner) × (new ≡ Some j) × (j.kept ≡ k)
 IsFilled (Err w) old new = new ≡ old
 
--- what was made goes into a handle, or want of memory is told in its place
+-- Holds if a handle is filled with a result and n is the status. If an allocation fails, n is the status of that, and
+-- the handle is unchanged.
 abbrev pub FillsBy : Result Kept Reason → Option Inner → ℕ → Option Inner → Type 0
 FillsBy made old n new = (r : Result Kept Reason) × (n ≡ status_of r) × IsFilled r old new
     × ((r ≡ made) ⊎ (r ≡ Err NoMemory))
 
--- a closed handle says so; of an open one's policy set something is made, which goes into another handle
+-- Holds for a call that fills a handle with a result of the policy set of another handle. If the other handle is
+-- closed, the status is `closed`, and nothing changes.
 abbrev pub Fills : (SetParts → Result Kept Reason → Type 0) → Option Inner → ℕ → Option Inner → Option Inner → Type 0
 Fills P None n old new = (n ≡ closed) × (new ≡ old)
 Fills P (Some i) n old new = (r : Result Kept Reason) × (n ≡ status_of r) × IsFilled r old new × P i.kept.set r
 
--- a box of what was made, or why there is none: it was not made, or memory was refused
+-- Holds if a result was moved to a box. Otherwise w is the error of the result, or `NoMemory`.
 abbrev pub Boxes : Result Kept Reason → Result (Box Inner) Reason → Type 0
 Boxes made (Ok b) = made ≡ Ok b.value.kept
 Boxes made (Err w) = (made ≡ Err w) ⊎ (w ≡ NoMemory)
 
--- whether two open handles hold equal policy sets; where one is closed, that is said
+-- Holds for a call that writes whether the policy sets of two open handles are equal. If one of the handles is closed,
+-- the status is `closed`, and nothing is written.
 abbrev pub Compares : Option Inner → Option Inner → ℕ → Bool → Bool → Type 0
 Compares None other n old new = (n ≡ closed) × (new ≡ old)
 Compares (Some i) None n old new = (n ≡ closed) × (new ≡ old)
 Compares (Some i) (Some j) n old new = (n ≡ ok) × (new ≡ same_policy_set i.kept.set j.kept.set)
 
--- a call with the set of another handle; where one is closed, that is said
+-- Holds for a call with an effect that depends on the policy set of another handle. If one of the handles is closed,
+-- the status is `closed`, and nothing changes.
 abbrev pub ChangesBy : (SetParts → Result (Unit {0}) Reason → Kept → Kept → Type 0) → Option Inner → Option Inner → ℕ
     → Option Inner → Type 0
 ChangesBy P other None n new = (n ≡ closed) × (new ≡ None)
 ChangesBy P None (Some i) n new = (n ≡ closed) × (new ≡ Some i)
 ChangesBy P (Some o) (Some i) n new = Changes (P o.kept.set) (Some i) n new
 
--- the bytes of the texts of the last answer, the places of those texts, and the text of the last refusal are copied
--- out; a closed handle has none
+-- Holds for a call that copies the bytes of the answer, from a position on. A closed handle has no bytes.
 abbrev pub CopiesAnswer : Option Inner → ℕ → List ℕ → ℕ → List ℕ → Type 0
 CopiesAnswer None from old told new = (told ≡ 0) × (new ≡ old)
 CopiesAnswer (Some i) from old told new = CopiesOut (concat i.kept.answer) from old told new
 
--- where each text of the last answer stands is copied out; of a closed handle there is none
+-- Holds for a call that copies the spans of the texts of the answer, from a position on. A closed handle has no texts.
 abbrev pub CopiesSpans : Option Inner → ℕ → List Span → ℕ → List Span → Type 0
 CopiesSpans None from old told new = (told ≡ 0) × (new ≡ old)
 CopiesSpans (Some i) from old told new = CopiesOut (spans_from 0 i.kept.answer) from old told new
 
--- so are the nodes of the last expression
+-- Holds for a call that copies the nodes of the last expression, from a position on. A closed handle has no nodes.
 abbrev pub CopiesNodes : Option Inner → ℕ → List Node → ℕ → List Node → Type 0
 CopiesNodes None from old told new = (told ≡ 0) × (new ≡ old)
 CopiesNodes (Some i) from old told new = CopiesOut i.kept.nodes.items from old told new
 
--- the text of the last refusal is copied out; of a closed handle there is none
+-- Holds for a call that copies the text of the last error. A closed handle has none.
 abbrev pub CopiesRefusal : Option Inner → List ℕ → ℕ → List ℕ → Type 0
 CopiesRefusal None old told new = (told ≡ 0) × (new ≡ old)
 CopiesRefusal (Some i) old told new = CopiesOut i.kept.refusal.items 0 old told new

@@ -1,4 +1,5 @@
--- What the calls that read a policy set tell, by what those of `cedar_c_sets` do with what a handle holds.
+-- The results of the calls that read the policy set of a handle, by the effects of the calls in `cedar_c_sets` on its
+-- contents.
 use Rattle.std.specs.Prelude.{◌≡◌, ℕ, Bool, Option, Some, None, Result}
 use Rattle.cedar_policy_maps.specs.PolicySets.{SetParts}
 use Rattle.cedar_c_lists.specs.Reasons.{Tells}
@@ -8,20 +9,22 @@ use Rattle.cedar_c.specs.Statuses.{closed}
 use Rattle.cedar_c.specs.PolicyCalls.{Kept}
 use Rattle.cedar_c.specs.declared.policies_handle.Inner.{Inner}
 
--- a closed handle says so; of an open one's set a number is told, or why it is not
+-- Holds for a call that writes a number about the policy set of a handle. On a closed handle the status is `closed`.
+-- After an error nothing is written.
 abbrev pub CountsHandle : (SetParts → Result ℕ Reason → Type 0) → Option Inner → ℕ → ℕ → ℕ → Type 0
 CountsHandle P None n old new = (n ≡ closed) × (new ≡ old)
 CountsHandle P (Some i) n old new = (r : Result ℕ Reason) × TellsValue r n old new × P i.kept.set r
 
--- a closed handle says so; an open one says what became of a call, tells a truth where it was made, and holds what that
--- left
+-- Holds for a call with the effect P on the contents of a handle, which also writes a Boolean. On a closed handle the
+-- status is `closed`. After an error no Boolean is written.
 abbrev pub ChangesAndTells : (Result Bool Reason → Kept → Kept → Type 0) → Option Inner → ℕ → Option Inner → Bool → Bool
     → Type 0
 ChangesAndTells P None n new before told = (n ≡ closed) × (new ≡ None) × (told ≡ before)
 ChangesAndTells P (Some i) n new before told = (r : Result Bool Reason) × Tells r n before told
     × ((j : Inner) × (new ≡ Some j) × P r i.kept j.kept)
 
--- the same where a number is told
+-- Holds for a call with the effect P on the contents of a handle, which also writes a number. On a closed handle the
+-- status is `closed`. After an error no number is written.
 abbrev pub ChangesAndCounts : (Result ℕ Reason → Kept → Kept → Type 0) → Option Inner → ℕ → Option Inner → ℕ → ℕ
     → Type 0
 ChangesAndCounts P None n new before told = (n ≡ closed) × (new ≡ None) × (told ≡ before)

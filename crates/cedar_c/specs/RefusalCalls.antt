@@ -1,4 +1,4 @@
--- What the calls on the text of a refusal and on a list of uids tell and write.
+-- The results of the calls on the text of an error and on a list of uids.
 use Rattle.std.specs.Prelude.{◌≡◌, ◌⊎◌, ℕ, List, Bool, true, false, Option}
 use Rattle.std.specs.Option.{MatchOption}
 use Rattle.cedar_c_lists.specs.Reasons.{number_of}
@@ -8,12 +8,14 @@ use Rattle.cedar_c_refusals.specs.Unread.{AreAllRead, IsFirstUnread}
 use Rattle.cedar_c_refusals.specs.declared.unread.Unread.{Unread}
 use Rattle.cedar_c.specs.Statuses.{ok}
 
--- where it stands is written, and told to be there; or there is no more, and nothing is written
+-- Holds for a call that writes the span of the name at position k in the text of an error and returns true. If there is
+-- no such name, it returns false and writes nothing.
 abbrev pub TellsPart : ℕ → List ℕ → ℕ → Bool → Span → Span → Type 0
 TellsPart status text k told old new = (r : Option Span) × IsPartOf status text k r
     × MatchOption r ((told ≡ false) × (new ≡ old)) (λ s. (told ≡ true) × (new ≡ s))
 
--- each part is a uid's; or the first place at which none is, and why
+-- Holds for a call that checks the parts of a text. If each is the text of a uid, the status is `ok`. Otherwise the
+-- call writes the position of the first part that cannot be parsed, and the status is the number of the reason.
 abbrev pub ChecksUids : List ℕ → List Span → ℕ → ℕ → ℕ → Type 0
 ChecksUids text spans status old new = ((status ≡ ok) × AreAllRead text spans × (new ≡ old))
     ⊎ ((w : Unread) × IsFirstUnread text spans w × (status ≡ number_of w.reason) × (new ≡ w.place))

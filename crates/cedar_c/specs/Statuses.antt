@@ -1,14 +1,14 @@
--- The statuses that handles answer by themselves; all others are those of `cedar_c_lists`.
+-- The statuses that the calls on handles return themselves. The others are in `cedar_c_lists`.
 use Rattle.std.specs.Prelude.{ℕ}
 
--- the call was made; memory was refused; the handle is closed
+-- The status of success.
 abbrev pub ok : ℕ
 ok = 0
 
--- memory was refused
+-- The status of an allocation failure.
 abbrev pub no_memory : ℕ
 no_memory = 1
 
--- the handle is closed
+-- The status of a closed handle.
 abbrev pub closed : ℕ
 closed = 2

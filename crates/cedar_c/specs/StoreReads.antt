@@ -1,4 +1,5 @@
--- What the calls that read a store tell, by what those of `cedar_c_stores` do with what a handle holds.
+-- The results of the calls that read the store of a handle, by the effects of the calls in `cedar_c_stores` on its
+-- contents.
 use Rattle.std.specs.Prelude.{◌≡◌, ℕ, Bool, Option, Some, None, Result}
 use Rattle.cedar_entity_maps.specs.Plain.{StoreView}
 use Rattle.cedar_c_lists.specs.Reasons.{Tells}
@@ -9,12 +10,14 @@ use Rattle.cedar_c.specs.Statuses.{ok, closed}
 use Rattle.cedar_c.specs.StoreCalls.{Kept}
 use Rattle.cedar_c.specs.declared.store_handle.Inner.{Inner}
 
--- a closed handle says so; of an open one's store a number is told, or why it is not
+-- Holds for a call that writes a number about the store of a handle. On a closed handle the status is `closed`. After
+-- an error nothing is written.
 abbrev pub CountsHandle : (StoreView → Result ℕ Reason → Type 0) → Option Inner → ℕ → ℕ → ℕ → Type 0
 CountsHandle P None n old new = (n ≡ closed) × (new ≡ old)
 CountsHandle P (Some i) n old new = (r : Result ℕ Reason) × TellsValue r n old new × P i.kept.store r
 
--- a truth is told of the stores of two open handles, or why it is not; where one is closed, that is said
+-- Holds for a call that writes a Boolean about the stores of two handles. If one of the handles is closed, the status
+-- is `closed`. After an error nothing is written.
 abbrev pub AsksBoth : (StoreView → StoreView → Result Bool Reason → Type 0) → Option Inner → Option Inner → ℕ → Bool
     → Bool → Type 0
 AsksBoth P None other n old new = (n ≡ closed) × (new ≡ old)
@@ -22,12 +25,14 @@ AsksBoth P (Some i) None n old new = (n ≡ closed) × (new ≡ old)
 AsksBoth P (Some i) (Some j) n old new =
     (r : Result Bool Reason) × Tells r n old new × P i.kept.store j.kept.store r
 
--- a closed handle says so; an open one's store is partial then
+-- Holds for a call that makes the store of a handle partial. On a closed handle the status is `closed`, and nothing
+-- changes.
 abbrev pub BecomesPartial : Option Inner → ℕ → Option Inner → Type 0
 BecomesPartial None n new = (n ≡ closed) × (new ≡ None)
 BecomesPartial (Some i) n new = (n ≡ ok) × ((j : Inner) × (new ≡ Some j) × MakesPartial i.kept j.kept)
 
--- a closed handle says so; of an open one's store it is told whether it is partial
+-- Holds for a call that writes whether the store of a handle is partial. On a closed handle the status is `closed`, and
+-- nothing is written.
 abbrev pub AsksPartial : Option Inner → ℕ → Bool → Bool → Type 0
 AsksPartial None n old new = (n ≡ closed) × (new ≡ old)
 AsksPartial (Some i) n old new = (n ≡ ok) × (new ≡ i.kept.store.partial)

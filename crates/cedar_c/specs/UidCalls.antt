@@ -1,4 +1,4 @@
--- What the calls that make a uid and take one apart tell and write.
+-- The results of the calls that create the text of a uid and split it.
 use Rattle.std.specs.Prelude.{◌≡◌, ◌⊎◌, ℕ, List, length}
 use Rattle.cedar_ids.specs.Printed.{printed_name}
 use Rattle.cedar_ids.specs.UidOf.{uid_parts}
@@ -10,19 +10,20 @@ use Rattle.cedar_c_lists.specs.declared.reason.Reason.{Reason}
 use Rattle.cedar_c.specs.Copying.{CopiesOut}
 use Rattle.cedar_c.specs.Statuses.{ok}
 
--- nothing was written, and the status is that of why
+-- Holds if the status is the number of a reason with the property Why, and nothing was written.
 abbrev pub IsRefusedFor : (Reason → Type 0) → ℕ → List ℕ → List ℕ → ℕ → ℕ → Type 0
 IsRefusedFor Why status old new before told =
     (w : Reason) × (status ≡ number_of w) × Why w × (new ≡ old) × (told ≡ before)
 
--- the text of the uid with a type and an eid is copied out, and its length is told; or why not
+-- Holds for a call that copies the text of the uid with a type and an eid, and writes its length. After an error
+-- nothing is written.
 abbrev pub MakesUidText : List ℕ → List ℕ → ℕ → List ℕ → List ℕ → ℕ → ℕ → Type 0
 MakesUidText type eid status old new before told =
     ((status ≡ ok) × ((t : List ℕ) × IsMadeText type eid t × CopiesOut t 0 old told new))
     ⊎ IsRefusedFor (IsUnmade type eid) status old new before told
 
--- the text of the type of a uid and the bytes of its eid behind it are copied out, and it is told how many bytes both
--- have, and how many the first; or why not
+-- Holds for a call that copies the text of the type of a uid, followed by the bytes of its eid. It writes the length of
+-- both and the length of the type. After an error nothing is written.
 abbrev pub TakesUidApart : List ℕ → ℕ → List ℕ → List ℕ → ℕ → ℕ → ℕ → ℕ → Type 0
 TakesUidApart text status old new before told type_before type_len =
     ((status ≡ ok) × ((u : EntityUID) × IsReadOf u text × CopiesOut (uid_bytes u) 0 old told new

@@ -1,8 +1,8 @@
-//! Copying out to a caller.
+//! Copies results to the caller.
 ghost use Rattle.std.specs.Prelude.{◌≡◌};
 ghost use Rattle.cedar_c.specs.Copying.{CopiesOut};
 
-// Copies what stands from a place on, as much as there is room for, and tells the length of the whole.
+// Copies the items from position `from` on, as many as fit, and returns the length of the whole.
 pub(crate) fn copy_out<T: Copy>(whole: &[T], from: usize, out: &mut [T]) -> usize
     ensures { CopiesOut whole.now from out.old result out.new }
 {

@@ -1,8 +1,11 @@
 //! Stores and policy sets for callers in C.
 //!
-//! A handle is 16 bytes that belong to the caller; zeroed memory is a closed one. No export asks anything of its caller
-//! but that pointers and lengths are those of arrays: a closed handle, a part out of range, a text that is no uid are
-//! answered by a status. What the calls do with what a handle holds stands in `cedar_c_stores` and `cedar_c_sets`.
+//! A handle is 16 bytes that belong to the caller. Zeroed memory is a closed handle. The caller must ensure only that
+//! pointers and lengths describe arrays. A closed handle, a span out of range or an invalid text gives a status.
+//!
+//! A function that returns a status returns 0 if it succeeds. Otherwise it returns the number of a `Reason`, as
+//! `Reason::number` gives it. The sections `# Status` name these reasons. The calls on the contents of handles are in
+//! `cedar_c_stores` and `cedar_c_sets`.
 #![tactic(auto)]
 
 mod copying;

@@ -1,4 +1,4 @@
-// A `Box` with its fields in sight of the crate, so that its address can cross to C.
+// A `Box` with fields that the crate can access, so that its address can be passed to C.
 ghost use Rattle.std.specs.Prelude.{◌≡◌};
 ghost use Rattle.std.specs.Box.Ownership.{box_owns};
 
@@ -16,7 +16,7 @@ impl<T, A: Allocator> Model for Parts<T, A> {
 }
 
 impl<T, A: Allocator> Parts<T, A> {
-    // The address of a box, and its allocator.
+    // Returns the address of a box, and its allocator.
     pub fn of(b: Box<T, A>) -> Parts<T, A>
     where
         T: Drop,
@@ -26,7 +26,7 @@ impl<T, A: Allocator> Parts<T, A> {
         Parts { ptr, alloc }
     }
 
-    // The box at the address.
+    // Returns the box at the address.
     pub fn into_box(self) -> Box<T, A>
         ensures { result.value ≡ self.value }
     {

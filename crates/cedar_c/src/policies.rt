@@ -18,7 +18,7 @@ use std::alloc::Global;
 use std::boxed::Box;
 use std::mem;
 
-/// What a caller has of a policy set: zeroed memory is a closed one.
+/// A handle of a policy set. Zeroed memory is a closed handle.
 #[repr(C)]
 #[derive(Drop)]
 pub struct Policies {
@@ -30,7 +30,7 @@ pub struct Policies {
 // The status of a closed handle.
 pub(crate) const CLOSED: u32 = 2;
 
-// A closed one.
+// Creates a closed handle.
 fn closed(alloc: Global) -> Policies
     ensures { result.held.value ≡ None }
 {
@@ -40,7 +40,7 @@ fn closed(alloc: Global) -> Policies
     }
 }
 
-// An open one.
+// Creates an open handle.
 pub(crate) fn opened(inner: Box<Inner, Global>) -> Policies
     ensures { result.held.value ≡ Some inner.value }
 {
@@ -50,7 +50,7 @@ pub(crate) fn opened(inner: Box<Inner, Global>) -> Policies
     }
 }
 
-// What a handle holds is taken out, and it is closed.
+// Takes the contents of a handle, and closes it.
 pub(crate) fn take(alloc: Global, handle: &mut Policies) -> Option<Box<Inner, Global>>
     ensures closed { handle.new.held.value ≡ None }
     ensures value { option_map (λ b. b.value) result ≡ handle.old.held.value }
@@ -63,7 +63,7 @@ pub(crate) fn take(alloc: Global, handle: &mut Policies) -> Option<Box<Inner, Gl
     }
 }
 
-// A box of what was made.
+// Moves a result to a box.
 fn boxed(
     alloc: Global,
     made: Result<KeptSet<KeyedState>, Reason>,
@@ -74,7 +74,7 @@ fn boxed(
     Ok(Box::new(alloc, Inner { kept })?)
 }
 
-// A handle holds what was made, and what it held before is freed; or it stays as it is.
+// Fills a handle with a result, and frees its old contents. After an error the handle is unchanged. Returns the status.
 pub(crate) fn fill(
     alloc: Global,
     handle: &mut Policies,
@@ -92,8 +92,14 @@ pub(crate) fn fill(
     }
 }
 
-/// The set without policies, whose maps hash with two numbers of the caller as their key. What the handle held before
-/// is freed.
+/// Opens the handle with an empty policy set, which uses the two numbers as the key of its hash maps. Frees the old
+/// contents of the handle.
+///
+/// # Status
+///
+/// - `NoMemory`: an allocation failed.
+///
+/// After an error the handle is unchanged.
 #[unsafe(no_mangle)]
 pub extern "C" fn cedar_policies_new(
     alloc: Global,
@@ -108,7 +114,7 @@ pub extern "C" fn cedar_policies_new(
     fill(alloc, handle, Ok(KeptSet::new(alloc, hasher_of(seed, key))))
 }
 
-/// Frees what the handle holds, and closes it. A closed one stays closed.
+/// Frees the contents of the handle, and closes it. A closed handle stays closed.
 #[unsafe(no_mangle)]
 pub extern "C" fn cedar_policies_free(alloc: Global, handle: &mut Policies)
     ensures { handle.new.held.value ≡ None }
@@ -116,7 +122,17 @@ pub extern "C" fn cedar_policies_free(alloc: Global, handle: &mut Policies)
     drop(take(alloc, handle));
 }
 
-/// A static policy with an id and the effect of a number, which constrains nothing, joins the set.
+/// Adds a static policy without constraints, with these bytes as its id and the effect with this number.
+///
+/// # Status
+///
+/// - `Closed`: the handle is closed.
+/// - `BadArgument`: the number of the effect is invalid.
+/// - `NotUtf8`: the id is not UTF-8.
+/// - `Occupied`: the id is already in use.
+/// - `NoMemory`: an allocation failed.
+///
+/// After an error only the text of the last error can have changed.
 #[unsafe(no_mangle)]
 pub extern "C" fn cedar_policies_add_static(
     alloc: Global,
@@ -134,7 +150,18 @@ pub extern "C" fn cedar_policies_add_static(
     status_of(answer)
 }
 
-/// A template with an id, the effect of a number and the slots of another joins the set.
+/// Adds a template with these bytes as its id, the effect with a number, and the slots with a number. It has no other
+/// constraints.
+///
+/// # Status
+///
+/// - `Closed`: the handle is closed.
+/// - `BadArgument`: the number of the effect or of the slots is invalid.
+/// - `NotUtf8`: the id is not UTF-8.
+/// - `Occupied`: the id is already in use.
+/// - `NoMemory`: an allocation failed.
+///
+/// After an error only the text of the last error can have changed.
 #[unsafe(no_mangle)]
 pub extern "C" fn cedar_policies_add_template(
     alloc: Global,
@@ -153,8 +180,22 @@ pub extern "C" fn cedar_policies_add_template(
     status_of(answer)
 }
 
-/// A link of the template with one id joins the set under another: three parts of a text say what the slots of the
-/// principal, the action and the resource are bound to, each empty where its slot is not bound.
+/// Links the template with an id. The link gets another id, and the bindings in three parts of a text: principal,
+/// action and resource. An empty part binds nothing.
+///
+/// # Status
+///
+/// - `Closed`: the handle is closed.
+/// - `BadArgument`: there are not three spans, or a span is not within the text.
+/// - `NotAUid`: a uid is invalid.
+/// - `NotUtf8`: an id is not UTF-8.
+/// - `NoSuchTemplate`: there is no template with the id.
+/// - `Arity`: the bindings do not match the slots of the template.
+/// - `NotAnAction`: the slot of the action is bound to a uid that is not an action.
+/// - `IdConflict`: the id of the link is already in use.
+/// - `NoMemory`: an allocation failed.
+///
+/// After an error only the text of the last error can have changed.
 #[unsafe(no_mangle)]
 pub extern "C" fn cedar_policies_link(
     alloc: Global,
@@ -175,7 +216,17 @@ pub extern "C" fn cedar_policies_link(
     status_of(answer)
 }
 
-/// The link with an id goes.
+/// Removes the link with an id.
+///
+/// # Status
+///
+/// - `Closed`: the handle is closed.
+/// - `NotUtf8`: the id is not UTF-8.
+/// - `NoLink`: the id is not in use.
+/// - `NotALink`: the id is not the id of a link.
+/// - `NoMemory`: an allocation failed.
+///
+/// After an error only the text of the last error can have changed.
 #[unsafe(no_mangle)]
 pub extern "C" fn cedar_policies_unlink(alloc: Global, handle: &mut Policies, id: &[u8]) -> u32
     ensures { Changes (Takes unlink_step id.now) handle.old.held.value result handle.new.held.value }
@@ -188,7 +239,17 @@ pub extern "C" fn cedar_policies_unlink(alloc: Global, handle: &mut Policies, id
     status_of(answer)
 }
 
-/// The static policy with an id goes.
+/// Removes the static policy with an id.
+///
+/// # Status
+///
+/// - `Closed`: the handle is closed.
+/// - `NotUtf8`: the id is not UTF-8.
+/// - `NoStatic`: there is no policy with the id.
+/// - `NotStatic`: the id is the id of a link.
+/// - `NoMemory`: an allocation failed.
+///
+/// After an error only the text of the last error can have changed.
 #[unsafe(no_mangle)]
 pub extern "C" fn cedar_policies_remove_static(
     alloc: Global,
@@ -205,7 +266,18 @@ pub extern "C" fn cedar_policies_remove_static(
     status_of(answer)
 }
 
-/// The template with an id goes.
+/// Removes the template with an id.
+///
+/// # Status
+///
+/// - `Closed`: the handle is closed.
+/// - `NotUtf8`: the id is not UTF-8.
+/// - `NoTemplate`: the id is not in use.
+/// - `WithLinks`: the template has links.
+/// - `NotATemplate`: the id is not the id of a template.
+/// - `NoMemory`: an allocation failed.
+///
+/// After an error only the text of the last error can have changed.
 #[unsafe(no_mangle)]
 pub extern "C" fn cedar_policies_remove_template(
     alloc: Global,
@@ -222,7 +294,16 @@ pub extern "C" fn cedar_policies_remove_template(
     status_of(answer)
 }
 
-/// What another set binds joins the set, and each id that was renamed becomes the answer, its new one behind it.
+/// Merges another set into this one, as `PolicySet::merge_policyset` does. Stores each renamed id, followed by its new
+/// id, as the answer.
+///
+/// # Status
+///
+/// - `Closed`: one of the handles is closed.
+/// - `Occupied`: both sets use an id differently, and `rename` is false.
+/// - `NoMemory`: an allocation failed.
+///
+/// After an error only the text of the last error can have changed.
 #[unsafe(no_mangle)]
 pub extern "C" fn cedar_policies_merge(
     alloc: Global,
@@ -247,7 +328,15 @@ pub extern "C" fn cedar_policies_merge(
     status_of(answer)
 }
 
-/// The ids of the bodies, for 0, or of the policies, for 1, become the answer, in their order.
+/// Stores the ids of the bodies (`kind` 0) or of the policies (`kind` 1) as the answer, in order.
+///
+/// # Status
+///
+/// - `Closed`: the handle is closed.
+/// - `BadArgument`: the number of the kind is invalid.
+/// - `NoMemory`: an allocation failed.
+///
+/// After an error nothing has changed.
 #[unsafe(no_mangle)]
 pub extern "C" fn cedar_policies_ids(alloc: Global, handle: &mut Policies, kind: u32) -> u32
     ensures { Changes (ListsIds kind) handle.old.held.value result handle.new.held.value }
@@ -260,7 +349,14 @@ pub extern "C" fn cedar_policies_ids(alloc: Global, handle: &mut Policies, kind:
     status_of(answer)
 }
 
-/// A copy of a policy set goes into another handle.
+/// Fills the handle `to` with a copy of the policy set of `from`. The copy has no answer and no last error.
+///
+/// # Status
+///
+/// - `Closed`: the handle `from` is closed.
+/// - `NoMemory`: an allocation failed.
+///
+/// After an error both handles are unchanged.
 #[unsafe(no_mangle)]
 pub extern "C" fn cedar_policies_copy(alloc: Global, from: &mut Policies, to: &mut Policies) -> u32
     ensures same { from.new.held.value ≡ from.old.held.value }
@@ -274,7 +370,13 @@ pub extern "C" fn cedar_policies_copy(alloc: Global, from: &mut Policies, to: &m
     fill(alloc, to, made)
 }
 
-/// Whether two sets have equal bodies and policies, in equal orders, in `answer`.
+/// Writes to `answer` whether both sets have equal bodies and policies, in the same order.
+///
+/// # Status
+///
+/// - `Closed`: one of the handles is closed.
+///
+/// After an error nothing is written.
 #[unsafe(no_mangle)]
 pub extern "C" fn cedar_policies_equal(
     alloc: Global,
@@ -299,8 +401,8 @@ pub extern "C" fn cedar_policies_equal(
     0
 }
 
-/// Copies the bytes of the texts of the last answer, from a place on, as many as there is room for, and tells how many
-/// there are in all; a closed handle has none.
+/// Copies the bytes of the answer, from position `from` on, as many as fit. Returns the number of all bytes, which is 0
+/// for a closed handle.
 #[unsafe(no_mangle)]
 pub extern "C" fn cedar_policies_answer(
     alloc: Global,
@@ -319,8 +421,8 @@ pub extern "C" fn cedar_policies_answer(
     told
 }
 
-/// Copies where the texts of the last answer stand in its bytes, from the text at a place on, as many as there is room
-/// for, and tells how many there are in all; a closed handle has none.
+/// Copies the spans of the texts of the answer within its bytes, from the text at position `from` on, as many as fit.
+/// Returns the number of all texts, which is 0 for a closed handle.
 #[unsafe(no_mangle)]
 pub extern "C" fn cedar_policies_answer_spans(
     alloc: Global,
@@ -339,8 +441,8 @@ pub extern "C" fn cedar_policies_answer_spans(
     told
 }
 
-/// Copies the text of the last refusal of a call on the set, as much as there is room for, and tells its length; a
-/// closed handle has none.
+/// Copies the text of the last error of a call on the set, as much as fits. Returns the length of the whole text, which
+/// is 0 for a closed handle.
 #[unsafe(no_mangle)]
 pub extern "C" fn cedar_policies_refusal(
     alloc: Global,

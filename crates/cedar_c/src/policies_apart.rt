@@ -1,4 +1,4 @@
-//! Copies of policy sets that may go to another thread, and merging by such a copy.
+//! Deep copies of policy sets, which can be sent to another thread, and merging of such copies.
 ghost use Rattle.std.specs.Prelude.{◌≡◌};
 ghost use Rattle.cedar_c_sets.specs.Sets.{CopiesSet, MergesSet};
 ghost use Rattle.cedar_c.specs.PolicyCalls.{ChangesBy, Fills};
@@ -7,7 +7,14 @@ use crate::policies::{CLOSED, Policies, fill, opened, take};
 use cedar_c_lists::status_of;
 use std::alloc::Global;
 
-/// A copy of a policy set, which shares nothing with it, goes into another handle.
+/// Fills the handle `to` with a deep copy of the policy set of `from`, which shares nothing with it.
+///
+/// # Status
+///
+/// - `Closed`: the handle `from` is closed.
+/// - `NoMemory`: an allocation failed.
+///
+/// After an error both handles are unchanged.
 #[unsafe(no_mangle)]
 pub extern "C" fn cedar_policies_copy_apart(
     alloc: Global,
@@ -25,8 +32,16 @@ pub extern "C" fn cedar_policies_copy_apart(
     fill(alloc, to, made)
 }
 
-/// What another set binds joins the set, by a copy that shares nothing with that one, and each id that was renamed becomes
-/// the answer, its new one behind it.
+/// Merges a deep copy of another set into this one, as `cedar_policies_merge` does. Stores each renamed id, followed by
+/// its new id, as the answer. The result shares nothing with the other set.
+///
+/// # Status
+///
+/// - `Closed`: one of the handles is closed.
+/// - `Occupied`: both sets use an id differently, and `rename` is false.
+/// - `NoMemory`: an allocation failed.
+///
+/// After an error only the text of the last error can have changed.
 #[unsafe(no_mangle)]
 pub extern "C" fn cedar_policies_merge_apart(
     alloc: Global,

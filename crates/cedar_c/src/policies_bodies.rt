@@ -1,4 +1,4 @@
-//! Calls on handles of policy sets that take bodies, and tell what stands in them.
+//! Calls on handles of policy sets that take bodies or read their parts.
 ghost use Rattle.std.specs.Prelude.{◌≡◌};
 ghost use Rattle.cedar_c_sets.specs.BodyCalls.{AddsStaticWith, AddsTemplateWith};
 ghost use Rattle.cedar_c_sets.specs.Clauses.{AnswersClause, AnswersCondition};
@@ -13,8 +13,18 @@ use cedar_c_lists::{Span, status_of, tell, tell_value};
 use cedar_c_trees::Node;
 use std::alloc::Global;
 
-/// A static policy with an id joins the set: with an effect, with annotations, with what principal, action and resource
-/// have to be, and with the clause that nodes say, if there are some.
+/// Adds a static policy with these bytes as its id, and with the effect, annotations, constraints and clause in the
+/// lists. Without nodes it has no clause.
+///
+/// # Status
+///
+/// - `Closed`: the handle is closed.
+/// - The errors of `template_of` for the id and the lists.
+/// - `NotStatic`: the body has a slot.
+/// - `Occupied`: the id is already in use.
+/// - `NoMemory`: an allocation failed.
+///
+/// After an error only the text of the last error can have changed.
 #[unsafe(no_mangle)]
 pub extern "C" fn cedar_policies_add_static_with(
     alloc: Global,
@@ -49,7 +59,16 @@ pub extern "C" fn cedar_policies_add_static_with(
     status_of(answer)
 }
 
-/// A template with an id joins the set so.
+/// Adds a template with these bytes as its id, from the same lists. It may have slots.
+///
+/// # Status
+///
+/// - `Closed`: the handle is closed.
+/// - The errors of `template_of` for the id and the lists.
+/// - `Occupied`: the id is already in use.
+/// - `NoMemory`: an allocation failed.
+///
+/// After an error only the text of the last error can have changed.
 #[unsafe(no_mangle)]
 pub extern "C" fn cedar_policies_add_template_with(
     alloc: Global,
@@ -84,8 +103,19 @@ pub extern "C" fn cedar_policies_add_template_with(
     status_of(answer)
 }
 
-/// What the principal, for 0, the action, for 1, or the resource, for 2, has to be by what an id is bound to, in `kind`,
-/// as the kind of a scope; its texts become the answer.
+/// Writes the kind of the principal constraint (`which` 0), the action constraint (1) or the resource constraint (2) of
+/// the policy or template with an id to `kind`. Stores the text of its type, followed by the texts of its uids, as the
+/// answer.
+///
+/// # Status
+///
+/// - `Closed`: the handle is closed.
+/// - `BadArgument`: the number `which` is invalid.
+/// - `NotUtf8`: the id is not UTF-8.
+/// - `NoBody`: the id is not in use.
+/// - `NoMemory`: an allocation failed.
+///
+/// After an error nothing has changed.
 #[unsafe(no_mangle)]
 pub extern "C" fn cedar_policies_scope(
     alloc: Global,
@@ -105,8 +135,17 @@ pub extern "C" fn cedar_policies_scope(
     tell_value(answer, kind)
 }
 
-/// Whether what an id is bound to has a clause, in `has`. Where it has, the clause becomes the nodes that the handle
-/// keeps, and the text that they stand over the answer.
+/// Writes to `has` whether the policy or template with an id has a clause. If it has, stores the nodes of the clause,
+/// and their text as the answer.
+///
+/// # Status
+///
+/// - `Closed`: the handle is closed.
+/// - `NotUtf8`: the id is not UTF-8.
+/// - `NoBody`: the id is not in use.
+/// - `NoMemory`: an allocation failed.
+///
+/// After an error nothing has changed.
 #[unsafe(no_mangle)]
 pub extern "C" fn cedar_policies_clause(
     alloc: Global,
@@ -125,7 +164,16 @@ pub extern "C" fn cedar_policies_clause(
     tell(answer, has)
 }
 
-/// The condition of what an id is bound to becomes the nodes and the answer so.
+/// Stores the nodes of the condition of the policy or template with an id, and their text as the answer.
+///
+/// # Status
+///
+/// - `Closed`: the handle is closed.
+/// - `NotUtf8`: the id is not UTF-8.
+/// - `NoBody`: the id is not in use.
+/// - `NoMemory`: an allocation failed.
+///
+/// After an error nothing has changed.
 #[unsafe(no_mangle)]
 pub extern "C" fn cedar_policies_condition(alloc: Global, handle: &mut Policies, id: &[u8]) -> u32
     ensures { Changes (AnswersCondition id.now) handle.old.held.value result handle.new.held.value }
@@ -138,8 +186,8 @@ pub extern "C" fn cedar_policies_condition(alloc: Global, handle: &mut Policies,
     status_of(answer)
 }
 
-/// Copies the nodes of the last expression that was read, from the node at a place on, as many as there is room for, and
-/// tells how many there are in all; a closed handle has none.
+/// Copies the nodes of the last expression, from position `from` on, as many as fit. Returns the number of all nodes,
+/// which is 0 for a closed handle.
 #[unsafe(no_mangle)]
 pub extern "C" fn cedar_policies_answer_nodes(
     alloc: Global,

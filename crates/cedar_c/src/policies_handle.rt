@@ -1,4 +1,4 @@
-// A policy set behind an address, which can cross to C.
+// A policy set at an address that can be passed to C.
 ghost use Rattle.std.specs.Prelude.{◌≡◌, Option, Some, None, IsSome};
 ghost use Rattle.cedar_c.specs.declared.policies_handle.Inner.{Inner as Inside};
 ghost use Rattle.cedar_c.specs.PoliciesHeld.{held_owns, held_coded};
@@ -11,14 +11,14 @@ use std::boxed::Box;
 use std::marker::Model;
 use std::ptr;
 
-/// What a handle keeps for its caller.
+/// The contents of an open handle.
 #[derive(Drop)]
 pub struct Inner {
-    /// A policy set, which hashes with the caller's key, the last answer and the last refusal.
+    /// A policy set that hashes with the key of the caller, with its last results.
     pub kept: KeptSet<KeyedState>,
 }
 
-/// Nothing, or a box.
+/// A box, or nothing.
 #[repr(C)]
 #[derive(Drop)]
 pub struct Held {
@@ -32,7 +32,7 @@ impl Model for Held {
 }
 
 impl Held {
-    // Nothing.
+    // Creates an empty value.
     pub(crate) fn none(alloc: Global) -> Held
         ensures { result.value ≡ None }
     {
@@ -63,14 +63,14 @@ impl Held {
         }
     }
 
-    // What is in a box.
+    // Converts a box.
     pub(crate) fn of(inner: Box<Inner, Global>) -> Held
         ensures { result.value ≡ Some inner.value }
     {
         Held::of_parts(Parts::of(inner))
     }
 
-    // The box that it is.
+    // Returns the box. The value must not be empty.
     pub(crate) fn into_box(self) -> Box<Inner, Global>
         requires { IsSome self.value }
         ensures { Some result.value ≡ self.value }

@@ -1,5 +1,4 @@
-//! Calls that read the policy set of a handle: what an id is bound to, the texts of that and of the set, and what is
-//! wrong with the set.
+//! Calls that read the policy set of a handle: the policy or template with an id, texts, and validation.
 ghost use Rattle.std.specs.Prelude.{◌≡◌};
 ghost use Rattle.cedar_c_sets.specs.Reads.{AnswersAnnotation, AnswersAt, AnswersLinked, AnswersText, AreAnnotations};
 ghost use Rattle.cedar_c_sets.specs.Reads.{AreBoundIn, AsksAt, IsBodyText, IsEffectOf, IsPolicyText, IsSlotsOf};
@@ -13,7 +12,16 @@ use crate::policies::{CLOSED, Policies, opened, take};
 use cedar_c_lists::{status_of, tell, tell_value};
 use std::alloc::Global;
 
-/// What an id is bound to, in `told`: 1 for a static policy, 2 for a link, 3 for a template, 0 for nothing.
+/// Writes the kind of an id to `told`: 1 for a static policy, 2 for a link, 3 for a template, and 0 if the id is not in
+/// use.
+///
+/// # Status
+///
+/// - `Closed`: the handle is closed.
+/// - `NotUtf8`: the id is not UTF-8.
+/// - `NoMemory`: an allocation failed.
+///
+/// After an error nothing is written.
 #[unsafe(no_mangle)]
 pub extern "C" fn cedar_policies_get(
     alloc: Global,
@@ -32,7 +40,16 @@ pub extern "C" fn cedar_policies_get(
     tell_value(answer, told)
 }
 
-/// The effect of what an id is bound to, in `told`: 0 permits, 1 forbids.
+/// Writes the effect of the policy or template with an id to `told`: 0 is permit, 1 is forbid.
+///
+/// # Status
+///
+/// - `Closed`: the handle is closed.
+/// - `NotUtf8`: the id is not UTF-8.
+/// - `NoBody`: the id is not in use.
+/// - `NoMemory`: an allocation failed.
+///
+/// After an error nothing is written.
 #[unsafe(no_mangle)]
 pub extern "C" fn cedar_policies_effect(
     alloc: Global,
@@ -52,7 +69,17 @@ pub extern "C" fn cedar_policies_effect(
     tell_value(answer, told)
 }
 
-/// The slots of the static policy or the template with an id, in `told`, as a sum.
+/// Writes the slots of the static policy or the template with an id to `told`, as a sum: 1 for the principal, 2 for the
+/// action, 4 for the resource.
+///
+/// # Status
+///
+/// - `Closed`: the handle is closed.
+/// - `NotUtf8`: the id is not UTF-8.
+/// - `NoBody`: there is no body with the id.
+/// - `NoMemory`: an allocation failed.
+///
+/// After an error nothing is written.
 #[unsafe(no_mangle)]
 pub extern "C" fn cedar_policies_slots(
     alloc: Global,
@@ -72,7 +99,18 @@ pub extern "C" fn cedar_policies_slots(
     tell_value(answer, told)
 }
 
-/// The annotation at a key, of what an id is bound to, becomes the answer, and `has` says whether there is one.
+/// Writes to `has` whether the policy or template with an id has an annotation with a key. Stores its value as the
+/// answer, which becomes empty if there is none.
+///
+/// # Status
+///
+/// - `Closed`: the handle is closed.
+/// - `NotUtf8`: the id is not UTF-8.
+/// - `NotAName`: the key is not an identifier.
+/// - `NoBody`: the id is not in use.
+/// - `NoMemory`: an allocation failed.
+///
+/// After an error nothing has changed.
 #[unsafe(no_mangle)]
 pub extern "C" fn cedar_policies_annotation(
     alloc: Global,
@@ -92,7 +130,17 @@ pub extern "C" fn cedar_policies_annotation(
     tell(answer, has)
 }
 
-/// The annotations of what an id is bound to become the answer, by key: each key, and behind it its value.
+/// Stores the annotations of the policy or template with an id as the answer, in order of key: each key, followed by
+/// its value.
+///
+/// # Status
+///
+/// - `Closed`: the handle is closed.
+/// - `NotUtf8`: the id is not UTF-8.
+/// - `NoBody`: the id is not in use.
+/// - `NoMemory`: an allocation failed.
+///
+/// After an error nothing has changed.
 #[unsafe(no_mangle)]
 pub extern "C" fn cedar_policies_annotations(alloc: Global, handle: &mut Policies, id: &[u8]) -> u32
     ensures { Changes (AnswersAt bound_body AreAnnotations id.now) handle.old.held.value result handle.new.held.value }
@@ -105,7 +153,17 @@ pub extern "C" fn cedar_policies_annotations(alloc: Global, handle: &mut Policie
     status_of(answer)
 }
 
-/// What the principal's, the action's and the resource's slot of the policy with an id are bound to become the answer.
+/// Stores the bindings of the policy with an id as the answer: three texts, for principal, action and resource. A text
+/// is empty if its slot is not bound.
+///
+/// # Status
+///
+/// - `Closed`: the handle is closed.
+/// - `NotUtf8`: the id is not UTF-8.
+/// - `NoBody`: there is no policy with the id.
+/// - `NoMemory`: an allocation failed.
+///
+/// After an error nothing has changed.
 #[unsafe(no_mangle)]
 pub extern "C" fn cedar_policies_env(alloc: Global, handle: &mut Policies, id: &[u8]) -> u32
     ensures { Changes (AnswersAt policy_at AreBoundIn id.now) handle.old.held.value result handle.new.held.value }
@@ -118,7 +176,16 @@ pub extern "C" fn cedar_policies_env(alloc: Global, handle: &mut Policies, id: &
     status_of(answer)
 }
 
-/// The id of the template of the policy with an id becomes the answer.
+/// Stores the id of the template of the policy with an id as the answer. For a static policy it is its own id.
+///
+/// # Status
+///
+/// - `Closed`: the handle is closed.
+/// - `NotUtf8`: the id is not UTF-8.
+/// - `NoBody`: there is no policy with the id.
+/// - `NoMemory`: an allocation failed.
+///
+/// After an error nothing has changed.
 #[unsafe(no_mangle)]
 pub extern "C" fn cedar_policies_template_id(alloc: Global, handle: &mut Policies, id: &[u8]) -> u32
     ensures { Changes (AnswersAt policy_at IsTemplateId id.now) handle.old.held.value result handle.new.held.value }
@@ -131,7 +198,16 @@ pub extern "C" fn cedar_policies_template_id(alloc: Global, handle: &mut Policie
     status_of(answer)
 }
 
-/// The ids of the policies on the static policy or the template with an id become the answer, in their order.
+/// Stores the ids of the policies that use the static policy or the template with an id as the answer, in order.
+///
+/// # Status
+///
+/// - `Closed`: the handle is closed.
+/// - `NotUtf8`: the id is not UTF-8.
+/// - `NoBody`: there is no body with the id.
+/// - `NoMemory`: an allocation failed.
+///
+/// After an error nothing has changed.
 #[unsafe(no_mangle)]
 pub extern "C" fn cedar_policies_linked(alloc: Global, handle: &mut Policies, id: &[u8]) -> u32
     ensures { Changes (AnswersLinked id.now) handle.old.held.value result handle.new.held.value }
@@ -144,7 +220,16 @@ pub extern "C" fn cedar_policies_linked(alloc: Global, handle: &mut Policies, id
     status_of(answer)
 }
 
-/// The uids that unknowns of the condition of the policy with an id name become the answer, ascending, each once.
+/// Stores the uids of the unknowns in the condition of the policy with an id as the answer: ascending, each once.
+///
+/// # Status
+///
+/// - `Closed`: the handle is closed.
+/// - `NotUtf8`: the id is not UTF-8.
+/// - `NoBody`: there is no policy with the id.
+/// - `NoMemory`: an allocation failed.
+///
+/// After an error nothing has changed.
 #[unsafe(no_mangle)]
 pub extern "C" fn cedar_policies_unknown_entities(
     alloc: Global,
@@ -161,7 +246,18 @@ pub extern "C" fn cedar_policies_unknown_entities(
     status_of(answer)
 }
 
-/// Looks for what is wrong with the set.
+/// Validates a copy of the set, as `PolicySet::try_validate` does. The first fault determines the status.
+///
+/// # Status
+///
+/// - `Closed`: the handle is closed.
+/// - `SlotlessLink`: a link has a template without slots.
+/// - `SlotInClause`: the clause of a body has a slot.
+/// - `NotActions`: the action constraint of a body has a uid that is not an action.
+/// - `UnknownFunction`: the clause of a body calls an unknown function.
+/// - `NoMemory`: an allocation failed.
+///
+/// After an error only the text of the last error can have changed.
 #[unsafe(no_mangle)]
 pub extern "C" fn cedar_policies_validate(alloc: Global, handle: &mut Policies) -> u32
     ensures { Changes Validates handle.old.held.value result handle.new.held.value }
@@ -174,7 +270,14 @@ pub extern "C" fn cedar_policies_validate(alloc: Global, handle: &mut Policies) 
     status_of(answer)
 }
 
-/// The text of the set becomes the answer.
+/// Stores the text of the set, from its `Display`, as the answer.
+///
+/// # Status
+///
+/// - `Closed`: the handle is closed.
+/// - `NoMemory`: an allocation failed.
+///
+/// After an error nothing has changed.
 #[unsafe(no_mangle)]
 pub extern "C" fn cedar_policies_text(alloc: Global, handle: &mut Policies) -> u32
     ensures { Changes AnswersText handle.old.held.value result handle.new.held.value }
@@ -187,7 +290,16 @@ pub extern "C" fn cedar_policies_text(alloc: Global, handle: &mut Policies) -> u
     status_of(answer)
 }
 
-/// The text of the policy with an id becomes the answer.
+/// Stores the text of the policy with an id, from its `Display`, as the answer.
+///
+/// # Status
+///
+/// - `Closed`: the handle is closed.
+/// - `NotUtf8`: the id is not UTF-8.
+/// - `NoBody`: there is no policy with the id.
+/// - `NoMemory`: an allocation failed.
+///
+/// After an error nothing has changed.
 #[unsafe(no_mangle)]
 pub extern "C" fn cedar_policies_policy_text(alloc: Global, handle: &mut Policies, id: &[u8]) -> u32
     ensures { Changes (AnswersAt policy_at IsPolicyText id.now) handle.old.held.value result handle.new.held.value }
@@ -200,7 +312,16 @@ pub extern "C" fn cedar_policies_policy_text(alloc: Global, handle: &mut Policie
     status_of(answer)
 }
 
-/// The text of the static policy or the template with an id becomes the answer.
+/// Stores the text of the static policy or the template with an id, from its `Display`, as the answer.
+///
+/// # Status
+///
+/// - `Closed`: the handle is closed.
+/// - `NotUtf8`: the id is not UTF-8.
+/// - `NoBody`: there is no body with the id.
+/// - `NoMemory`: an allocation failed.
+///
+/// After an error nothing has changed.
 #[unsafe(no_mangle)]
 pub extern "C" fn cedar_policies_template_text(
     alloc: Global,

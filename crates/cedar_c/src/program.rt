@@ -1,4 +1,4 @@
-//! The whole program in one call, and whether a text is a uid's.
+//! The whole program in one call, and a check of the text of a uid.
 ghost use Rattle.std.specs.Prelude.{◌≡◌, ◌≢◌, IfOk};
 ghost use Rattle.cedar_store.specs.Output.{IsOutput};
 ghost use Rattle.cedar_c.specs.Checks.{Checks};
@@ -12,7 +12,7 @@ use cedar_keyed_hash::KeyedState;
 use cedar_store::{RunError, run_with};
 use std::alloc::Global;
 
-// The output of an input, and its status.
+// Returns the output of an input, and the exit status.
 fn output_of(alloc: Global, hasher: KeyedState, input: &[u8]) -> Result<(Vec<u8>, u8), RunError>
     ensures { IfOk result (λ r. IsOutput input.now (record { bytes = r.0.items; status = r.1 })) }
 {
@@ -22,9 +22,13 @@ fn output_of(alloc: Global, hasher: KeyedState, input: &[u8]) -> Result<(Vec<u8>
     Ok((out, status))
 }
 
-/// Takes all lines of an input, by maps that hash with two numbers of the caller as their key, and writes as much of
-/// the output as there is room for; `told` has the length of all of it, and `ended` the status of the run, 0 or 2.
-/// Another call with more room makes the same output.
+/// Runs the program on all lines of an input, with the two numbers as the key of its hash maps. Writes as much of the
+/// output as fits to `out`, and the length of the whole output to `told`. Writes the exit status of the run, 0 or 2, to
+/// `ended`. Another call with more room gives the same output.
+///
+/// # Status
+///
+/// - `NoMemory`: an allocation failed.
 #[unsafe(no_mangle)]
 pub extern "C" fn cedar_run(
     alloc: Global,
@@ -46,7 +50,12 @@ pub extern "C" fn cedar_run(
     0
 }
 
-/// Whether a text is a uid's.
+/// Checks whether a text is the text of a uid.
+///
+/// # Status
+///
+/// - `NotAUid`: the text is not the text of a uid.
+/// - `NoMemory`: an allocation failed.
 #[unsafe(no_mangle)]
 pub extern "C" fn cedar_uid_check(alloc: Global, text: &[u8]) -> u32
     ensures { Checks text.now result }

@@ -1,12 +1,13 @@
-//! What the text of a refusal names, and which place of a list is at fault. No handle is asked for.
+//! Calls on the text of an error, and the position of an invalid uid in a list. They need no handle.
 ghost use Rattle.cedar_c.specs.RefusalCalls.{ChecksUids, TellsPart};
 
 use cedar_c_lists::Span;
 use cedar_c_refusals::{first_unread, part_of};
 use std::alloc::Global;
 
-/// Where in the text of the refusal with a status what it names at a place stands, from 0 on, is written to `part`, and
-/// is told to be there.
+/// Writes the span of the name at position `place` in the text of an error with a status to `part`. Returns whether
+/// there is such a name. Otherwise writes nothing. The names are the uids, ids, keys or slots in the text, counted from
+/// 0.
 #[unsafe(no_mangle)]
 pub extern "C" fn cedar_refusal_part(
     status: u32,
@@ -25,7 +26,14 @@ pub extern "C" fn cedar_refusal_part(
     }
 }
 
-/// Whether each of some parts of a text is a uid's; the place of the first that is not is written to `place`.
+/// Checks whether each part of a text is the text of a uid. After an error writes the position of the first invalid
+/// part to `place`. If all are valid, writes nothing.
+///
+/// # Status
+///
+/// - `BadArgument`: a part is not within the text.
+/// - `NotAUid`: a part is not the text of a uid.
+/// - `NoMemory`: an allocation failed.
 #[unsafe(no_mangle)]
 pub extern "C" fn cedar_uids_check(
     alloc: Global,

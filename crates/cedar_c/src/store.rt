@@ -19,7 +19,7 @@ use std::alloc::Global;
 use std::boxed::Box;
 use std::mem;
 
-/// What a caller has of a store of entities: zeroed memory is a closed one.
+/// A handle of a store of entities. Zeroed memory is a closed handle.
 #[repr(C)]
 #[derive(Drop)]
 pub struct Store {
@@ -31,7 +31,7 @@ pub struct Store {
 // The status of a closed handle.
 pub(crate) const CLOSED: u32 = 2;
 
-// A closed one.
+// Creates a closed handle.
 fn closed(alloc: Global) -> Store
     ensures { result.held.value ≡ None }
 {
@@ -41,7 +41,7 @@ fn closed(alloc: Global) -> Store
     }
 }
 
-// An open one.
+// Creates an open handle.
 pub(crate) fn opened(inner: Box<Inner, Global>) -> Store
     ensures { result.held.value ≡ Some inner.value }
 {
@@ -51,7 +51,7 @@ pub(crate) fn opened(inner: Box<Inner, Global>) -> Store
     }
 }
 
-// What a handle holds is taken out, and it is closed.
+// Takes the contents of a handle, and closes it.
 pub(crate) fn take(alloc: Global, handle: &mut Store) -> Option<Box<Inner, Global>>
     ensures closed { handle.new.held.value ≡ None }
     ensures value { option_map (λ b. b.value) result ≡ handle.old.held.value }
@@ -64,7 +64,7 @@ pub(crate) fn take(alloc: Global, handle: &mut Store) -> Option<Box<Inner, Globa
     }
 }
 
-// A box of what was made.
+// Moves a result to a box.
 fn boxed(
     alloc: Global,
     made: Result<KeptStore<KeyedState>, Reason>,
@@ -75,7 +75,7 @@ fn boxed(
     Ok(Box::new(alloc, Inner { kept })?)
 }
 
-// A handle holds what was made, and what it held before is freed; or it stays as it is.
+// Fills a handle with a result, and frees its old contents. After an error the handle is unchanged. Returns the status.
 pub(crate) fn fill(
     alloc: Global,
     handle: &mut Store,
@@ -93,8 +93,14 @@ pub(crate) fn fill(
     }
 }
 
-/// The store without entities, whose map hashes with two numbers of the caller as its key. What the handle held before
-/// is freed.
+/// Opens the handle with an empty store, which uses the two numbers as the key of its hash maps. Frees the old contents
+/// of the handle.
+///
+/// # Status
+///
+/// - `NoMemory`: an allocation failed.
+///
+/// After an error the handle is unchanged.
 #[unsafe(no_mangle)]
 pub extern "C" fn cedar_store_new(alloc: Global, handle: &mut Store, seed: u64, key: u64) -> u32
     ensures new { result ≡ ok → HasWorld empty_world handle.new.held.value }
@@ -108,7 +114,7 @@ pub extern "C" fn cedar_store_new(alloc: Global, handle: &mut Store, seed: u64, 
     )
 }
 
-/// Frees what the handle holds, and closes it. A closed one stays closed.
+/// Frees the contents of the handle, and closes it. A closed handle stays closed.
 #[unsafe(no_mangle)]
 pub extern "C" fn cedar_store_free(alloc: Global, handle: &mut Store)
     ensures { handle.new.held.value ≡ None }
@@ -116,8 +122,21 @@ pub extern "C" fn cedar_store_free(alloc: Global, handle: &mut Store)
     drop(take(alloc, handle));
 }
 
-/// The entities that lists say become the store: the first `count` of the uids that parts of a text are, each with the
-/// uids as parents that the edges from its place lead to, in the mode of a number.
+/// Replaces the store by the entities in lists, with the mode of this number. The first `count` uids in the parts of
+/// the text are the uids of the entities. The edges lead from entities to their parents, by positions among the uids.
+///
+/// # Status
+///
+/// - `Closed`: the handle is closed.
+/// - `BadArgument`: there is no mode with this number, there are fewer uids than entities, or a part or an edge is out
+///   of range.
+/// - `NotAUid`: a uid is invalid.
+/// - `Duplicate`: two entities have the same uid, but are not deeply equal.
+/// - `Cycle`: an entity reaches itself.
+/// - `NotClosed`: an ancestor of an ancestor is missing, in the mode `EnforceAlreadyComputed`.
+/// - `NoMemory`: an allocation failed.
+///
+/// After an error the store is unchanged. The text of an error of the store becomes the text of the last error.
 #[unsafe(no_mangle)]
 pub extern "C" fn cedar_store_build(
     alloc: Global,
@@ -145,7 +164,22 @@ pub extern "C" fn cedar_store_build(
     status_of(answer)
 }
 
-/// The entities that lists say are added to the store.
+/// Adds the entities in lists to the store, as `Entities::add_entities` does. The lists have the form that
+/// `cedar_store_build` takes.
+///
+/// # Status
+///
+/// - `Closed`: the handle is closed.
+/// - `BadArgument`: there is no mode with this number, there are fewer uids than entities, or a part or an edge is out
+///   of range.
+/// - `NotAUid`: a uid is invalid.
+/// - `Duplicate`: two entities have the same uid, but are not deeply equal.
+/// - `Cycle`: an entity reaches itself.
+/// - `NotClosed`: an ancestor of an ancestor is missing, in the mode `EnforceAlreadyComputed`.
+/// - `NoMemory`: an allocation failed.
+///
+/// After an error the store is unchanged. Only an allocation failure can instead leave it empty, and partial exactly if
+/// it was partial before. The text of an error of the store becomes the text of the last error.
 #[unsafe(no_mangle)]
 pub extern "C" fn cedar_store_add(
     alloc: Global,
@@ -173,7 +207,20 @@ pub extern "C" fn cedar_store_add(
     status_of(answer)
 }
 
-/// The entities that lists say are put over what the store holds.
+/// Upserts the entities in lists, as `Entities::upsert_entities` does. The lists have the form that `cedar_store_build`
+/// takes.
+///
+/// # Status
+///
+/// - `Closed`: the handle is closed.
+/// - `BadArgument`: there is no mode with this number, there are fewer uids than entities, or a part or an edge is out
+///   of range.
+/// - `NotAUid`: a uid is invalid.
+/// - `Cycle`, `NotClosed`: the ancestors are invalid, as in `cedar_store_build`.
+/// - `NoMemory`: an allocation failed.
+///
+/// After an error the store is unchanged. Only an allocation failure can instead leave it empty, and partial exactly if
+/// it was partial before. The text of an error of the store becomes the text of the last error.
 #[unsafe(no_mangle)]
 pub extern "C" fn cedar_store_upsert(
     alloc: Global,
@@ -201,7 +248,19 @@ pub extern "C" fn cedar_store_upsert(
     status_of(answer)
 }
 
-/// The entities with the uids that parts of a text are are taken out of the store.
+/// Removes the entities with the uids in parts of a text, as `Entities::remove_entities` does, with the mode of this
+/// number.
+///
+/// # Status
+///
+/// - `Closed`: the handle is closed.
+/// - `BadArgument`: there is no mode with this number, or a part is not within the text.
+/// - `NotAUid`: a uid is invalid.
+/// - `Cycle`, `NotClosed`: the ancestors are invalid, as in `cedar_store_build`.
+/// - `NoMemory`: an allocation failed.
+///
+/// After an error the store is unchanged. Only an allocation failure can instead leave it empty, and partial exactly if
+/// it was partial before. The text of an error of the store becomes the text of the last error.
 #[unsafe(no_mangle)]
 pub extern "C" fn cedar_store_remove(
     alloc: Global,
@@ -220,7 +279,7 @@ pub extern "C" fn cedar_store_remove(
     status_of(answer)
 }
 
-/// How many entities there are; a closed handle has none.
+/// Returns the number of entities, which is 0 for a closed handle.
 #[unsafe(no_mangle)]
 pub extern "C" fn cedar_store_len(alloc: Global, handle: &mut Store) -> usize
     ensures same { handle.new.held.value ≡ handle.old.held.value }
@@ -234,7 +293,15 @@ pub extern "C" fn cedar_store_len(alloc: Global, handle: &mut Store) -> usize
     count
 }
 
-/// Whether there is an entity with a uid, in `answer`.
+/// Writes to `answer` whether the store has an entity with a uid.
+///
+/// # Status
+///
+/// - `Closed`: the handle is closed.
+/// - `NotAUid`: the uid is invalid.
+/// - `NoMemory`: an allocation failed.
+///
+/// After an error nothing is written.
 #[unsafe(no_mangle)]
 pub extern "C" fn cedar_store_has(
     alloc: Global,
@@ -253,7 +320,16 @@ pub extern "C" fn cedar_store_has(
     tell(told, answer)
 }
 
-/// Whether the entity with the first uid is a descendant of the second, in `answer`: over parents, however many.
+/// Writes to `answer` whether the entity with the uid in `child` is a descendant of the uid in `ancestor`.
+///
+/// # Status
+///
+/// - `Closed`: the handle is closed.
+/// - `NotAUid`: a uid is invalid.
+/// - `NoEntity`: the store has no entity with the uid in `child`.
+/// - `NoMemory`: an allocation failed.
+///
+/// After an error nothing is written.
 #[unsafe(no_mangle)]
 pub extern "C" fn cedar_store_is_descendant_of(
     alloc: Global,
@@ -274,7 +350,16 @@ pub extern "C" fn cedar_store_is_descendant_of(
     tell(told, answer)
 }
 
-/// The ancestors of the entity with a uid become the answer, in the order of uids.
+/// Stores the ancestors of the entity with a uid as the answer, in ascending order of uid.
+///
+/// # Status
+///
+/// - `Closed`: the handle is closed.
+/// - `NotAUid`: the uid is invalid.
+/// - `NoEntity`: the store has no entity with the uid.
+/// - `NoMemory`: an allocation failed.
+///
+/// After an error nothing has changed.
 #[unsafe(no_mangle)]
 pub extern "C" fn cedar_store_ancestors(alloc: Global, handle: &mut Store, uid: &[u8]) -> u32
     ensures { Changes (Listing has_ancestor IsAbove uid.now) handle.old.held.value result handle.new.held.value }
@@ -287,7 +372,16 @@ pub extern "C" fn cedar_store_ancestors(alloc: Global, handle: &mut Store, uid: 
     status_of(answer)
 }
 
-/// The parents of the entity with a uid become the answer, in the order of uids.
+/// Stores the parents of the entity with a uid as the answer, in ascending order of uid.
+///
+/// # Status
+///
+/// - `Closed`: the handle is closed.
+/// - `NotAUid`: the uid is invalid.
+/// - `NoEntity`: the store has no entity with the uid.
+/// - `NoMemory`: an allocation failed.
+///
+/// After an error nothing has changed.
 #[unsafe(no_mangle)]
 pub extern "C" fn cedar_store_parents(alloc: Global, handle: &mut Store, uid: &[u8]) -> u32
     ensures { Changes (Listing has_parent IsParent uid.now) handle.old.held.value result handle.new.held.value }
@@ -300,7 +394,20 @@ pub extern "C" fn cedar_store_parents(alloc: Global, handle: &mut Store, uid: &[
     status_of(answer)
 }
 
-/// Looks for what is wrong with the store, and tells the first fault.
+/// Validates a copy of the store, as `Entities::try_validate` does. The first fault determines the status.
+///
+/// # Status
+///
+/// - `Closed`: the handle is closed.
+/// - `NotClosed`: an ancestor of an ancestor is missing.
+/// - `Cycle`: a uid is one of its own ancestors.
+/// - `SelfAncestor`: an entity is one of its own ancestors.
+/// - `DuplicateAncestor`: a uid is both a parent and an indirect ancestor.
+/// - `ActionParentIsNotAction`: an action has an ancestor that is not an action.
+/// - `ReservedKey`: a record has a reserved key.
+/// - `NoMemory`: an allocation failed.
+///
+/// After an error only the text of the last error can have changed.
 #[unsafe(no_mangle)]
 pub extern "C" fn cedar_store_validate(alloc: Global, handle: &mut Store) -> u32
     ensures { Changes Validates handle.old.held.value result handle.new.held.value }
@@ -313,7 +420,17 @@ pub extern "C" fn cedar_store_validate(alloc: Global, handle: &mut Store) -> u32
     status_of(answer)
 }
 
-/// The slice of a store at the uids that parts of a text are goes into another handle.
+/// Fills the handle `to` with the slice of the store of `from` at the uids in parts of a text. The slice has no answer,
+/// no numbers and no last error.
+///
+/// # Status
+///
+/// - `Closed`: the handle `from` is closed.
+/// - `BadArgument`: a part is not within the text.
+/// - `NotAUid`: a uid is invalid.
+/// - `NoMemory`: an allocation failed.
+///
+/// After an error both handles are unchanged.
 #[unsafe(no_mangle)]
 pub extern "C" fn cedar_store_slice(
     alloc: Global,
@@ -333,7 +450,14 @@ pub extern "C" fn cedar_store_slice(
     fill(alloc, to, made)
 }
 
-/// A copy of a store goes into another handle.
+/// Fills the handle `to` with a copy of the store of `from`. The copy has no answer, no numbers and no last error.
+///
+/// # Status
+///
+/// - `Closed`: the handle `from` is closed.
+/// - `NoMemory`: an allocation failed.
+///
+/// After an error both handles are unchanged.
 #[unsafe(no_mangle)]
 pub extern "C" fn cedar_store_copy(alloc: Global, from: &mut Store, to: &mut Store) -> u32
     ensures same { from.new.held.value ≡ from.old.held.value }
@@ -347,7 +471,13 @@ pub extern "C" fn cedar_store_copy(alloc: Global, from: &mut Store, to: &mut Sto
     fill(alloc, to, made)
 }
 
-/// Whether two stores have deeply equal entities, in `answer`.
+/// Writes to `answer` whether both stores have deeply equal entities.
+///
+/// # Status
+///
+/// - `Closed`: one of the handles is closed.
+///
+/// After an error nothing is written.
 #[unsafe(no_mangle)]
 pub extern "C" fn cedar_store_equal(
     alloc: Global,
@@ -372,8 +502,8 @@ pub extern "C" fn cedar_store_equal(
     0
 }
 
-/// Copies the bytes of the texts of the last answer, from a place on, as many as there is room for, and tells how many
-/// there are in all; a closed handle has none.
+/// Copies the bytes of the answer, from position `from` on, as many as fit. Returns the number of all bytes, which is 0
+/// for a closed handle.
 #[unsafe(no_mangle)]
 pub extern "C" fn cedar_store_answer(
     alloc: Global,
@@ -392,8 +522,8 @@ pub extern "C" fn cedar_store_answer(
     told
 }
 
-/// Copies where the texts of the last answer stand in its bytes, from the text at a place on, as many as there is room
-/// for, and tells how many there are in all; a closed handle has none.
+/// Copies the spans of the texts of the answer within its bytes, from the text at position `from` on, as many as fit.
+/// Returns the number of all texts, which is 0 for a closed handle.
 #[unsafe(no_mangle)]
 pub extern "C" fn cedar_store_answer_spans(
     alloc: Global,
@@ -412,8 +542,8 @@ pub extern "C" fn cedar_store_answer_spans(
     told
 }
 
-/// Copies the text of the last refusal of a call on the store, as much as there is room for, and tells its length; a
-/// closed handle has none.
+/// Copies the text of the last error of a call on the store, as much as fits. Returns the length of the whole text,
+/// which is 0 for a closed handle.
 #[unsafe(no_mangle)]
 pub extern "C" fn cedar_store_refusal(alloc: Global, handle: &mut Store, out: &mut [u8]) -> usize
     ensures same { handle.new.held.value ≡ handle.old.held.value }

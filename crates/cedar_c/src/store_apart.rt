@@ -1,4 +1,4 @@
-//! Copies and slices of stores that may go to another thread.
+//! Deep copies of stores and of their slices, which can be sent to another thread.
 ghost use Rattle.std.specs.Prelude.{◌≡◌};
 ghost use Rattle.cedar_c_stores.specs.Stores.{Copies, SlicesAt};
 ghost use Rattle.cedar_c.specs.StoreCalls.{Fills};
@@ -7,7 +7,14 @@ use crate::store::{CLOSED, Store, fill, opened, take};
 use cedar_c_lists::Span;
 use std::alloc::Global;
 
-/// A copy of a store, which shares nothing with it, goes into another handle.
+/// Fills the handle `to` with a deep copy of the store of `from`, which shares nothing with it.
+///
+/// # Status
+///
+/// - `Closed`: the handle `from` is closed.
+/// - `NoMemory`: an allocation failed.
+///
+/// After an error both handles are unchanged.
 #[unsafe(no_mangle)]
 pub extern "C" fn cedar_store_copy_apart(alloc: Global, from: &mut Store, to: &mut Store) -> u32
     ensures same { from.new.held.value ≡ from.old.held.value }
@@ -21,7 +28,17 @@ pub extern "C" fn cedar_store_copy_apart(alloc: Global, from: &mut Store, to: &m
     fill(alloc, to, made)
 }
 
-/// The slice of a store at the uids that parts of a text are, which shares nothing with it, goes into another handle.
+/// Fills the handle `to` with a deep copy of the slice of the store of `from` at the uids in parts of a text. The copy
+/// shares nothing with the store.
+///
+/// # Status
+///
+/// - `Closed`: the handle `from` is closed.
+/// - `BadArgument`: a part is not within the text.
+/// - `NotAUid`: a uid is invalid.
+/// - `NoMemory`: an allocation failed.
+///
+/// After an error both handles are unchanged.
 #[unsafe(no_mangle)]
 pub extern "C" fn cedar_store_slice_apart(
     alloc: Global,

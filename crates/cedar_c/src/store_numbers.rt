@@ -1,4 +1,4 @@
-//! Calls on handles of stores by the numbers of uids that their callers gave once.
+//! Calls on handles of stores by the numbers of uids.
 ghost use Rattle.std.specs.Prelude.{◌≡◌};
 ghost use Rattle.cedar_c_stores.specs.Numbers.{AsksForNumber, AsksNumbers, GivesNumber, NamesNumber};
 ghost use Rattle.cedar_c.specs.StoreCalls.{Changes};
@@ -8,7 +8,15 @@ use crate::store::{CLOSED, Store, opened, take};
 use cedar_c_lists::{status_of, tell, tell_value};
 use std::alloc::Global;
 
-/// The number of a uid, in `number`: the same each time.
+/// Writes the number of a uid to `number`. Later calls with the same uid write the same number.
+///
+/// # Status
+///
+/// - `Closed`: the handle is closed.
+/// - `NotAUid`: the uid is invalid.
+/// - `NoMemory`: an allocation failed.
+///
+/// After an error nothing has changed.
 #[unsafe(no_mangle)]
 pub extern "C" fn cedar_store_uid_number(
     alloc: Global,
@@ -27,7 +35,15 @@ pub extern "C" fn cedar_store_uid_number(
     tell_value(told, number)
 }
 
-/// The text of the uid of a number becomes the answer.
+/// Stores the text of the uid of a number as the answer.
+///
+/// # Status
+///
+/// - `Closed`: the handle is closed.
+/// - `BadArgument`: no uid has the number.
+/// - `NoMemory`: an allocation failed.
+///
+/// After an error nothing has changed.
 #[unsafe(no_mangle)]
 pub extern "C" fn cedar_store_number_uid(alloc: Global, handle: &mut Store, number: usize) -> u32
     ensures { Changes (NamesNumber number) handle.old.held.value result handle.new.held.value }
@@ -40,7 +56,14 @@ pub extern "C" fn cedar_store_number_uid(alloc: Global, handle: &mut Store, numb
     status_of(answer)
 }
 
-/// Whether there is an entity with the uid of a number, in `answer`.
+/// Writes to `answer` whether the store has an entity with the uid of a number. Does not allocate.
+///
+/// # Status
+///
+/// - `Closed`: the handle is closed.
+/// - `BadArgument`: no uid has the number.
+///
+/// After an error nothing is written.
 #[unsafe(no_mangle)]
 pub extern "C" fn cedar_store_has_number(
     alloc: Global,
@@ -60,7 +83,16 @@ pub extern "C" fn cedar_store_has_number(
     tell(told, answer)
 }
 
-/// Whether the entity with the uid of the first number is a descendant of the uid of the second, in `answer`.
+/// Writes to `answer` whether the entity with the uid of the number `child` is a descendant of the uid of the number
+/// `ancestor`. Does not allocate.
+///
+/// # Status
+///
+/// - `Closed`: the handle is closed.
+/// - `BadArgument`: no uid has one of the numbers.
+/// - `NoEntity`: the store has no entity with the uid of `child`.
+///
+/// After an error nothing is written.
 #[unsafe(no_mangle)]
 pub extern "C" fn cedar_store_is_descendant_of_numbers(
     alloc: Global,

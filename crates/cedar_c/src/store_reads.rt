@@ -1,4 +1,4 @@
-//! Calls that read the store of a handle: what it has with a uid, one of its entities, and the texts of both.
+//! Calls that read the store of a handle or one of its entities.
 ghost use Rattle.std.specs.Prelude.{◌≡◌};
 ghost use Rattle.cedar_c_stores.specs.Stores.{Listing, has_parent};
 ghost use Rattle.cedar_c_stores.specs.Reads.{AnswersAt, AnswersOf, AreAllUids, AreKeysOf, AsksAbove, AsksOne};
@@ -11,7 +11,14 @@ use crate::store::{CLOSED, Store, opened, take};
 use cedar_c_lists::{status_of, tell, tell_value};
 use std::alloc::Global;
 
-/// The uids of all entities become the answer, each once, in an order of the store's own.
+/// Stores the uids of all entities as the answer, in an unspecified order.
+///
+/// # Status
+///
+/// - `Closed`: the handle is closed.
+/// - `NoMemory`: an allocation failed.
+///
+/// After an error nothing has changed.
 #[unsafe(no_mangle)]
 pub extern "C" fn cedar_store_uids(alloc: Global, handle: &mut Store) -> u32
     ensures { Changes (AnswersOf AreAllUids) handle.old.held.value result handle.new.held.value }
@@ -24,7 +31,16 @@ pub extern "C" fn cedar_store_uids(alloc: Global, handle: &mut Store) -> u32
     status_of(answer)
 }
 
-/// What the store has with a uid, in `found`: 2 where it has an entity; else 1 in a partial store and 0 in another.
+/// Writes 2 to `found` if the store has an entity with a uid. Otherwise writes 1 for a partial store, and 0 for another
+/// store.
+///
+/// # Status
+///
+/// - `Closed`: the handle is closed.
+/// - `NotAUid`: the uid is invalid.
+/// - `NoMemory`: an allocation failed.
+///
+/// After an error nothing is written.
 #[unsafe(no_mangle)]
 pub extern "C" fn cedar_store_entity(
     alloc: Global,
@@ -43,7 +59,11 @@ pub extern "C" fn cedar_store_entity(
     tell_value(told, found)
 }
 
-/// The store becomes partial: an entity that it lacks is not known then.
+/// Makes the store partial. A missing entity is then unknown.
+///
+/// # Status
+///
+/// - `Closed`: the handle is closed.
 #[unsafe(no_mangle)]
 pub extern "C" fn cedar_store_partial(alloc: Global, handle: &mut Store) -> u32
     ensures { BecomesPartial handle.old.held.value result handle.new.held.value }
@@ -56,7 +76,13 @@ pub extern "C" fn cedar_store_partial(alloc: Global, handle: &mut Store) -> u32
     0
 }
 
-/// Whether the store is partial, in `answer`.
+/// Writes to `answer` whether the store is partial.
+///
+/// # Status
+///
+/// - `Closed`: the handle is closed.
+///
+/// After an error nothing is written.
 #[unsafe(no_mangle)]
 pub extern "C" fn cedar_store_is_partial(
     alloc: Global,
@@ -74,7 +100,16 @@ pub extern "C" fn cedar_store_is_partial(
     0
 }
 
-/// The indirect ancestors of the entity with a uid become the answer, in the order of uids.
+/// Stores the indirect ancestors of the entity with a uid as the answer, in ascending order of uid.
+///
+/// # Status
+///
+/// - `Closed`: the handle is closed.
+/// - `NotAUid`: the uid is invalid.
+/// - `NoEntity`: the store has no entity with the uid.
+/// - `NoMemory`: an allocation failed.
+///
+/// After an error nothing has changed.
 #[unsafe(no_mangle)]
 pub extern "C" fn cedar_store_indirect_ancestors(
     alloc: Global,
@@ -91,7 +126,16 @@ pub extern "C" fn cedar_store_indirect_ancestors(
     status_of(answer)
 }
 
-/// Whether the second uid is a parent of the entity with the first, in `answer`.
+/// Writes to `answer` whether the uid in `parent` is a parent of the entity with the uid in `child`.
+///
+/// # Status
+///
+/// - `Closed`: the handle is closed.
+/// - `NotAUid`: a uid is invalid.
+/// - `NoEntity`: the store has no entity with the uid in `child`.
+/// - `NoMemory`: an allocation failed.
+///
+/// After an error nothing is written.
 #[unsafe(no_mangle)]
 pub extern "C" fn cedar_store_is_child_of(
     alloc: Global,
@@ -112,7 +156,16 @@ pub extern "C" fn cedar_store_is_child_of(
     tell(told, answer)
 }
 
-/// Whether the second uid is an indirect ancestor of the entity with the first, in `answer`.
+/// Writes to `answer` whether the uid in `ancestor` is an indirect ancestor of the entity with the uid in `child`.
+///
+/// # Status
+///
+/// - `Closed`: the handle is closed.
+/// - `NotAUid`: a uid is invalid.
+/// - `NoEntity`: the store has no entity with the uid in `child`.
+/// - `NoMemory`: an allocation failed.
+///
+/// After an error nothing is written.
 #[unsafe(no_mangle)]
 pub extern "C" fn cedar_store_is_indirect_descendant_of(
     alloc: Global,
@@ -133,7 +186,16 @@ pub extern "C" fn cedar_store_is_indirect_descendant_of(
     tell(told, answer)
 }
 
-/// The keys of the attributes of the entity with a uid become the answer, in byte order.
+/// Stores the keys of the attributes of the entity with a uid as the answer, in byte order.
+///
+/// # Status
+///
+/// - `Closed`: the handle is closed.
+/// - `NotAUid`: the uid is invalid.
+/// - `NoEntity`: the store has no entity with the uid.
+/// - `NoMemory`: an allocation failed.
+///
+/// After an error nothing has changed.
 #[unsafe(no_mangle)]
 pub extern "C" fn cedar_store_keys(alloc: Global, handle: &mut Store, uid: &[u8]) -> u32
     ensures { Changes (AnswersAt (AreKeysOf attrs_of) uid.now) handle.old.held.value result handle.new.held.value }
@@ -146,7 +208,16 @@ pub extern "C" fn cedar_store_keys(alloc: Global, handle: &mut Store, uid: &[u8]
     status_of(answer)
 }
 
-/// The keys of the tags of the entity with a uid become the answer, in byte order.
+/// Stores the keys of the tags of the entity with a uid as the answer, in byte order.
+///
+/// # Status
+///
+/// - `Closed`: the handle is closed.
+/// - `NotAUid`: the uid is invalid.
+/// - `NoEntity`: the store has no entity with the uid.
+/// - `NoMemory`: an allocation failed.
+///
+/// After an error nothing has changed.
 #[unsafe(no_mangle)]
 pub extern "C" fn cedar_store_tag_keys(alloc: Global, handle: &mut Store, uid: &[u8]) -> u32
     ensures { Changes (AnswersAt (AreKeysOf tags_of) uid.now) handle.old.held.value result handle.new.held.value }
@@ -159,7 +230,16 @@ pub extern "C" fn cedar_store_tag_keys(alloc: Global, handle: &mut Store, uid: &
     status_of(answer)
 }
 
-/// How many attributes the entity with a uid has, in `count`.
+/// Writes the number of attributes of the entity with a uid to `count`.
+///
+/// # Status
+///
+/// - `Closed`: the handle is closed.
+/// - `NotAUid`: the uid is invalid.
+/// - `NoEntity`: the store has no entity with the uid.
+/// - `NoMemory`: an allocation failed.
+///
+/// After an error nothing is written.
 #[unsafe(no_mangle)]
 pub extern "C" fn cedar_store_attrs_len(
     alloc: Global,
@@ -179,7 +259,16 @@ pub extern "C" fn cedar_store_attrs_len(
     tell_value(told, count)
 }
 
-/// How many tags the entity with a uid has, in `count`.
+/// Writes the number of tags of the entity with a uid to `count`.
+///
+/// # Status
+///
+/// - `Closed`: the handle is closed.
+/// - `NotAUid`: the uid is invalid.
+/// - `NoEntity`: the store has no entity with the uid.
+/// - `NoMemory`: an allocation failed.
+///
+/// After an error nothing is written.
 #[unsafe(no_mangle)]
 pub extern "C" fn cedar_store_tags_len(
     alloc: Global,
@@ -199,7 +288,16 @@ pub extern "C" fn cedar_store_tags_len(
     tell_value(told, count)
 }
 
-/// Whether two stores have deeply equal entities with a uid, in `answer`.
+/// Writes to `answer` whether the entities with a uid are deeply equal in both stores.
+///
+/// # Status
+///
+/// - `Closed`: one of the handles is closed.
+/// - `NotAUid`: the uid is invalid.
+/// - `NoEntity`: one of the stores has no entity with the uid.
+/// - `NoMemory`: an allocation failed.
+///
+/// After an error nothing is written.
 #[unsafe(no_mangle)]
 pub extern "C" fn cedar_store_entity_equal(
     alloc: Global,
@@ -226,7 +324,14 @@ pub extern "C" fn cedar_store_entity_equal(
     tell(told, answer)
 }
 
-/// The text of the store becomes the answer.
+/// Stores the text of the store, from its `Display`, as the answer.
+///
+/// # Status
+///
+/// - `Closed`: the handle is closed.
+/// - `NoMemory`: an allocation failed.
+///
+/// After an error nothing has changed.
 #[unsafe(no_mangle)]
 pub extern "C" fn cedar_store_text(alloc: Global, handle: &mut Store) -> u32
     ensures { Changes (AnswersOf (λ _ texts. IsOneText texts)) handle.old.held.value result handle.new.held.value }
@@ -239,7 +344,16 @@ pub extern "C" fn cedar_store_text(alloc: Global, handle: &mut Store) -> u32
     status_of(answer)
 }
 
-/// The text of the entity with a uid becomes the answer.
+/// Stores the text of the entity with a uid, from its `Display`, as the answer.
+///
+/// # Status
+///
+/// - `Closed`: the handle is closed.
+/// - `NotAUid`: the uid is invalid.
+/// - `NoEntity`: the store has no entity with the uid.
+/// - `NoMemory`: an allocation failed.
+///
+/// After an error nothing has changed.
 #[unsafe(no_mangle)]
 pub extern "C" fn cedar_store_entity_text(alloc: Global, handle: &mut Store, uid: &[u8]) -> u32
     ensures { Changes

@@ -1,4 +1,5 @@
-//! Calls on handles of stores with the content of entities: attributes, tags and indirect ancestors, with values as nodes.
+//! Calls on handles of stores with the content of entities: attributes, tags and indirect ancestors. Values are encoded
+//! as nodes.
 ghost use Rattle.std.specs.Prelude.{◌≡◌};
 ghost use Rattle.cedar_c_stores.specs.Contents.{AddsLaid, BuildsLaid, UpsertsLaid};
 ghost use Rattle.cedar_c_stores.specs.Reads.{attrs_of, tags_of};
@@ -13,8 +14,23 @@ use cedar_c_stores::{Content, EntityLists, Term};
 use cedar_c_trees::Node;
 use std::alloc::Global;
 
-/// The entities that lists say become the store, each with the indirect ancestors that the edges `above` from its place
-/// lead to, and with the attributes and tags that the terms of its place say, whose values are nodes.
+/// Replaces the store by the entities in lists, as `cedar_store_build` does. The edges `above` lead from entities to
+/// indirect ancestors. The terms are attributes and tags, with values in the nodes.
+///
+/// # Status
+///
+/// - `Closed`: the handle is closed.
+/// - `BadArgument`: there is no mode with this number, there are fewer uids than entities, or a part, an edge, a term
+///   or the nodes of a term are out of range.
+/// - `NotAUid`: a uid is invalid.
+/// - `NotUtf8`: a key is not UTF-8.
+/// - The errors of `partial_value_of` for the nodes of a term.
+/// - `Duplicate`: two entities have the same uid, but are not deeply equal.
+/// - `Cycle`: an entity reaches itself.
+/// - `NotClosed`: an ancestor of an ancestor is missing, in the mode `EnforceAlreadyComputed`.
+/// - `NoMemory`: an allocation failed.
+///
+/// After an error the store is unchanged. The text of an error of the store becomes the text of the last error.
 #[unsafe(no_mangle)]
 pub extern "C" fn cedar_store_build_with(
     alloc: Global,
@@ -57,7 +73,24 @@ pub extern "C" fn cedar_store_build_with(
     status_of(answer)
 }
 
-/// The entities that lists say, with content, are added to the store.
+/// Adds the entities in lists with their content, as `cedar_store_add` does. The content has the form that
+/// `cedar_store_build_with` takes.
+///
+/// # Status
+///
+/// - `Closed`: the handle is closed.
+/// - `BadArgument`: there is no mode with this number, there are fewer uids than entities, or a part, an edge, a term
+///   or the nodes of a term are out of range.
+/// - `NotAUid`: a uid is invalid.
+/// - `NotUtf8`: a key is not UTF-8.
+/// - The errors of `partial_value_of` for the nodes of a term.
+/// - `Duplicate`: two entities have the same uid, but are not deeply equal.
+/// - `Cycle`: an entity reaches itself.
+/// - `NotClosed`: an ancestor of an ancestor is missing, in the mode `EnforceAlreadyComputed`.
+/// - `NoMemory`: an allocation failed.
+///
+/// After an error the store is unchanged. Only an allocation failure can instead leave it empty, and partial exactly if
+/// it was partial before. The text of an error of the store becomes the text of the last error.
 #[unsafe(no_mangle)]
 pub extern "C" fn cedar_store_add_with(
     alloc: Global,
@@ -100,7 +133,22 @@ pub extern "C" fn cedar_store_add_with(
     status_of(answer)
 }
 
-/// The entities that lists say, with content, are put over what the store holds.
+/// Upserts the entities in lists with their content, as `cedar_store_upsert` does. The content has the form that
+/// `cedar_store_build_with` takes.
+///
+/// # Status
+///
+/// - `Closed`: the handle is closed.
+/// - `BadArgument`: there is no mode with this number, there are fewer uids than entities, or a part, an edge, a term
+///   or the nodes of a term are out of range.
+/// - `NotAUid`: a uid is invalid.
+/// - `NotUtf8`: a key is not UTF-8.
+/// - The errors of `partial_value_of` for the nodes of a term.
+/// - `Cycle`, `NotClosed`: the ancestors are invalid, as in `cedar_store_build`.
+/// - `NoMemory`: an allocation failed.
+///
+/// After an error the store is unchanged. Only an allocation failure can instead leave it empty, and partial exactly if
+/// it was partial before. The text of an error of the store becomes the text of the last error.
 #[unsafe(no_mangle)]
 pub extern "C" fn cedar_store_upsert_with(
     alloc: Global,
@@ -143,8 +191,18 @@ pub extern "C" fn cedar_store_upsert_with(
     status_of(answer)
 }
 
-/// Whether the entity with a uid has an attribute at a key, in `has`. Where it has, its partial value becomes the nodes
-/// that the handle keeps, and the text that they stand over the answer.
+/// Writes to `has` whether the entity with a uid has an attribute at a key. If it has, stores the nodes of its partial
+/// value, and their text as the answer.
+///
+/// # Status
+///
+/// - `Closed`: the handle is closed.
+/// - `NotAUid`: the uid is invalid.
+/// - `NoEntity`: the store has no entity with the uid.
+/// - `NotUtf8`: the key is not UTF-8.
+/// - `NoMemory`: an allocation failed.
+///
+/// After an error nothing has changed.
 #[unsafe(no_mangle)]
 pub extern "C" fn cedar_store_get(
     alloc: Global,
@@ -164,7 +222,18 @@ pub extern "C" fn cedar_store_get(
     tell(told, has)
 }
 
-/// Whether the entity with a uid has a tag at a key, told and kept as an attribute is.
+/// Writes to `has` whether the entity with a uid has a tag at a key. Stores the nodes and their text as
+/// `cedar_store_get` does.
+///
+/// # Status
+///
+/// - `Closed`: the handle is closed.
+/// - `NotAUid`: the uid is invalid.
+/// - `NoEntity`: the store has no entity with the uid.
+/// - `NotUtf8`: the key is not UTF-8.
+/// - `NoMemory`: an allocation failed.
+///
+/// After an error nothing has changed.
 #[unsafe(no_mangle)]
 pub extern "C" fn cedar_store_get_tag(
     alloc: Global,
@@ -184,8 +253,8 @@ pub extern "C" fn cedar_store_get_tag(
     tell(told, has)
 }
 
-/// Copies the nodes of the last value that was read, from the node at a place on, as many as there is room for, and tells
-/// how many there are in all; a closed handle has none.
+/// Copies the nodes of the last value, from position `from` on, as many as fit. Returns the number of all nodes, which
+/// is 0 for a closed handle.
 #[unsafe(no_mangle)]
 pub extern "C" fn cedar_store_answer_nodes(
     alloc: Global,

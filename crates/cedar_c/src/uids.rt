@@ -1,12 +1,19 @@
-//! Uids that are made of a type and an id, and taken apart into both. No handle is asked for.
+//! Calls that create the text of a uid from a type and an id, and split it into both. They need no handle.
 ghost use Rattle.cedar_c.specs.UidCalls.{MakesUidText, TakesUidApart};
 
 use crate::copying::copy_out;
 use cedar_c_lists::{parts_of, uid_text};
 use std::alloc::Global;
 
-/// Writes the text of the uid with the type that a text is the name of and an id, as much as there is room for, and
-/// tells its length in `told`.
+/// Writes the text of the uid with a type and an id, as much as fits, to `out`, and its whole length to `told`.
+///
+/// # Status
+///
+/// - `NotAName`: the text of the type is not a name.
+/// - `NotUtf8`: the id is not UTF-8.
+/// - `NoMemory`: an allocation failed.
+///
+/// After an error nothing is written.
 #[unsafe(no_mangle)]
 pub extern "C" fn cedar_uid_make(
     alloc: Global,
@@ -26,8 +33,15 @@ pub extern "C" fn cedar_uid_make(
     }
 }
 
-/// Writes the text of a uid's type with the bytes of its id behind it, as much as there is room for, and tells the
-/// length of the first in `type_len` and that of both in `told`.
+/// Writes the text of the type of a uid, followed by the bytes of its id, as much as fits, to `out`. Writes the length
+/// of the type to `type_len`, and the length of both to `told`.
+///
+/// # Status
+///
+/// - `NotAUid`: the text is not the text of a uid.
+/// - `NoMemory`: an allocation failed.
+///
+/// After an error nothing is written.
 #[unsafe(no_mangle)]
 pub extern "C" fn cedar_uid_parts(
     alloc: Global,

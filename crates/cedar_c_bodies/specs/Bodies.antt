@@ -1,4 +1,4 @@
--- The bodies that a caller gives by numbers, by parts of a text and by nodes over it.
+-- Bodies that a caller passes as numbers, parts of a text, and nodes over the text.
 use Rattle.std.specs.Prelude.{◌≡◌, ℕ, List, [], Option, Some, None}
 use Rattle.std.specs.Str.{IsUtf8}
 use Rattle.cedar_terms.specs.ExprTree.{ExprTree}
@@ -20,7 +20,7 @@ use Rattle.cedar_c_bodies.specs.declared.layout.AnnotationAt.{AnnotationAt}
 use Rattle.cedar_c_bodies.specs.declared.layout.Body.{Body}
 use Rattle.cedar_c_bodies.specs.declared.layout.BodyLists.{BodyLists}
 
--- what a caller gives: a text, numbers and parts of it, annotations, the uids of an action, and the nodes of a clause
+-- The input of a caller: a text, numbers and spans, annotations, the uids of an action, and the nodes of a clause.
 pub record Given : Type 0 where
   pub text : List ℕ
   pub body : Body
@@ -28,7 +28,7 @@ pub record Given : Type 0 where
   pub uids : List Span
   pub nodes : List Node
 
--- what lists say
+-- The input in the lists of a caller.
 abbrev pub given_by : BodyLists → Given
 given_by l = record {
   text = l.text.now;
@@ -38,25 +38,25 @@ given_by l = record {
   nodes = l.nodes.now;
 }
 
--- the number of each effect, and why a number is taken as none
+-- The number of each effect.
 abbrev pub IsEffect : ℕ → Effect → Type 0
 IsEffect n Permit = n ≡ 0
 IsEffect n Forbid = n ≡ 1
 
--- the number is that of no effect
+-- Holds if the number is not the number of an effect; the reason is `BadArgument`.
 abbrev pub IsNoEffect : ℕ → Reason → Type 0
 IsNoEffect n w = (w ≡ reasons.BadArgument) × ((e : Effect) → IsEffect n e → ⊥)
 
--- no clause, where there are no nodes; else the expression that they are read as
+-- The clause of the nodes: none if there are no nodes, and otherwise the decoded expression.
 abbrev pub IsClauseAt : List ℕ → List Node → Option ExprTree → Type 0
 IsClauseAt text nodes None = nodes ≡ []
 IsClauseAt text nodes (Some e) = IsReadAs Joins text nodes e
 
--- why that is not read
+-- Holds if w is the reason why the nodes are not decoded.
 abbrev pub IsNoClauseAt : List ℕ → List Node → Reason → Type 0
 IsNoClauseAt text nodes w = (nodes ≡ [] → ⊥) × IsRefused StandsInExpr text nodes w
 
--- a body is what a caller gives, with these bytes as its id
+-- Holds if b is the body in the input of a caller, with these bytes as its id.
 pub record IsGiven (id : List ℕ) (G : Given) (b : BodyParts) : Type 0 where
   pub utf8 : IsUtf8 id
   pub named : b.id ≡ id
@@ -67,7 +67,7 @@ pub record IsGiven (id : List ℕ) (G : Given) (b : BodyParts) : Type 0 where
   pub resource : IsConstraintAt G.text G.body.resource b.resource
   pub clause : IsClauseAt G.text G.nodes b.clause
 
--- why what a caller gives is not read as a body
+-- The reasons why the input of a caller is not a body.
 pub data IsNotGiven (id : List ℕ) (G : Given) (w : Reason) : Type 0 where
   no_memory : w ≡ reasons.NoMemory → IsNotGiven id G w
   no_effect : IsNoEffect G.body.effect w → IsNotGiven id G w

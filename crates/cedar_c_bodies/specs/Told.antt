@@ -1,4 +1,4 @@
--- What principal, action and resource have to be, told by a number and by texts.
+-- Constraints of principal, action and resource as a number and texts.
 use Rattle.std.specs.Prelude.{◌≡◌, ℕ, List, [], ◌∷◌}
 use Rattle.std.specs.List.{AllZip}
 use Rattle.std.specs.Option.{IfSome}
@@ -8,19 +8,19 @@ use Rattle.cedar_ids.specs.Uid.{UidParts}
 use Rattle.cedar_scope.specs.Scope.{Constraint, any, within, equals, of_type, of_type_within, to_uid, to_slot}
 use Rattle.cedar_action.specs.Rules.{ActionRule, any_action, among, just, among_slot, just_slot}
 
--- a text of a uid: where no byte of its eid is past ASCII, the one that it is written as
+-- Holds if the text is a text of the uid: the printed uid if the eid is ASCII, and any text otherwise.
 abbrev pub IsUidText : UidParts → List ℕ → Type 0
 IsUidText u text = IfSome (uid_output u) (λ t. text ≡ t)
 
--- one such text
+-- Holds if the list has one text of the uid.
 abbrev pub IsOneUid : UidParts → List (List ℕ) → Type 0
 IsOneUid u texts = (t : List ℕ) × IsUidText u t × (texts ≡ t ∷ [])
 
--- the texts of a type and of a uid
+-- Holds if the list has the text of the type and a text of the uid.
 abbrev pub IsTypeAndUid : NameParts → UidParts → List (List ℕ) → Type 0
 IsTypeAndUid t u texts = (x : List ℕ) × IsUidText u x × (texts ≡ printed_name t ∷ x ∷ [])
 
--- the number of a constraint, and the texts that it has: of its type, and behind that of its uid
+-- Holds if n is the kind of the constraint, and the texts are the texts of its type and its uid, in this order.
 abbrev pub TellsConstraint : Constraint → ℕ → List (List ℕ) → Type 0
 TellsConstraint any n texts = (n ≡ 0) × (texts ≡ [])
 TellsConstraint (equals (to_uid u)) n texts = (n ≡ 1) × IsOneUid u texts
@@ -31,7 +31,7 @@ TellsConstraint (of_type t) n texts = (n ≡ 5) × (texts ≡ printed_name t ∷
 TellsConstraint (of_type_within t (to_uid u)) n texts = (n ≡ 6) × IsTypeAndUid t u texts
 TellsConstraint (of_type_within t to_slot) n texts = (n ≡ 7) × (texts ≡ printed_name t ∷ [])
 
--- the number of what an action has to be, and the texts of its uids
+-- Holds if n is the kind of the constraint of an action, and the texts are the texts of its uids.
 abbrev pub TellsRule : ActionRule → ℕ → List (List ℕ) → Type 0
 TellsRule any_action n texts = (n ≡ 0) × (texts ≡ [])
 TellsRule (just u) n texts = (n ≡ 1) × IsOneUid u texts

@@ -1,4 +1,4 @@
-//! Annotations, by parts of a text.
+//! Annotations from parts of a text.
 ghost use Rattle.std.specs.Prelude.{MatchResult};
 ghost use Rattle.cedar_ids.specs.TextOf.{IsIdentifierText};
 ghost use Rattle.cedar_c_trees.specs.Reads.{IsTextAt};
@@ -13,7 +13,12 @@ use cedar_ids::id::AnyId;
 use std::alloc::Global;
 use std::str;
 
-/// The key of an annotation that bytes are. Takes memory for it; `NotAName` comes where they are no identifier's.
+/// Parses the key of an annotation.
+///
+/// # Errors
+///
+/// - `NotAName`: the bytes are not an identifier.
+/// - `NoMemory`: an allocation failed.
 pub fn key_of(alloc: Global, text: &[u8]) -> Result<AnyId, Reason>
     ensures { MatchResult result (λ k. IsIdentifierText k text.now) (IsNoKey text.now) }
 {
@@ -28,7 +33,7 @@ pub fn key_of(alloc: Global, text: &[u8]) -> Result<AnyId, Reason>
     }
 }
 
-// The key of an annotation that a part of a text is.
+// Parses the key of an annotation in a part of a text.
 fn key_at(alloc: Global, text: &[u8], at: Span) -> Result<AnyId, Reason>
     ensures { MatchResult result (IsKeyAt text.now at) (IsNoKeyAt text.now at) }
 {
@@ -37,7 +42,7 @@ fn key_at(alloc: Global, text: &[u8], at: Span) -> Result<AnyId, Reason>
     Ok(key)
 }
 
-// The value of an annotation that a part of a text is.
+// Reads the value of an annotation in a part of a text.
 fn value_at(alloc: Global, text: &[u8], at: Span) -> Result<Annotation, Reason>
     ensures { MatchResult result (IsTextAt text.now at) (IsNoValueAt text.now at) }
 {
@@ -49,7 +54,7 @@ fn value_at(alloc: Global, text: &[u8], at: Span) -> Result<Annotation, Reason>
     Ok(Annotation { val, loc: None })
 }
 
-// A key with its value.
+// Reads a key and its value.
 fn pair_at(alloc: Global, text: &[u8], at: AnnotationAt) -> Result<(AnyId, Annotation), Reason>
     ensures { MatchResult result (λ p. IsPairAt text.now p at) (IsNoPairAt text.now at) }
 {
@@ -58,7 +63,7 @@ fn pair_at(alloc: Global, text: &[u8], at: AnnotationAt) -> Result<(AnyId, Annot
     Ok((key, value))
 }
 
-// Keys with their values.
+// Reads keys and their values.
 fn pairs_at(
     alloc: Global,
     text: &[u8],
@@ -75,7 +80,7 @@ fn pairs_at(
     Ok(pairs)
 }
 
-// Annotations, of which the last with a key counts.
+// Reads annotations. For a repeated key the last one is used.
 pub(crate) fn annotations_at(
     alloc: Global,
     text: &[u8],

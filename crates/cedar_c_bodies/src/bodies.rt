@@ -1,4 +1,4 @@
-//! Bodies, by the lists of a caller.
+//! Bodies from the lists of a caller.
 ghost use Rattle.std.specs.Prelude.{MatchResult};
 ghost use Rattle.cedar_c_bodies.specs.Bodies.{IsClauseAt, IsEffect, IsGiven, IsNoClauseAt, IsNoEffect, IsNotGiven};
 ghost use Rattle.cedar_c_bodies.specs.Bodies.{given_by};
@@ -14,7 +14,11 @@ use cedar_scope::{PrincipalConstraint, ResourceConstraint};
 use cedar_terms::Expr;
 use std::alloc::Global;
 
-/// The effect of a number: 0 permits, 1 forbids. `BadArgument` comes where it is none's. Takes no memory.
+/// Returns the effect with a number: 0 is permit, 1 is forbid. Does not allocate.
+///
+/// # Errors
+///
+/// - `BadArgument`: the number is neither 0 nor 1.
 pub fn effect_of(number: u32) -> Result<Effect, Reason>
     ensures { MatchResult result (IsEffect number) (IsNoEffect number) }
 {
@@ -25,7 +29,7 @@ pub fn effect_of(number: u32) -> Result<Effect, Reason>
     }
 }
 
-// The clause, if there are nodes.
+// Decodes the clause, if there are nodes.
 fn clause_at(alloc: Global, text: &[u8], nodes: &[Node]) -> Result<Option<Expr>, Reason>
     ensures { MatchResult result (IsClauseAt text.now nodes.now) (IsNoClauseAt text.now nodes.now) }
 {
@@ -36,12 +40,21 @@ fn clause_at(alloc: Global, text: &[u8], nodes: &[Node]) -> Result<Option<Expr>,
     Ok(Some(clause))
 }
 
-/// The body that a caller gives, with these bytes as its id. It may have slots, or none.
+/// Decodes a body from the lists of a caller, with these bytes as its id. The body may have slots.
 ///
-/// `BadArgument` comes where the effect or a constraint is none's number, where a part that is looked at does not lie
-/// within the text, and where there are nodes that are no expression's; `NotAUid`, `NotAName` and `NotUtf8` where what
-/// stands in such a part is no uid, no type's name or no annotation's key, or no text; `NotUtf8` for the id; and what
-/// `expr_of` refuses. Takes memory, linear in the lists and in what they say, but for sorting the keys.
+/// # Errors
+///
+/// - `BadArgument`: the number of the effect or of a constraint is invalid, a span is not within the text, or the nodes
+///   are not the nodes of an expression.
+/// - `NotAUid`: a part is not the text of a uid.
+/// - `NotAName`: a part is not the name of a type or the key of an annotation.
+/// - `NotUtf8`: the id or the value of an annotation is not UTF-8.
+/// - `NoMemory`: an allocation failed.
+/// - The errors of `expr_of`.
+///
+/// # Complexity
+///
+/// Linear in the lists and in the result, apart from sorting the keys.
 pub fn template_of(alloc: Global, id: &[u8], lists: BodyLists<'_>) -> Result<Template, Reason>
     ensures { MatchResult result (IsGiven id.now (given_by lists.entry)) (IsNotGiven id.now (given_by lists.entry)) }
 {

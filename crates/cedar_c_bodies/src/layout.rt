@@ -1,18 +1,27 @@
-//! How a body crosses: a text, of which all else is a part, numbers, and lists.
+//! The encoding of a body: a text with the spans of its parts, numbers, and lists.
 use cedar_c_lists::Span;
 use cedar_c_trees::Node;
 
-/// What a policy asks of the principal, of the action or of the resource.
+/// The constraint of the principal, the action or the resource.
 #[repr(C)]
 #[derive(Clone, Copy, Debug)]
 pub struct Scope {
-    /// What it has to be: 0 anything; 1 equal to the uid, 2 to what its slot is bound to; 3 in the uid, 4 in what its
-    /// slot is bound to; 5 of the type, 6 of the type and in the uid, 7 of the type and in what its slot is bound to.
-    /// An action has no type, and 3 says that it is in one of the uids of the list beside.
+    /// The kind of the constraint:
+    ///
+    /// - 0: anything
+    /// - 1: equal to the uid
+    /// - 2: equal to the uid bound to the slot
+    /// - 3: in the uid
+    /// - 4: in the uid bound to the slot
+    /// - 5: of the type
+    /// - 6: of the type and in the uid
+    /// - 7: of the type and in the uid bound to the slot
+    ///
+    /// An action has no kind above 4, and 3 means that it is in one of the uids of the separate list.
     pub kind: u32,
-    /// Where the uid stands; not looked at where the kind has none.
+    /// The span of the uid. Not read if the kind has no uid.
     pub uid: Span,
-    /// Where the name of the type stands; not looked at where the kind has none.
+    /// The span of the name of the type. Not read if the kind has no type.
     pub ty: Span,
 }
 
@@ -20,37 +29,37 @@ pub struct Scope {
 #[repr(C)]
 #[derive(Clone, Copy, Debug)]
 pub struct AnnotationAt {
-    /// Where its key stands.
+    /// The span of its key.
     pub key: Span,
-    /// Where its value stands.
+    /// The span of its value.
     pub value: Span,
 }
 
-/// What a body is, but for its id, its annotations, the uids of its action and its clause.
+/// A body, without its id, its annotations, the uids of its action and its clause.
 #[repr(C)]
 #[derive(Clone, Copy, Debug)]
 pub struct Body {
-    /// The effect: 0 permits, 1 forbids.
+    /// The effect: 0 is permit, 1 is forbid.
     pub effect: u32,
-    /// What the principal has to be.
+    /// The constraint of the principal.
     pub principal: Scope,
-    /// What the action has to be.
+    /// The constraint of the action.
     pub action: Scope,
-    /// What the resource has to be.
+    /// The constraint of the resource.
     pub resource: Scope,
 }
 
-/// The body that a caller gives, and the lists beside it.
+/// A body as a caller passes it, with its lists.
 #[derive(Clone, Copy)]
 pub struct BodyLists<'a> {
-    /// The text that all else is a part of.
+    /// The text that contains all spans.
     pub text: &'a [u8],
-    /// The effect, and what principal, action and resource have to be.
+    /// The effect and the constraints.
     pub body: Body,
-    /// The annotations; of several with one key the last counts.
+    /// The annotations. For a repeated key the last one is used.
     pub annotations: &'a [AnnotationAt],
-    /// The uids of which the action has to be in one, where it has to.
+    /// The uids of the action constraint of kind 3.
     pub uids: &'a [Span],
-    /// The nodes of the clause, each behind all that stands below it; none where there is no clause.
+    /// The nodes of the clause, each after its operands. Empty if there is no clause.
     pub nodes: &'a [Node],
 }

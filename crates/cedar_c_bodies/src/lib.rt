@@ -1,5 +1,5 @@
-//! The bodies of policies and templates as callers in C give them: numbers, parts of one text, and nodes over it. No
-//! policy set and no handle is known here.
+//! The bodies of policies and templates as callers in C pass them: numbers, parts of one text, and nodes over the text.
+//! This crate does not depend on policy sets or handles.
 #![tactic(auto)]
 
 mod annotated;

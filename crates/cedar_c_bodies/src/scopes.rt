@@ -1,4 +1,4 @@
-//! What principal, action and resource have to be, by a number and by parts of a text.
+//! Constraints of principal, action and resource from a number and parts of a text.
 ghost use Rattle.std.specs.Prelude.{MatchResult};
 ghost use Rattle.cedar_ids.specs.UidOf.{uid_parts};
 ghost use Rattle.cedar_ids.specs.Views.{type_name};
@@ -16,7 +16,7 @@ use cedar_scope::PrincipalOrResourceConstraint;
 use std::alloc::Global;
 use std::rc::Rc;
 
-// The uid that a part of a text is, to be shared.
+// Parses the uid in a part of a text, to be shared.
 fn shared_at(alloc: Global, text: &[u8], at: Span) -> Result<Rc<EntityUID>, Reason>
     ensures { MatchResult result (λ u. SaysUid text.now at (uid_parts u.value)) (IsUnreadAt text.now at) }
 {
@@ -25,7 +25,7 @@ fn shared_at(alloc: Global, text: &[u8], at: Span) -> Result<Rc<EntityUID>, Reas
     Ok(shared)
 }
 
-// The type that a part of a text is the name of, to be shared.
+// Parses the name of a type in a part of a text, to be shared.
 fn type_at(alloc: Global, text: &[u8], at: Span) -> Result<Rc<EntityType>, Reason>
     ensures { MatchResult result (λ t. IsNameAt text.now at (type_name t.value)) (IsNoTypeAt text.now at) }
 {
@@ -35,7 +35,7 @@ fn type_at(alloc: Global, text: &[u8], at: Span) -> Result<Rc<EntityType>, Reaso
     Ok(shared)
 }
 
-// What a principal or a resource has to be.
+// Decodes the constraint of a principal or a resource.
 pub(crate) fn constraint_at(
     alloc: Global,
     text: &[u8],
@@ -73,7 +73,7 @@ pub(crate) fn constraint_at(
     }
 }
 
-// What an action has to be.
+// Decodes the constraint of an action.
 pub(crate) fn rule_at(
     alloc: Global,
     text: &[u8],

@@ -1,4 +1,4 @@
-//! What principal, action and resource have to be, told by a number and by texts.
+//! Constraints of principal, action and resource as a number and texts.
 ghost use Rattle.std.specs.Prelude.{◌≡◌, ◌∷◌, [], IfOk, map};
 ghost use Rattle.std.specs.List.{AllZip};
 ghost use Rattle.cedar_ids.specs.Printed.{printed_name};
@@ -15,14 +15,14 @@ use cedar_scope::{EntityReference, PrincipalOrResourceConstraint};
 use std::alloc::{AllocError, Global};
 use std::rc::Rc;
 
-// The text of a uid.
+// Returns the text of a uid.
 fn uid_text(alloc: Global, uid: &EntityUID) -> Result<Answer, AllocError>
     ensures { IfOk result (IsOneUid (uid_parts uid.now)) }
 {
     with_uid(alloc, Answer::new(alloc), uid)
 }
 
-// The texts of uids.
+// Returns the texts of uids.
 fn uid_texts(alloc: Global, uids: &[Rc<EntityUID>]) -> Result<Answer, AllocError>
     ensures { IfOk result (AllZip IsUidText (map (λ u. uid_parts u.value) uids.now)) }
 {
@@ -33,7 +33,7 @@ fn uid_texts(alloc: Global, uids: &[Rc<EntityUID>]) -> Result<Answer, AllocError
     Ok(answer)
 }
 
-// The text of a type.
+// Returns the text of a type.
 fn type_text(alloc: Global, ty: &EntityType) -> Result<Answer, AllocError>
     ensures { IfOk result (λ a. a ≡ printed_name (type_name ty.now) ∷ []) }
 {
@@ -41,7 +41,7 @@ fn type_text(alloc: Global, ty: &EntityType) -> Result<Answer, AllocError>
     Answer::new(alloc).with(text.as_bytes())
 }
 
-// The texts of a type and of a uid.
+// Returns the texts of a type and of a uid.
 fn type_and_uid(alloc: Global, ty: &EntityType, uid: &EntityUID) -> Result<Answer, AllocError>
     ensures { IfOk result (IsTypeAndUid (type_name ty.now) (uid_parts uid.now)) }
 {
@@ -49,8 +49,12 @@ fn type_and_uid(alloc: Global, ty: &EntityType, uid: &EntityUID) -> Result<Answe
     with_uid(alloc, texts, uid)
 }
 
-/// The kind of what a principal or a resource has to be, as `Scope` numbers it, and the texts of its type and its uid.
-/// Takes memory for the texts, and is refused only where that is.
+/// Returns the kind of the constraint of a principal or a resource (see [`Scope`](crate::layout::Scope)), and the texts
+/// of its type and its uid.
+///
+/// # Errors
+///
+/// Returns `AllocError` if an allocation fails.
 pub fn constraint_told(
     alloc: Global,
     constraint: &PrincipalOrResourceConstraint,
@@ -84,8 +88,11 @@ pub fn constraint_told(
     }
 }
 
-/// The kind of what an action has to be, as `Scope` numbers it, and the texts of its uids. Takes memory for the texts,
-/// and is refused only where that is.
+/// Returns the kind of the constraint of an action (see [`Scope`](crate::layout::Scope)), and the texts of its uids.
+///
+/// # Errors
+///
+/// Returns `AllocError` if an allocation fails.
 pub fn rule_told(alloc: Global, rule: &ActionConstraint) -> Result<(u32, Answer), AllocError>
     ensures { IfOk result (λ r. TellsRule (rule_of rule.now) r.0 r.1) }
 {

@@ -1,4 +1,4 @@
--- Texts that are written one after another, and read back by their places.
+-- Texts that are written one after another, and read back by their spans.
 use Rattle.std.proofs.Common.{◌≡◌, ap, sym, refl, ◌∙◌, ◌++◌, ◌+◌, ◌-◌, ℕ, List, [], ◌∷◌, length, map, take, drop, arith}
 use Rattle.std.proofs.Math.Seq.{drop-append_seam, take-append_seam}
 use Rattle.std.proofs.lemmas.List.{append-nil, length-append}
@@ -7,23 +7,20 @@ use Rattle.std.specs.List.{concat}
 use Rattle.cedar_c_lists.specs.Answers.{IsLaid, part, spans_from, texts_in}
 use Rattle.cedar_c_lists.specs.declared.layout.Span.{Span}
 
--- lists joined in another order
 append_assoc : {A : Type 0} (xs ys zs : List A) → (xs ++ ys) ++ zs ≡ xs ++ (ys ++ zs)
 append_assoc [] ys zs = refl
 append_assoc (x ∷ xs) ys zs = ap (λ l. x ∷ l) (append_assoc xs ys zs)
 
--- a number less another that was added to it
 minus_plus : (n m : ℕ) → (n + m) - n ≡ m
 minus_plus n m = omega arith
 
--- a sum of three
 plus_assoc : (a b c : ℕ) → a + b + c ≡ a + (b + c)
 plus_assoc a b c = omega arith
 
 zero_plus : (n : ℕ) → n ≡ 0 + n
 zero_plus n = omega arith
 
--- the text that stands behind some bytes, and before others
+-- The span of a text after some bytes has that text.
 part_behind : (pre t rest : List ℕ)
     → part (pre ++ (t ++ rest)) (record { start = length pre; end = length pre + length t }) ≡ t
 part_behind pre t rest =
@@ -31,7 +28,7 @@ part_behind pre t rest =
     ∙ ap (take (length t)) (drop-append_seam pre (t ++ rest))
     ∙ take-append_seam t rest
 
--- texts that stand behind some bytes are read back
+-- Texts after some bytes are read back.
 read_behind : (pre : List ℕ) (ts : List (List ℕ)) → texts_in (pre ++ concat ts) (spans_from (length pre) ts) ≡ ts
 read_behind pre [] = refl
 read_behind pre (t ∷ ts) =
@@ -42,12 +39,12 @@ read_behind pre (t ∷ ts) =
     ∙ ap (λ bs. texts_in bs (spans_from (length (pre ++ t)) ts)) (sym (append_assoc pre t (concat ts)))
     ∙ read_behind (pre ++ t) ts)
 
--- texts that are laid are read back
+-- Encoded texts are read back.
 pub read_back : (bytes : List ℕ) (spans : List Span) (ts : List (List ℕ)) → IsLaid bytes spans ts
     → texts_in bytes spans ≡ ts
 read_back bytes spans ts l = ap (λ bs. texts_in bs spans) l.0 ∙ ap (texts_in (concat ts)) l.1 ∙ read_behind [] ts
 
--- the places of texts and one more
+-- The spans of texts with one more text.
 spans_more : (k : ℕ) (ts : List (List ℕ)) (t : List ℕ)
     → spans_from k (ts ++ t ∷ []) ≡ spans_from k ts
     ++ record { start = k + length (concat ts); end = k + length (concat ts) + length t } ∷ []
@@ -58,7 +55,7 @@ spans_more k (u ∷ ts) t =
     ∙ ap (λ n. spans_from (k + length u) ts ++ record { start = n; end = n + length t } ∷ [])
     (plus_assoc k (length u) (length (concat ts)) ∙ ap (λ n. k + n) (sym (length-append u (concat ts)))))
 
--- bytes and places with one more text
+-- The encoding of one more text.
 pub laid_more : (bytes : List ℕ) (spans : List Span) (ts : List (List ℕ)) (t : List ℕ) → IsLaid bytes spans ts →
     IsLaid (bytes ++ t) (spans ++ record { start = length bytes; end = length (bytes ++ t) } ∷ []) (ts ++ t ∷ [])
 laid_more bytes spans ts t l = (
@@ -70,13 +67,13 @@ laid_more bytes spans ts t l = (
       ∙ sym (spans_more 0 ts t),
 )
 
--- a text more is read back behind the others
+-- One more text is read back after the others.
 pub read_more : (bytes : List ℕ) (spans : List Span) (t : List ℕ) → IsLaid bytes spans (texts_in bytes spans) →
     texts_in (bytes ++ t) (spans ++ record { start = length bytes; end = length (bytes ++ t) } ∷ [])
     ≡ texts_in bytes spans ++ t ∷ []
 read_more bytes spans t l = read_back _ _ _ (laid_more bytes spans (texts_in bytes spans) t l)
 
--- both, of bytes and places that are those of one more text
+-- The bytes and spans with one more text are its encoding.
 pub laid_with : (bytes bytes' t : List ℕ) (spans spans' : List Span) (start end : ℕ)
     → IsLaid bytes spans (texts_in bytes spans) →
     start ≡ length bytes → bytes' ≡ bytes ++ t → end ≡ length bytes'

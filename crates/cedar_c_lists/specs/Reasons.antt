@@ -1,9 +1,9 @@
--- Why calls are refused: the status and the words of each reason.
+-- The status and the text of each reason.
 use Rattle.std.specs.Prelude.{◌≡◌, ℕ, List, Bool, Result, Ok, Err, codes}
 use Rattle.cedar_c_lists.specs.declared.reason.Reason.{Reason}
 use Rattle.cedar_c_lists.specs.declared.reason.Reason.TheVariants as reasons
 
--- the status of a reason
+-- The status of a reason.
 abbrev pub number_of : Reason → ℕ
 number_of reasons.NoMemory = 1
 number_of reasons.Closed = 2
@@ -38,7 +38,7 @@ number_of reasons.NotActions = 30
 number_of reasons.UnknownFunction = 31
 number_of reasons.SlotlessLink = 32
 
--- the words of a reason, behind which its names stand
+-- The text of a reason. In an error text the names follow it.
 abbrev pub words_of : Reason → List ℕ
 words_of reasons.NoMemory = codes "out of memory"
 words_of reasons.Closed = codes "closed"
@@ -73,12 +73,13 @@ words_of reasons.NotActions = codes "uid of no action in"
 words_of reasons.UnknownFunction = codes "unknown function in"
 words_of reasons.SlotlessLink = codes "link without slots"
 
--- the status of an answer: 0 where the call was made
+-- The status of a result: 0 for `Ok`.
 abbrev pub status_of : {A : Type 0} → Result A Reason → ℕ
 status_of (Ok a) = 0
 status_of (Err w) = number_of w
 
--- the status of an answer, and a truth that is written where there is one and stays as it was where there is none
+-- Holds if the status is correct for a Boolean result. For `Ok` the new value is the Boolean, and otherwise it is the
+-- old value.
 abbrev pub Tells : Result Bool Reason → ℕ → Bool → Bool → Type 0
 Tells (Ok b) status old new = (status ≡ 0) × (new ≡ b)
 Tells (Err w) status old new = (status ≡ number_of w) × (new ≡ old)

@@ -1,4 +1,4 @@
--- Uids that are made of the text of a type and an eid, and taken apart into both.
+-- Uids from the text of a type and an eid, and the type and eid of a uid.
 use Rattle.std.specs.Prelude.{◌≡◌, ◌⊎◌, ◌++◌, ℕ, List, Result, Ok, Err, length}
 use Rattle.std.specs.Str.{IsUtf8}
 use Rattle.cedar_ids.specs.Name.{NameParts}
@@ -13,39 +13,39 @@ use Rattle.cedar_c_lists.specs.declared.reason.Reason.{Reason}
 use Rattle.cedar_c_lists.specs.declared.reason.Reason.TheVariants.{NoMemory, NotAName, NotUtf8}
 use Rattle.cedar_c_lists.specs.declared.uids.UidTexts.{UidTexts}
 
--- no name is written so
+-- Holds if the text is not a name.
 abbrev pub IsNoName : List ℕ → Type 0
 IsNoName text = IsUtf8 text → (n : NameParts) → IsNameText n text → ⊥
 
--- the type that a text is the name of, or why there is none
+-- The result of parsing the name of a type: the type, or the reason why there is none.
 abbrev pub ReadsType : Result EntityType Reason → List ℕ → Type 0
 ReadsType (Ok t) text = IsNameText (type_name t) text
 ReadsType (Err w) text = (w ≡ NoMemory) ⊎ ((w ≡ NotAName) × IsNoName text)
 
--- u has the type that a text is the name of, and these bytes as its eid
+-- Holds if u has the type with this name and the eid with these bytes.
 pub record IsMadeOf (u : EntityUID) (type eid : List ℕ) : Type 0 where
   pub named : IsNameText (uid_parts u).name type
   pub utf8 : IsUtf8 eid
   pub same : (uid_parts u).eid ≡ eid
 
--- why there is no such uid
+-- Holds if w is the reason why there is no uid with this type and eid.
 abbrev pub IsUnmade : List ℕ → List ℕ → Reason → Type 0
 IsUnmade type eid w = (w ≡ NoMemory) ⊎ (((w ≡ NotAName) × IsNoName type) ⊎ ((w ≡ NotUtf8) × (IsUtf8 eid → ⊥)))
 
--- a uid with the type that a text is the name of and these bytes as its eid, or why there is none
+-- The result of creating a uid from a type and an eid.
 abbrev pub MakesUid : Result EntityUID Reason → List ℕ → List ℕ → Type 0
 MakesUid (Ok u) type eid = IsMadeOf u type eid
 MakesUid (Err w) type eid = IsUnmade type eid w
 
--- a text is that of such a uid
+-- Holds if the text is a text of the uid with this type and eid.
 abbrev pub IsMadeText : List ℕ → List ℕ → List ℕ → Type 0
 IsMadeText type eid text = (u : EntityUID) × IsMadeOf u type eid × IsTextOf u text
 
--- the text of the type of a uid, and the bytes of its eid behind it
+-- The text of a uid's type followed by the bytes of its eid.
 abbrev pub uid_bytes : EntityUID → List ℕ
 uid_bytes u = printed_name (uid_parts u).name ++ (uid_parts u).eid
 
--- the bytes of a uid that is read of a text, and how many of them are its type's
+-- Holds if t has the texts of a uid parsed from the text, and the length of the type's text.
 abbrev pub IsApartOf : UidTexts → List ℕ → Type 0
 IsApartOf t text =
     (u : EntityUID) × IsReadOf u text × (t.bytes.items ≡ uid_bytes u)

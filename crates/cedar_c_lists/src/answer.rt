@@ -1,4 +1,4 @@
-//! Lists of texts that a caller is given: the bytes of all texts, one after another, and where each stands.
+//! Lists of texts that a caller receives: the bytes of all texts, one after another, and the span of each.
 ghost use Rattle.std.specs.Prelude.{◌≡◌, [], ◌∷◌, ◌++◌, IfOk, length};
 ghost use Rattle.std.specs.List.{concat};
 ghost use Rattle.cedar_c_lists.specs.Answers.{spans_from};
@@ -7,7 +7,7 @@ use crate::layout::Span;
 use std::alloc::{AllocError, Global};
 use std::marker::Model;
 
-/// Some texts. Contracts see the list of them.
+/// A list of texts. In contracts it is the list.
 #[derive(Drop)]
 pub struct Answer {
     bytes: Vec<u8>,
@@ -25,7 +25,7 @@ impl Model for Answer {
     ghost invariant = { λ a. IsLaid a.bytes.items a.spans.items (texts_in a.bytes.items a.spans.items) };
 }
 
-// The place behind the last byte.
+// Returns the position after the last byte.
 fn end_of(bytes: &Vec<u8>) -> usize
     ensures { result ≡ length bytes.now.items }
 {
@@ -33,7 +33,7 @@ fn end_of(bytes: &Vec<u8>) -> usize
 }
 
 impl Answer {
-    /// No text. Takes no memory.
+    /// Creates an empty list. Does not allocate.
     pub fn new(alloc: Global) -> Answer
         ensures { result ≡ [] }
     {
@@ -43,7 +43,11 @@ impl Answer {
         }
     }
 
-    /// The texts, and one more behind them. Takes memory, and is refused only where that is; the texts are let go then.
+    /// Appends a text and returns the list.
+    ///
+    /// # Errors
+    ///
+    /// Returns `AllocError` if an allocation fails, and then drops the list.
     pub fn with(self, text: &[u8]) -> Result<Answer, AllocError>
         ensures { IfOk result (λ a. a ≡ self ++ text.now ∷ []) }
     {
@@ -58,14 +62,14 @@ impl Answer {
         Ok(Answer { bytes, spans })
     }
 
-    /// The bytes of all texts, one after another. Takes no memory.
+    /// Returns the bytes of all texts, one after another. Does not allocate.
     pub fn bytes(&self) -> &[u8]
         ensures { result.now ≡ concat self.now }
     {
         self.bytes.as_slice()
     }
 
-    /// Where each text stands in the bytes. Takes no memory.
+    /// Returns the span of each text in the bytes. Does not allocate.
     pub fn spans(&self) -> &[Span]
         ensures { result.now ≡ spans_from 0 self.now }
     {

@@ -1,21 +1,21 @@
-//! How lists cross: one text, the parts of it that are the items, and pairs of places.
+//! The encoding of lists: one text, the spans of the items in it, and pairs of positions.
 
 /// A part of a text: the bytes from `start` up to `end`.
 #[repr(C)]
 #[derive(Clone, Copy, Debug)]
 pub struct Span {
-    /// The place of its first byte.
+    /// The position of its first byte.
     pub start: usize,
-    /// The place behind its last.
+    /// The position after its last byte.
     pub end: usize,
 }
 
-/// An edge: the item at `from` has the one at `to` as a parent.
+/// An edge: the item at `from` has the item at `to` as a parent.
 #[repr(C)]
 #[derive(Clone, Copy, Debug)]
 pub struct Edge {
-    /// The place of the child in the list.
+    /// The position of the child in the list.
     pub from: usize,
-    /// The place of the parent.
+    /// The position of the parent in the list.
     pub to: usize,
 }

@@ -1,5 +1,5 @@
-//! What callers in C give and are given: bytes, parts of them that are uids and ids, edges, lists of texts, and a
-//! reason with a status for each refusal. No store, no policy set and no handle is known here.
+//! The data that callers in C pass and receive: bytes, spans of uids and ids, edges, lists of texts, and a reason with
+//! a status for each error. This crate does not depend on stores, policy sets or handles.
 #![tactic(auto, using(cedar_ids::specs::laws::UidOfLaws::same_uid_decides))]
 
 pub mod answer;

@@ -12,8 +12,12 @@ use cedar_ids::policy_id::PolicyID;
 use std::alloc::Global;
 use std::str;
 
-/// The uid that a text is. Takes memory for it; `NotAUid` comes where the text is no uid's, `NoMemory` where memory was
-/// refused.
+/// Parses a uid.
+///
+/// # Errors
+///
+/// - `NotAUid`: the text is not the text of a uid.
+/// - `NoMemory`: an allocation failed.
 pub fn uid_of(alloc: Global, text: &[u8]) -> Result<EntityUID, Reason>
     ensures { ReadsUid result text.now }
 {
@@ -28,7 +32,12 @@ pub fn uid_of(alloc: Global, text: &[u8]) -> Result<EntityUID, Reason>
     }
 }
 
-/// Whether a text is a uid's. Takes memory for the uid, which is let go.
+/// Checks whether a text is the text of a uid. Parses the uid and drops it.
+///
+/// # Errors
+///
+/// - `NotAUid`: the text is not the text of a uid.
+/// - `NoMemory`: an allocation failed.
 pub fn check_uid(alloc: Global, text: &[u8]) -> Result<(), Reason>
     ensures { ChecksUid result text.now }
 {
@@ -38,7 +47,12 @@ pub fn check_uid(alloc: Global, text: &[u8]) -> Result<(), Reason>
     }
 }
 
-/// The id with these bytes. Takes memory for it; `NotUtf8` comes where the bytes are not UTF-8.
+/// Creates the id with these bytes.
+///
+/// # Errors
+///
+/// - `NotUtf8`: the bytes are not UTF-8.
+/// - `NoMemory`: an allocation failed.
 pub fn id_of(alloc: Global, text: &[u8]) -> Result<PolicyID, Reason>
     ensures { ReadsId result text.now }
 {
@@ -51,7 +65,11 @@ pub fn id_of(alloc: Global, text: &[u8]) -> Result<PolicyID, Reason>
     }
 }
 
-/// A part of a text. `BadArgument` comes where it does not lie within the text. Takes no memory.
+/// Returns a part of a text. Does not allocate.
+///
+/// # Errors
+///
+/// - `BadArgument`: the span is not within the text.
 pub fn text_at(text: &[u8], at: Span) -> Result<&[u8], Reason>
     ensures ok { IfOk result (λ t. IsInside text.now at × (t.now ≡ part text.now at)) }
     ensures err { IfErr result (λ w. (w ≡ BadArgument) × (IsInside text.now at → ⊥)) }
@@ -62,7 +80,13 @@ pub fn text_at(text: &[u8], at: Span) -> Result<&[u8], Reason>
     }
 }
 
-/// The uid that a part of a text is. Takes memory for it.
+/// Parses the uid in a part of a text.
+///
+/// # Errors
+///
+/// - `BadArgument`: the span is not within the text.
+/// - `NotAUid`: the part is not the text of a uid.
+/// - `NoMemory`: an allocation failed.
 pub fn uid_at(alloc: Global, text: &[u8], at: Span) -> Result<EntityUID, Reason>
     ensures { ReadsUidAt result text.now at }
 {
@@ -72,7 +96,11 @@ pub fn uid_at(alloc: Global, text: &[u8], at: Span) -> Result<EntityUID, Reason>
     }
 }
 
-/// The uids that parts of a text are, one of each. Takes memory for them.
+/// Parses the uids in parts of a text, one per span.
+///
+/// # Errors
+///
+/// The errors of [`uid_at`].
 pub fn uids_of(alloc: Global, text: &[u8], spans: &[Span]) -> Result<Vec<EntityUID>, Reason>
     ensures { MatchResult result (λ v. AreReadAt text.now v.items spans.now)
         (IsOneUnread text.now spans.now) }

@@ -1,81 +1,81 @@
-//! Why calls are refused: a status and words for each reason.
+//! The reasons for errors, with a status and a text for each.
 ghost use Rattle.std.specs.Prelude.{◌≡◌};
 ghost use Rattle.cedar_c_lists.specs.Reasons.{number_of, status_of, words_of, Tells};
 ghost use Rattle.cedar_c_lists.specs.declared.reason.Reason.TheVariants as reasons;
 
 use std::alloc::{AllocError, AllocFailed};
 
-/// Why a call is refused.
+/// The reason for an error.
 #[derive(Clone, Copy)]
 pub enum Reason {
-    /// Memory was refused.
+    /// An allocation failed.
     NoMemory,
     /// The handle is closed.
     Closed,
-    /// A part of a text, a place, a mode, an effect, or a number of slots is out of range.
+    /// A span, a position, a mode, an effect, or a number of slots is out of range.
     BadArgument,
-    /// A text is no uid's.
+    /// A text is not the text of a uid.
     NotAUid,
     /// The bytes of an id are not UTF-8.
     NotUtf8,
     /// The store has no such entity.
     NoEntity,
-    /// Two versions of an entity differ.
+    /// Two entities with the same uid differ.
     Duplicate,
-    /// A uid is among its own ancestors.
+    /// A uid is one of its own ancestors.
     Cycle,
     /// An ancestor of an ancestor is missing.
     NotClosed,
-    /// An entity is among its own ancestors.
+    /// An entity is one of its own ancestors.
     SelfAncestor,
-    /// An ancestor stands among the parents and among the indirect ancestors.
+    /// A uid is both a parent and an indirect ancestor.
     DuplicateAncestor,
-    /// An action has an ancestor that is none.
+    /// An action has an ancestor that is not an action.
     ActionParentIsNotAction,
     /// A key of a record is reserved.
     ReservedKey,
-    /// An id is bound already.
+    /// An id is already in use.
     Occupied,
-    /// There is no template of an id to link.
+    /// There is no template with the id to link.
     NoSuchTemplate,
-    /// The bindings of a link are not those of its template's slots.
+    /// The bindings of a link do not match the slots of its template.
     Arity,
-    /// The action's slot is bound to a uid that is no action.
+    /// The slot of the action is bound to a uid that is not an action.
     NotAnAction,
-    /// The id of a link is bound already.
+    /// The id of a link is already in use.
     IdConflict,
-    /// Nothing is bound to an id to unlink.
+    /// The id to unlink is not in use.
     NoLink,
-    /// Something else than a link is bound to it.
+    /// The id to unlink is not the id of a link.
     NotALink,
-    /// Nothing is bound to the id of a template to take out.
+    /// There is nothing with the id of the template to remove.
     NoTemplate,
     /// The template has links.
     WithLinks,
-    /// Something else than a template is bound to it.
+    /// The id is not the id of a template.
     NotATemplate,
-    /// No policy has the id of a static policy to take out.
+    /// There is no policy with the id of the static policy to remove.
     NoStatic,
-    /// It is a link's.
+    /// The id is the id of a link.
     NotStatic,
-    /// There is no body of an id.
+    /// There is no body with the id.
     NoBody,
-    /// A text is no name.
+    /// A text is not a name.
     NotAName,
     /// A value or an expression has too many levels.
     TooDeep,
-    /// A slot stands in the clause of a body.
+    /// The clause of a body has a slot.
     SlotInClause,
-    /// The action's constraint of a body holds a uid that is no action.
+    /// The action constraint of a body has a uid that is not an action.
     NotActions,
-    /// The clause of a body calls a function that is not known.
+    /// The clause of a body calls an unknown function.
     UnknownFunction,
-    /// A link is one of a template without slots.
+    /// A link has a template without slots.
     SlotlessLink,
 }
 
 impl Reason {
-    /// The status of a reason, from 1 on. Takes no memory.
+    /// Returns the status of a reason, which is at least 1. Does not allocate.
     pub fn number(self) -> u32
         ensures { result ≡ number_of self }
     {
@@ -115,7 +115,7 @@ impl Reason {
         }
     }
 
-    /// The words of a reason, behind which its names stand. Takes no memory.
+    /// Returns the text of a reason. In an error text the names follow it. Does not allocate.
     pub fn words(self) -> &'static str
         ensures { result.now ≡ words_of self }
     {
@@ -172,7 +172,7 @@ impl<T: Drop> From<AllocFailed<T>> for Reason {
     }
 }
 
-/// The status of an answer: 0 where the call was made. Takes no memory.
+/// Returns the status of a result: 0 for `Ok`. Does not allocate.
 pub fn status_of(answer: Result<(), Reason>) -> u32
     ensures { result ≡ status_of answer }
 {
@@ -182,7 +182,7 @@ pub fn status_of(answer: Result<(), Reason>) -> u32
     }
 }
 
-/// The status of an answer that is a truth, which is written where the call was made. Takes no memory.
+/// Returns the status of a Boolean result. For `Ok`, writes the Boolean to `out`. Does not allocate.
 pub fn tell(answer: Result<bool, Reason>, out: &mut bool) -> u32
     ensures { Tells answer result out.old out.new }
 {

@@ -1,4 +1,4 @@
-//! Values that calls tell beside their status, and the text of each status.
+//! Values that calls write together with their status, and the text of each status.
 ghost use Rattle.std.specs.Prelude.{◌≡◌};
 ghost use Rattle.std.specs.Option.{MatchOption};
 ghost use Rattle.cedar_c_lists.specs.Reasons.{number_of};
@@ -6,7 +6,7 @@ ghost use Rattle.cedar_c_lists.specs.StatusTexts.{IsNoReason, IsStatusText, Tell
 
 use crate::reason::Reason;
 
-/// The status of an answer that is a value, which is written where the call was made. Takes no memory.
+/// Returns the status of a result with a value. For `Ok`, writes the value to `out`. Does not allocate.
 pub fn tell_value<T: Copy>(answer: Result<T, Reason>, out: &mut T) -> u32
     ensures { TellsValue answer result out.old out.new }
 {
@@ -19,7 +19,7 @@ pub fn tell_value<T: Copy>(answer: Result<T, Reason>, out: &mut T) -> u32
     }
 }
 
-/// The reason with a number, if there is one. Takes no memory.
+/// Returns the reason with a number, if there is one. Does not allocate.
 pub fn reason_with(number: u32) -> Option<Reason>
     ensures { MatchOption result (IsNoReason number) (λ w. number_of w ≡ number) }
 {
@@ -60,8 +60,8 @@ pub fn reason_with(number: u32) -> Option<Reason>
     }
 }
 
-/// The text of a status: `ok` of 0, the words of its reason of another, and no text of a number that is no status.
-/// Takes no memory.
+/// Returns the text of a status: `ok` for 0, the text of its reason for any other status, and an empty text for any
+/// other number. Does not allocate.
 pub fn status_text(status: u32) -> &'static str
     ensures { IsStatusText status result.now }
 {

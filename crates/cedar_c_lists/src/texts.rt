@@ -6,7 +6,11 @@ use crate::answer::Answer;
 use cedar_ids::entity::EntityUID;
 use std::alloc::{AllocError, Global};
 
-/// Adds a blank and a uid to a text. Takes memory, and is refused only where that is.
+/// Appends a blank and the text of a uid.
+///
+/// # Errors
+///
+/// Returns `AllocError` if an allocation fails.
 pub fn push_uid(alloc: Global, out: &mut Vec<u8>, uid: &EntityUID) -> Result<(), AllocError>
     ensures { OnOk result (IsAsciiUid uid.now → out.new.items ≡ out.old.items ++ spaced uid.now) }
 {
@@ -14,7 +18,11 @@ pub fn push_uid(alloc: Global, out: &mut Vec<u8>, uid: &EntityUID) -> Result<(),
     out.extend_from_slice(text.as_bytes())
 }
 
-/// The texts, and that of a uid behind them. Takes memory, and is refused only where that is.
+/// Appends the text of a uid to a list of texts, and returns the list.
+///
+/// # Errors
+///
+/// Returns `AllocError` if an allocation fails.
 pub fn with_uid(alloc: Global, answer: Answer, uid: &EntityUID) -> Result<Answer, AllocError>
     ensures { IfOk result (λ a. (t : List ℕ) × IsTextOf uid.now t × (a ≡ answer ++ t ∷ [])) }
 {

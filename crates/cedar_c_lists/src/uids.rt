@@ -1,4 +1,4 @@
-//! Uids that a caller makes of a type and an eid, and takes apart into both.
+//! Uids from a type and an eid, and the type and eid of a uid.
 ghost use Rattle.std.specs.Prelude.{◌≡◌, IfOk, MatchResult, length};
 ghost use Rattle.std.specs.String.{string_bytes};
 ghost use Rattle.cedar_ids.specs.Printed.{printed_name};
@@ -13,7 +13,12 @@ use cedar_ids::err::ParseErrors;
 use std::alloc::{AllocError, Global};
 use std::str;
 
-/// The type that a text is the name of. Takes memory for it; `NotAName` comes where the text is no name.
+/// Parses the name of a type.
+///
+/// # Errors
+///
+/// - `NotAName`: the text is not a name.
+/// - `NoMemory`: an allocation failed.
 pub fn type_of(alloc: Global, text: &[u8]) -> Result<EntityType, Reason>
     ensures { ReadsType result text.now }
 {
@@ -28,8 +33,13 @@ pub fn type_of(alloc: Global, text: &[u8]) -> Result<EntityType, Reason>
     }
 }
 
-/// The uid with the type that a text is the name of, and these bytes as its eid. Takes memory for both; `NotAName`
-/// comes where the text is no name, `NotUtf8` where the bytes are not UTF-8.
+/// Creates a uid from the name of its type and the bytes of its eid.
+///
+/// # Errors
+///
+/// - `NotAName`: the text of the type is not a name.
+/// - `NotUtf8`: the bytes of the eid are not UTF-8.
+/// - `NoMemory`: an allocation failed.
 pub fn uid_with(alloc: Global, ty: &[u8], eid: &[u8]) -> Result<EntityUID, Reason>
     ensures { MakesUid result ty.now eid.now }
 {
@@ -41,8 +51,11 @@ pub fn uid_with(alloc: Global, ty: &[u8], eid: &[u8]) -> Result<EntityUID, Reaso
     Ok(EntityUID::from_components(ty, Eid::new(eid), None))
 }
 
-/// The text of the uid with the type that a text is the name of, and these bytes as its eid. Takes memory for both, and
-/// for the text; refused as `uid_with` is.
+/// Returns the text of the uid with a type and an eid.
+///
+/// # Errors
+///
+/// The errors of [`uid_with`].
 pub fn uid_text(alloc: Global, ty: &[u8], eid: &[u8]) -> Result<String, Reason>
     ensures { MatchResult result (λ t. IsMadeText ty.now eid.now (string_bytes t)) (IsUnmade ty.now eid.now) }
 {
@@ -50,16 +63,16 @@ pub fn uid_text(alloc: Global, ty: &[u8], eid: &[u8]) -> Result<String, Reason>
     Ok(uid.to_string(alloc)?)
 }
 
-/// The text of the type of a uid with the bytes of its eid behind it, and where the first ends.
+/// The text of a uid's type followed by the bytes of its eid, and the length of the first.
 #[derive(Drop)]
 pub struct UidTexts {
     /// Both texts, one after the other.
     pub bytes: Vec<u8>,
-    /// How many bytes the type's text has.
+    /// The number of bytes of the type's text.
     pub type_len: usize,
 }
 
-// The texts of a uid's type and eid.
+// Returns the texts of a uid's type and eid.
 fn apart(alloc: Global, uid: &EntityUID) -> Result<UidTexts, AllocError>
     ensures bytes { IfOk result (λ t. t.bytes.items ≡ uid_bytes uid.now) }
     ensures length { IfOk result (λ t. t.type_len ≡ length (printed_name (uid_parts uid.now).name)) }
@@ -73,7 +86,12 @@ fn apart(alloc: Global, uid: &EntityUID) -> Result<UidTexts, AllocError>
     Ok(UidTexts { bytes, type_len })
 }
 
-/// The texts of the type and of the eid of the uid that a text is. Takes memory for the uid and for both.
+/// Parses a uid and returns the texts of its type and eid.
+///
+/// # Errors
+///
+/// - `NotAUid`: the text is not the text of a uid.
+/// - `NoMemory`: an allocation failed.
 pub fn parts_of(alloc: Global, text: &[u8]) -> Result<UidTexts, Reason>
     ensures { MatchResult result (λ t. IsApartOf t text.now) (IsUnread text.now) }
 {

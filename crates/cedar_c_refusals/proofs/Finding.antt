@@ -1,4 +1,4 @@
--- Where the uid at a place stands, behind words and the uids before it.
+-- The position of the uid at an index, after the words and the uids before it.
 use Rattle.std.proofs.Common.{◌≡◌, ◌≢◌, ◌≤◌, ℕ, zero, suc, ◌+◌, ◌-◌, List, [], ◌∷◌, ◌++◌, refl, sym, ap, ◌∙◌, arith}
 use Rattle.std.proofs.Common.{append_assoc, length, drop, take, subst, true, false, inl, inr}
 use Rattle.std.proofs.lemmas.Bool.Decides.{eqb_tells}
@@ -17,19 +17,19 @@ use Rattle.cedar_c_refusals.specs.Named.{AreWritten, IsNameIn, IsUidIn}
 use Rattle.cedar_c_refusals.specs.laws.Scans.{after, after_uid, after_uids}
 use Rattle.cedar_c_refusals.proofs.Scanning.{uid_passed}
 
--- one uid is passed over first
+-- The first uid is skipped first.
 one_first : (k : ℕ) (t : List ℕ) → after_uids (suc k) t ≡ after_uids k (after_uid t)
 unfolding after_uids
 one_first zero t = refl
 one_first (suc k) t = ap after_uid (one_first k t)
 
--- behind nothing stands nothing
+-- After an empty text there is nothing.
 pub nothing_behind : (k : ℕ) → after_uids k [] ≡ []
 unfolding after_uids after
 nothing_behind zero = refl
 nothing_behind (suc k) = ap after_uid (nothing_behind k)
 
--- where nothing stands, nothing does further behind
+-- If nothing is left, nothing is left further on.
 pub nothing_further : (k i : ℕ) (t : List ℕ) → i ≤ k → after_uids i t ≡ [] → after_uids k t ≡ []
 unfolding after_uids
 nothing_further k zero t l h = ap (after_uids k) h ∙ nothing_behind k
@@ -37,7 +37,7 @@ nothing_further zero (suc i) t l h = absurd (omega arith)
 nothing_further (suc k) (suc i) t l h =
     one_first k t ∙ nothing_further k i (after_uid t) (omega arith) (sym (one_first i t) ∙ h)
 
--- so many uids are passed over
+-- That many uids are skipped.
 uids_passed : (k : ℕ) (us : List EntityUID) → AreWritten us
     → after_uids k (flat_map spaced us) ≡ flat_map spaced (drop k us)
 unfolding after_uids
@@ -48,7 +48,7 @@ uids_passed (suc k) (u ∷ us) w =
     ∙ ap (after_uids k) (uid_passed u (flat_map spaced us) w.0)
     ∙ uids_passed k us w.1
 
--- where nothing is left there are no more uids
+-- If nothing is left, there are no more uids.
 pub none_left : (k : ℕ) (us : List EntityUID) → AreWritten us → after_uids k (flat_map spaced us) ≡ []
     → length us ≤ k
 unfolding after_uids
@@ -62,13 +62,13 @@ none_left (suc k) (u ∷ us) w h =
 one_more : (n : ℕ) → suc n ≡ 1 + n
 one_more n = omega arith
 
--- the length of a uid's text, of the blank before it and of what stands behind
+-- The length of a uid's text with the blank before it and the text after it.
 spaced_length : (u : EntityUID) (rest : List ℕ)
     → length (spaced u ++ rest) ≡ 1 + length (printed_uid (uid_parts u)) + length rest
 spaced_length u rest =
     length-append (spaced u) rest ∙ ap (λ n. n + length rest) (one_more (length (printed_uid (uid_parts u))))
 
--- the text that stands behind some bytes, and before others
+-- The text between some bytes and others.
 pub part_behind : (pre t rest : List ℕ) (s : Span) → s.start ≡ length pre → s.end ≡ length pre + length t
     → part (pre ++ (t ++ rest)) s ≡ t
 part_behind pre t rest s start end =
@@ -80,7 +80,7 @@ part_behind pre t rest s start end =
     minus_plus : (n m : ℕ) → (n + m) - n ≡ m
     minus_plus n m = omega arith
 
--- the first of some uids behind words
+-- The first of the uids after the words.
 first_found : (words : List ℕ) (u : EntityUID) (rest : List ℕ) (s : Span)
     → s.start ≡ length words + 1
     → s.end ≡ length words + 1 + length (printed_uid (uid_parts u))
@@ -97,12 +97,12 @@ first_found words u rest s start end =
           ∙ part_behind (words ++ (32 ∷ [])) p rest s (start ∙ sym front) (end ∙ ap (λ n. n + length p) (sym front)),
     )
 
--- of another spelling of the text
+-- The same for an equal text.
 moved : (u : EntityUID) (s : Span) (t t' : List ℕ) → t ≡ t' → IsInside t s × (part t s ≡ printed_uid (uid_parts u))
     → IsInside t' s × (part t' s ≡ printed_uid (uid_parts u))
 moved u s t t' e h = subst (λ t. IsInside t s × (part t s ≡ printed_uid (uid_parts u))) e h
 
--- the one at a place
+-- The uid at an index.
 pub uid_found : (k : ℕ) (words : List ℕ) (us : List EntityUID) (s : Span) → AreWritten us
     → after_uids k (flat_map spaced us) ≢ []
     → s.start + length (after_uids k (flat_map spaced us)) ≡ length (words ++ flat_map spaced us) + 1
@@ -132,7 +132,7 @@ no_length : (r : List ℕ) → length r ≡ 0 → r ≡ []
 no_length [] h = refl
 no_length (x ∷ xs) h = absurd (omega arith)
 
--- a list without a length is empty
+-- A list of length 0 is empty.
 pub empty_of : (r : List ℕ) → true ≡ (length r == 0) → r ≡ []
 empty_of r h =
     elim (eqb_tells (length r) 0) as (λ _. r ≡ []) [
@@ -144,24 +144,24 @@ pub filled_of : (r : List ℕ) → false ≡ (length r == 0) → r ≢ []
 filled_of [] h = λ e. absurd (cc)
 filled_of (x ∷ xs) h = λ e. absurd (cc)
 
--- where nothing is left before the last uid is passed over, nothing is behind it
+-- If nothing is left before the last uid is skipped, nothing is left after it.
 pub empty_further : (k i : ℕ) (t r : List ℕ) → i ≤ k → r ≡ after_uids i t → true ≡ (length r == 0)
     → r ≡ after_uids k t
 empty_further k i t r l e h =
     let no : r ≡ [] = empty_of r h in no ∙ sym (nothing_further k i t l (sym e ∙ no))
 
--- a part up to the end is all but the front
+-- A part up to the end is the text without its beginning.
 pub to_end : (from : ℕ) (t : List ℕ) → slice_range t from (length t) ≡ drop from t
 to_end from t =
     ap (λ n. take n (drop from t)) (sym (length-drop from t)) ∙ take-length (drop from t)
 
--- what the names begin with, behind the words
+-- The texts of the names, after the words.
 names_of : (words text names : List ℕ) (us : List EntityUID) (from : ℕ) → length words ≡ from
     → text ≡ words ++ flat_map spaced us → names ≡ slice_range text from (length text) → names ≡ flat_map spaced us
 names_of words text names us from l t n = n ∙ to_end from text ∙ ap (λ k. drop k text) (sym l) ∙ ap (drop (length words)) t
     ∙ drop-append_seam words (flat_map spaced us)
 
--- nothing is found where there are no more uids
+-- If there are no more uids, nothing is found.
 pub none_found : (k from : ℕ) (text names rest : List ℕ) → names ≡ slice_range text from (length text) → rest ≡ after_uids k names
     → true ≡ (length rest == 0)
     → (us : List EntityUID) → AreWritten us → (words : List ℕ) → length words ≡ from
@@ -169,7 +169,7 @@ pub none_found : (k from : ℕ) (text names rest : List ℕ) → names ≡ slice
 none_found k from text names rest n r h us w words l t =
     none_left k us w (ap (after_uids k) (sym (names_of words text names us from l t n)) ∙ sym r ∙ empty_of rest h)
 
--- what is found is the uid at the place
+-- The result is the uid at the index.
 pub one_found : (k from : ℕ) (text names rest behind : List ℕ) → names ≡ slice_range text from (length text) → rest ≡ after_uids k names
     → false ≡ (length rest == 0) → length rest ≤ length names → behind ≡ after_uids 1 rest
     → length behind ≤ length rest
@@ -197,7 +197,7 @@ one_found k from text names rest behind n r h short b less us w words l t =
     back : (a b : ℕ) → b ≤ a → a - b + b ≡ a
     back a b l = omega arith
 
--- one name behind the words and a blank
+-- A single name after the words and a blank.
 pub name_found : (from : ℕ) (text name words : List ℕ) → length words ≡ from → text ≡ words ++ (32 ∷ name)
     → IsNameIn text name (record { start = from + 1; end = length text })
 name_found from text name words l t =

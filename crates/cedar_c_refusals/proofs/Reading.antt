@@ -1,4 +1,4 @@
--- One uid more is read, of the next part.
+-- One more uid is parsed, from the next part.
 use Rattle.std.proofs.Common.{◌++◌, ◌+◌, ◌<◌, ℕ, List, [], ◌∷◌, length, take}
 use Rattle.std.proofs.Math.ListN.{get_or}
 use Rattle.std.proofs.lemmas.List.{take_more}

@@ -1,4 +1,4 @@
--- The text of a uid is passed over as a whole.
+-- The text of a uid is skipped as a whole.
 use Rattle.std.proofs.Common.{◌≡◌, ℕ, List, [], ◌∷◌, ◌++◌, Bool, true, false, ◌&&◌, refl, sym, ap, ◌∙◌}
 use Rattle.std.proofs.Common.{append_assoc, inl, inr, Option, Some, None, not, cond, codes}
 use Rattle.std.specs.Prelude.{◌==◌}
@@ -19,7 +19,7 @@ use Rattle.cedar_c_refusals.specs.Named.{IsWritten}
 use Rattle.cedar_c_refusals.specs.laws.Scans.{after, after_quote, after_uid}
 use borrow.Author.Tests.{ltb-true}
 
--- whether a backslash stands before what follows the bytes, where no quote ends among them
+-- Whether a backslash precedes the rest of the text, or `None` if a quote ends among the bytes.
 leads : Bool → List ℕ → Option Bool
 leads e [] = Some e
 leads e (c ∷ cs) = cond (not e && (c == 34)) None (leads (not e && (c == 92)) cs)
@@ -28,7 +28,6 @@ or_false : Option Bool → Bool
 or_false None = false
 or_false (Some b) = b
 
--- nothing ends among the bytes of which this is known
 cond_some : (b : Bool) (o : Option Bool) (d : Bool) → cond b None o ≡ Some d → (b ≡ false) × (o ≡ Some d)
 cond_some true o d h = absurd (cc)
 cond_some false o d h = (refl, h)
@@ -49,7 +48,7 @@ leads_append e (c ∷ cs) ys d h =
     ap (λ b. cond b None (leads (not e && (c == 92)) (cs ++ ys))) p.0
     ∙ leads_append (not e && (c == 92)) cs ys d p.1
 
--- a byte that is neither a quote nor a backslash
+-- Whether a byte is neither a quote nor a backslash.
 is_plain : ℕ → Bool
 is_plain c = not (c == 34) && not (c == 92)
 
@@ -66,7 +65,7 @@ plain_leads (c ∷ cs) h =
     let s : (c == 92) ≡ false = not_true (c == 92) (second_so (not (c == 34)) (not (c == 92)) p) in
     rw (q, s) (plain_leads cs (second_so (is_plain c) (list_all is_plain cs) h))
 
--- a byte of an identifier is neither
+-- A byte of an identifier is neither a quote nor a backslash.
 id_is_plain : (c : ℕ) → is_id_part c ≡ true → is_plain c ≡ true
 unfolding is_plain
 id_is_plain c h =
@@ -84,7 +83,7 @@ ids_are_plain (c ∷ cs) h =
     rw (id_is_plain c (first_so (is_id_part c) (list_all is_id_part cs) h))
     (ids_are_plain cs (second_so (is_id_part c) (list_all is_id_part cs) h))
 
--- the bytes of a name are plain
+-- The bytes of a name are neither.
 plain_append : (xs ys : List ℕ) → list_all is_plain xs ≡ true → list_all is_plain ys ≡ true
     → list_all is_plain (xs ++ ys) ≡ true
 plain_append [] ys h g = g
@@ -117,7 +116,7 @@ name_leads : (n : NameParts) → IsName n → leads false (printed_name n) ≡ S
 name_leads n h = plain_leads (printed_name n)
     (plain_append (flat_map before_mark n.path) n.basename (path_is_plain n.path h.0) (component_is_plain n.basename h.1))
 
--- a check of each ASCII character: its escape ends no text, and no backslash stands behind it
+-- A check of each ASCII character: its escape does not end a text, and no backslash is left after it.
 is_told_false : Option Bool → Bool
 is_told_false None = false
 is_told_false (Some b) = not b
@@ -146,7 +145,7 @@ escaped_leads (c ∷ cs) h =
     leads_append false (escape c) (escaped cs) false (escape_leads c (first_so (is_ascii_byte c) (is_ascii cs) h))
     ∙ escaped_leads cs (second_so (is_ascii_byte c) (is_ascii cs) h)
 
--- a blank and the text of a uid are passed over
+-- A blank and the text of a uid are skipped.
 pub uid_passed : (u : EntityUID) (r : List ℕ) → IsWritten u → after_uid (spaced u ++ r) ≡ r
 unfolding after
 uid_passed u r w =

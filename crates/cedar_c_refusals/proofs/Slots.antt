@@ -1,4 +1,4 @@
--- Where the slot at a place stands, behind words and the slots before it.
+-- The position of the slot at an index, after the words and the slots before it.
 use Rattle.std.proofs.Common.{◌≡◌, ◌≢◌, ◌≤◌, ℕ, zero, suc, ◌+◌, ◌-◌, List, [], ◌∷◌, ◌++◌, refl, sym, ap, ◌∙◌, arith}
 use Rattle.std.proofs.Common.{append_assoc, length, drop, subst, true, false, Bool, not, codes, map}
 use Rattle.std.proofs.Math.Seq.{drop-append_seam}
@@ -17,19 +17,19 @@ use Rattle.cedar_c_refusals.specs.Named.{IsSlotIn}
 use Rattle.cedar_c_refusals.specs.laws.Marks.{after_slots, behind_letters, behind_slot, from_mark, is_small}
 use Rattle.cedar_c_refusals.proofs.Finding.{empty_of, filled_of, part_behind, to_end}
 
--- one slot is passed over first
+-- The first slot is skipped first.
 one_first : (k : ℕ) (t : List ℕ) → after_slots (suc k) t ≡ after_slots k (behind_slot (from_mark t))
 unfolding after_slots
 one_first zero t = refl
 one_first (suc k) t = ap (λ x. behind_slot (from_mark x)) (one_first k t)
 
--- behind nothing stands nothing
+-- After an empty text there is nothing.
 nothing_behind : (k : ℕ) → after_slots k [] ≡ []
 unfolding after_slots from_mark behind_letters
 nothing_behind zero = refl
 nothing_behind (suc k) = ap (λ x. behind_slot (from_mark x)) (nothing_behind k)
 
--- where nothing stands, nothing does further behind
+-- If nothing is left, nothing is left further on.
 pub nothing_further : (k i : ℕ) (t : List ℕ) → i ≤ k → after_slots i t ≡ [] → after_slots k t ≡ []
 unfolding after_slots
 nothing_further k zero t l h = ap (after_slots k) h ∙ nothing_behind k
@@ -37,7 +37,7 @@ nothing_further zero (suc i) t l h = absurd (omega arith)
 nothing_further (suc k) (suc i) t l h =
     one_first k t ∙ nothing_further k i (behind_slot (from_mark t)) (omega arith) (sym (one_first i t) ∙ h)
 
--- a text without a mark
+-- Whether a text has no mark.
 has_none : List ℕ → Bool
 has_none t = list_all (λ c. not (c == 63)) t
 
@@ -52,7 +52,7 @@ mark_behind (c ∷ cs) r h =
     rw (not_true (c == 63) (first_so (not (c == 63)) (list_all (λ c. not (c == 63)) cs) h))
     (mark_behind cs r (second_so (not (c == 63)) (list_all (λ c. not (c == 63)) cs) h))
 
--- a text that begins with no letter
+-- Whether a text does not begin with a letter.
 starts_apart : List ℕ → Bool
 starts_apart [] = true
 starts_apart (c ∷ cs) = not (is_small c)
@@ -74,7 +74,7 @@ slot_marked Principal r = refl
 slot_marked Action r = refl
 slot_marked Resource r = refl
 
--- slots with what stands before each, and a tail
+-- Slots, each with the text before it.
 abbrev Piece : Type 0
 Piece = List ℕ × SlotId
 
@@ -82,7 +82,7 @@ laid : List Piece → List ℕ → List ℕ
 laid [] tail = tail
 laid (p ∷ ps) tail = p.0 ++ (slot_text p.1 ++ laid ps tail)
 
--- no mark stands between the slots, and no letter behind one
+-- Holds if no mark is between the slots, and no letter directly follows a slot.
 IsFine : List Piece → List ℕ → Type 0
 IsFine [] tail = has_none tail ≡ true
 IsFine (p ∷ ps) tail = (has_none p.0 ≡ true) × (starts_apart (laid ps tail) ≡ true) × IsFine ps tail
@@ -98,12 +98,12 @@ first_passed : (p : Piece) (ps : List Piece) (tail : List ℕ) → IsFine (p ∷
 unfolding IsFine
 first_passed p ps tail f = ap behind_slot (first_marked p ps tail f) ∙ slot_passed p.1 (laid ps tail) f.1
 
--- a tail has no mark
+-- The rest has no mark.
 unmarked : (tail : List ℕ) → has_none tail ≡ true → from_mark tail ≡ []
 unfolding from_mark
 unmarked tail h = ap from_mark (sym (append-nil tail)) ∙ mark_behind tail [] h
 
--- and no slot
+-- The rest has no slot.
 none_in_tail : (k : ℕ) (tail : List ℕ) → has_none tail ≡ true → from_mark (after_slots k tail) ≡ []
 unfolding after_slots from_mark behind_letters
 none_in_tail zero tail h = unmarked tail h
@@ -116,7 +116,7 @@ slot_is_some Principal r = λ e. absurd (cc)
 slot_is_some Action r = λ e. absurd (cc)
 slot_is_some Resource r = λ e. absurd (cc)
 
--- where no mark is left there are no more slots
+-- If no mark is left, there are no more slots.
 none_left : (k : ℕ) (ps : List Piece) (tail : List ℕ) → IsFine ps tail
     → from_mark (after_slots k (laid ps tail)) ≡ [] → length ps ≤ k
 unfolding after_slots IsFine
@@ -131,7 +131,7 @@ slots_of : List Piece → List SlotId
 slots_of [] = []
 slots_of (p ∷ ps) = p.1 ∷ slots_of ps
 
--- of another spelling of the text
+-- The same for an equal text.
 moved : (x : SlotId) (s : Span) (t t' : List ℕ) → t ≡ t' → IsInside t s × (part t s ≡ slot_text x)
     → IsInside t' s × (part t' s ≡ slot_text x)
 moved x s t t' e h = subst (λ t. IsInside t s × (part t s ≡ slot_text x)) e h
@@ -144,7 +144,7 @@ first_found words x rest s start end =
     length-append words (slot_text x ++ rest) ∙ ap (λ n. length words + n) (length-append (slot_text x) rest) in
     ((omega arith, omega arith), part_behind words (slot_text x) rest s start end)
 
--- the one at a place
+-- The slot at an index.
 slot_found : (k : ℕ) (words : List ℕ) (ps : List Piece) (tail : List ℕ) (s : Span) → IsFine ps tail
     → from_mark (after_slots k (laid ps tail)) ≢ []
     → s.start + length (from_mark (after_slots k (laid ps tail))) ≡ length (words ++ laid ps tail)
@@ -177,12 +177,12 @@ slot_found (suc k) words (p ∷ ps) tail s f some start end =
     (ap (λ t. s.end + length (behind_slot (from_mark t))) (sym same) ∙ end ∙ ap length (sym joined)) in
     let by = moved found.0 s _ _ joined (found.2, found.3) in (found.0, found.1, by.0, by.1)
 
--- ---- the text of the slots of a refusal
+-- ---- The text of the slots of an error
 
 after_comma : SlotId → Piece
 after_comma s = (codes ",", s)
 
--- slots, the first behind some bytes and each other behind a comma
+-- The slots, the first after some bytes and each other after a comma.
 pieces : List ℕ → List SlotId → List Piece
 pieces g [] = []
 pieces g (s ∷ ss) = (g, s) ∷ map after_comma ss
@@ -225,7 +225,7 @@ unfolding slots_of after_comma
 commas_slots [] qs = refl
 commas_slots (s ∷ ss) qs = ap (λ l. s ∷ l) (commas_slots ss qs)
 
--- a text that is made of slots and what stands between them
+-- A text that consists of slots and the texts between them.
 record IsSplit (text : List ℕ) (ss : List SlotId) : Type 0 where
   ps : List Piece
   tail : List ℕ
@@ -233,7 +233,7 @@ record IsSplit (text : List ℕ) (ss : List SlotId) : Type 0 where
   fine : IsFine ps tail
   slots : slots_of ps ≡ ss
 
--- some slots before what is split
+-- Slots before a split text.
 split_before : (g : List ℕ) (s : SlotId) (ss : List SlotId) (rest : List ℕ) (more : List SlotId)
     → has_none g ≡ true → starts_apart rest ≡ true → IsSplit rest more
     → IsSplit ((g ++ slots_text (s ∷ ss)) ++ rest) ((s ∷ ss) ++ more)
@@ -288,7 +288,7 @@ names_of : (words text names rest : List ℕ) (from : ℕ) → length words ≡ 
 names_of words text names rest from l t n = n ∙ to_end from text ∙ ap (λ k. drop k text) (sym l)
     ∙ ap (drop (length words)) t ∙ drop-append_seam words rest
 
--- nothing is found where there are no more slots
+-- If there are no more slots, nothing is found.
 pub none_found : (k from : ℕ) (text names front rest : List ℕ) → names ≡ slice_range text from (length text)
     → front ≡ after_slots k names → rest ≡ from_mark front → true ≡ (length rest == 0)
     → (unbound extra : List SlotId) → (words : List ℕ) → length words ≡ from
@@ -301,7 +301,7 @@ none_found k from text names front rest n f r h unbound extra words l t =
     let same : length (unbound ++ extra) ≡ length i.ps = ap length (sym i.slots) ∙ pieces_length i.ps in
     omega arith
 
--- what is found is the slot at the place
+-- The result is the slot at the index.
 pub one_found : (k from : ℕ) (text names front rest behind : List ℕ) → names ≡ slice_range text from (length text)
     → front ≡ after_slots k names → rest ≡ from_mark front → false ≡ (length rest == 0)
     → length front ≤ length names → length rest ≤ length front → behind ≡ behind_slot rest
@@ -329,7 +329,7 @@ one_found k from text names front rest behind n f r h short shorter b less unbou
     back : (a b : ℕ) → b ≤ a → a - b + b ≡ a
     back a b l = omega arith
 
--- where nothing is left before the last slot is passed over, nothing is behind it
+-- If nothing is left before the last slot is skipped, nothing is left after it.
 pub empty_further : (k i : ℕ) (t r : List ℕ) → i ≤ k → r ≡ after_slots i t → true ≡ (length r == 0)
     → r ≡ after_slots k t
 empty_further k i t r l e h =

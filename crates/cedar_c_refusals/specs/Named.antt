@@ -1,4 +1,4 @@
--- What the text of a refusal names, and where it stands.
+-- The names in the text of an error, and their positions.
 use Rattle.std.specs.Prelude.{◌≡◌, ◌≤◌, ◌≢◌, ◌⊎◌, ℕ, List, ◌∷◌, ◌++◌, Bool, true, false, IsTrue, Option, None, Some, length, slice_get}
 use Rattle.std.specs.List.{AllByRecursion, flat_map}
 use Rattle.std.specs.Option.{MatchOption}
@@ -17,7 +17,7 @@ use Rattle.cedar_c_lists.specs.declared.layout.Span.{Span}
 use Rattle.cedar_c_lists.specs.declared.reason.Reason.{Reason}
 use Rattle.cedar_c_lists.specs.declared.reason.Reason.TheVariants as reasons
 
--- whether uids stand behind the words of a refusal
+-- Whether uids follow the words of an error.
 abbrev pub names_uids : Reason → Bool
 names_uids reasons.Duplicate = true
 names_uids reasons.Cycle = true
@@ -28,7 +28,7 @@ names_uids reasons.ActionParentIsNotAction = true
 names_uids reasons.NotAnAction = true
 names_uids w = false
 
--- whether one name stands behind them, an id or a key
+-- Whether a single name follows the words of an error: an id or a key.
 abbrev pub names_one : Reason → Bool
 names_one reasons.ReservedKey = true
 names_one reasons.Occupied = true
@@ -47,45 +47,45 @@ names_one reasons.UnknownFunction = true
 names_one reasons.SlotlessLink = true
 names_one w = false
 
--- the type of a uid is a name, and no byte of its eid is past ASCII
+-- Holds if the type of the uid is a name, and its eid is ASCII.
 abbrev pub IsWritten : EntityUID → Type 0
 IsWritten u = IsName (uid_parts u).name × IsAsciiUid u
 
--- all of them are such
+-- Holds if all of the uids satisfy `IsWritten`.
 abbrev pub AreWritten : List EntityUID → Type 0
 AreWritten us = AllByRecursion IsWritten us
 
--- a part of a text is that of the uid at a place
+-- Holds if a span has the text of the uid at index k.
 abbrev pub IsUidIn : List ℕ → List EntityUID → ℕ → Span → Type 0
 IsUidIn text us k s =
     (u : EntityUID) × (slice_get us k ≡ Some u) × IsInside text s × (part text s ≡ printed_uid (uid_parts u))
 
--- a part of a text is a name
+-- Holds if a span has the text of the name.
 abbrev pub IsNameIn : List ℕ → List ℕ → Span → Type 0
 IsNameIn text name s = IsInside text s × (part text s ≡ name)
 
--- a part of a text is the slot at a place
+-- Holds if a span has the text of the slot at index k.
 abbrev pub IsSlotIn : List ℕ → List SlotId → ℕ → Span → Type 0
 IsSlotIn text ss k s = (x : SlotId) × (slice_get ss k ≡ Some x) × IsInside text s × (part text s ≡ slot_text x)
 
--- of the text of a refusal that names uids: where the one at a place stands, and nothing where there are no more
+-- For an error that names uids: the span of the uid at index k, or `None` if there are not that many.
 abbrev pub PartsUids : Reason → List ℕ → ℕ → Option Span → Type 0
 PartsUids w text k r = IsTrue (names_uids w) → (us : List EntityUID) → AreWritten us
     → text ≡ words_of w ++ flat_map spaced us → MatchOption r (length us ≤ k) (IsUidIn text us k)
 
--- of one that names an id or a key: where it stands, which is at place 0
+-- For an error that names an id or a key: its span at index 0, and `None` at any other index.
 abbrev pub PartsName : Reason → List ℕ → ℕ → Option Span → Type 0
 PartsName w text k r = IsTrue (names_one w) → (name : List ℕ) → text ≡ words_of w ++ (32 ∷ name)
     → MatchOption r (k ≢ 0) (λ s. (k ≡ 0) × IsNameIn text name s)
 
--- of one that names slots: where the one at a place stands, of those that are not bound and then of those that are bound
--- and no slots, and nothing where there are no more
+-- For an error that names slots: the span of the slot at index k, or `None` if there are not that many. The unbound
+-- slots come first, then the bound ones that the template does not have.
 abbrev pub PartsSlots : Reason → List ℕ → ℕ → Option Span → Type 0
 PartsSlots w text k r = w ≡ reasons.Arity → (unbound extra : List SlotId)
     → text ≡ words_of w ++ (32 ∷ arity_text unbound extra)
     → MatchOption r (length (unbound ++ extra) ≤ k) (IsSlotIn text (unbound ++ extra) k)
 
--- where what a refusal with a status names at a place stands in its text; a number that is no status names nothing
+-- The span of the name at index k in the text of the error with a status. A number that is not a status has no names.
 abbrev pub IsPartOf : ℕ → List ℕ → ℕ → Option Span → Type 0
 IsPartOf status text k r = ((w : Reason) × (number_of w ≡ status) × PartsUids w text k r × PartsName w text k r
     × PartsSlots w text k r) ⊎ (IsNoReason status × (r ≡ None))

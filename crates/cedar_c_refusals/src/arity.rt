@@ -1,4 +1,4 @@
-//! Where the slots that a refusal names stand in its text.
+//! The positions of the slots that an error names in its text.
 ghost use Rattle.std.specs.Prelude.{◌≡◌, ◌≤◌, ◌∷◌, ◌++◌, List, ℕ, length};
 ghost use Rattle.std.specs.Option.{MatchOption};
 ghost use Rattle.cedar_binding.specs.BindingTexts.{arity_text};
@@ -8,7 +8,7 @@ ghost use Rattle.cedar_c_refusals.specs.laws.Marks.{after_slots, behind_slot, fr
 
 use cedar_c_lists::Span;
 
-// The text from its first `?` on; nothing where there is none.
+// Returns the text from its first `?` on, or an empty text.
 #[tactic(auto, unfolding(crate::specs::laws::Marks::from_mark))]
 fn from_mark(text: &[u8]) -> &[u8]
     ensures from { result.now ≡ from_mark text.now }
@@ -24,7 +24,7 @@ fn from_mark(text: &[u8]) -> &[u8]
     rest
 }
 
-// What stands behind the first byte and the small letters that follow it.
+// Returns the text after the first byte and the small letters that follow it.
 #[tactic(auto, unfolding(crate::specs::laws::Marks::behind_letters))]
 fn behind_slot(text: &[u8]) -> &[u8]
     ensures behind { result.now ≡ behind_slot text.now }
@@ -42,7 +42,7 @@ fn behind_slot(text: &[u8]) -> &[u8]
     rest
 }
 
-// What stands behind so many slots.
+// Returns the text after `count` slots.
 #[tactic(auto, unfolding(crate::specs::laws::Marks::after_slots))]
 fn behind_slots(text: &[u8], count: usize) -> &[u8]
     ensures behind { result.now ≡ after_slots count text.now }
@@ -58,7 +58,8 @@ fn behind_slots(text: &[u8], count: usize) -> &[u8]
     rest
 }
 
-// Where the slot with a place stands, of those that the text of a refusal names behind words, which are so many bytes.
+// Returns the span of the slot at index `place`. The text of the error has its fixed words, `from` bytes long, and then
+// the slots.
 pub(crate) fn slot_part(text: &[u8], from: usize, place: usize) -> Option<Span>
     ensures { (unbound extra : List SlotId) → (words : List ℕ) → length words ≡ from
         → text.now ≡ words ++ (32 ∷ arity_text unbound extra)

@@ -1,4 +1,4 @@
-//! What the text of a refusal names, apart from its words; and which place of a list of uids is at fault.
+//! The names in the text of an error, without its fixed words, and the index of the invalid element in a list of uids.
 #![tactic(auto, using(cedar_ids::specs::laws::UidOfLaws::same_uid_decides))]
 
 pub mod arity;

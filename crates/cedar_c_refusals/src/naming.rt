@@ -1,4 +1,4 @@
-//! Where the uids, the id or the key that a refusal names stand in its text.
+//! The positions of the uids, the id or the key that an error names in its text.
 ghost use Rattle.std.specs.Prelude.{◌≡◌, ◌≢◌, ◌≤◌, ◌∷◌, ◌++◌, List, ℕ, length};
 ghost use Rattle.std.specs.Option.{MatchOption};
 ghost use Rattle.std.specs.List.{flat_map};
@@ -12,7 +12,7 @@ ghost use Rattle.cedar_c_refusals.specs.laws.Scans.{after_quote, after_uids};
 use crate::arity::slot_part;
 use cedar_c_lists::{Reason, Span, reason_with};
 
-// What stands behind the first quote of a text that no backslash stands before; nothing where there is none.
+// Returns the text after the first quote that no backslash precedes, or an empty text.
 #[tactic(auto, unfolding(crate::specs::laws::Scans::after))]
 fn behind_quote(text: &[u8]) -> &[u8]
     ensures behind { result.now ≡ after_quote text.now }
@@ -33,7 +33,7 @@ fn behind_quote(text: &[u8]) -> &[u8]
     rest
 }
 
-// What stands behind so many uids, each with a blank before it.
+// Returns the text after `count` uids, each with a blank before it.
 #[tactic(auto, unfolding(crate::specs::laws::Scans::after_uids))]
 fn behind_uids(text: &[u8], count: usize) -> &[u8]
     ensures behind { result.now ≡ after_uids count text.now }
@@ -49,7 +49,7 @@ fn behind_uids(text: &[u8], count: usize) -> &[u8]
     rest
 }
 
-// Where the uid with this place stands, of those that stand from a byte of the text on, with a blank before each.
+// Returns the span of the uid at index `place`. The uids begin at position `from`, each with a blank before it.
 fn uid_part(text: &[u8], from: usize, place: usize) -> Option<Span>
     ensures { (us : List EntityUID) → AreWritten us → (words : List ℕ) → length words ≡ from
         → text.now ≡ words ++ flat_map spaced us
@@ -67,7 +67,7 @@ fn uid_part(text: &[u8], from: usize, place: usize) -> Option<Span>
     })
 }
 
-// Where the one name stands that follows the words, which are so many bytes, and a blank.
+// Returns the span of the single name that follows the words and a blank. The words are `from` bytes long.
 fn name_part(text: &[u8], from: usize, place: usize) -> Option<Span>
     ensures { (name words : List ℕ) → length words ≡ from → text.now ≡ words ++ (32 ∷ name)
         → MatchOption result (place ≢ 0) (λ s. (place ≡ 0) × IsNameIn text.now name s) }
@@ -81,7 +81,7 @@ fn name_part(text: &[u8], from: usize, place: usize) -> Option<Span>
     })
 }
 
-// Whether uids stand behind the words of a refusal.
+// Checks whether uids follow the words of an error.
 fn names_uids(reason: Reason) -> bool
     ensures { result ≡ names_uids reason }
 {
@@ -97,7 +97,7 @@ fn names_uids(reason: Reason) -> bool
     )
 }
 
-// Whether one name stands behind them, an id or a key.
+// Checks whether a single name follows the words of an error: an id or a key.
 fn names_one(reason: Reason) -> bool
     ensures { result ≡ names_one reason }
 {
@@ -121,10 +121,12 @@ fn names_one(reason: Reason) -> bool
     )
 }
 
-/// Where in the text of a refusal what it names at a place stands, from 0 on, in the order of the text: a uid, the id
-/// or the key, or, of bindings that are not those of the slots, a slot: first those that are not bound, then those that
-/// are bound in vain. There is nothing where it names no more. Of a uid with an eid past ASCII nothing is promised. Takes
-/// no memory. It reads the text once.
+/// Returns the span of the name at index `place` in the text of an error, if there is one. Indices begin at 0 and
+/// follow the order of the text.
+///
+/// A name is a uid, an id, a key or a slot. For bindings that do not match the slots, the unbound slots come first. The
+/// bound slots that the template does not have follow. The result for a uid with a non-ASCII eid is unspecified. Scans
+/// the text once. Does not allocate.
 pub fn named_at(reason: Reason, text: &[u8], place: usize) -> Option<Span>
     ensures uids { PartsUids reason text.now place result }
     ensures name { PartsName reason text.now place result }
@@ -142,7 +144,8 @@ pub fn named_at(reason: Reason, text: &[u8], place: usize) -> Option<Span>
     }
 }
 
-/// The same of the refusal with a status. A number that is no status names nothing. Takes no memory.
+/// Returns the span of the name at index `place` in the text of the error with a status. Returns `None` if the number
+/// is not a status. Does not allocate.
 pub fn part_of(status: u32, text: &[u8], place: usize) -> Option<Span>
     ensures { IsPartOf status text.now place result }
 {

@@ -1,4 +1,4 @@
-//! Which place of a list of uids is at fault.
+//! The index of the invalid element in a list of uids.
 ghost use Rattle.std.specs.Prelude.{◌≡◌, MatchResult};
 ghost use Rattle.cedar_ids.specs.declared.entity.EntityUID.{EntityUID};
 ghost use Rattle.cedar_c_lists.specs.Texts.{IsReadAt, IsUnreadAt};
@@ -7,17 +7,20 @@ ghost use Rattle.cedar_c_refusals.specs.Unread.{AreAllRead, IsFirstUnread};
 use cedar_c_lists::{Reason, Span, check_uid, text_at};
 use std::alloc::Global;
 
-/// A place of a list, from 0 on, and why no uid is read there.
+/// An index in a list, from 0 on, and the reason why no uid is parsed there.
 #[derive(Clone, Copy)]
 pub struct Unread {
-    /// The place.
+    /// The index.
     pub place: usize,
-    /// `BadArgument` where the part does not lie within the text, `NotAUid` where it is no uid's text, `NoMemory` where
-    /// memory was refused.
+    /// The reason.
+    ///
+    /// - `BadArgument`: the span is not within the text.
+    /// - `NotAUid`: the part is not the text of a uid.
+    /// - `NoMemory`: an allocation failed.
     pub reason: Reason,
 }
 
-// Whether a part of a text is a uid's.
+// Checks whether a part of a text is the text of a uid.
 fn check_at(alloc: Global, text: &[u8], at: Span) -> Result<(), Reason>
     ensures { MatchResult result (λ _. (u : EntityUID) × IsReadAt text.now u at) (IsUnreadAt text.now at) }
 {
@@ -27,8 +30,12 @@ fn check_at(alloc: Global, text: &[u8], at: Span) -> Result<(), Reason>
     }
 }
 
-/// Whether each of some parts of a text is a uid's, or the first that is not, and why. Takes memory for each uid, which
-/// is let go. It reads up to the first that is at fault.
+/// Checks whether each of the parts of a text is the text of a uid. Parses each uid and drops it, up to the first
+/// invalid part.
+///
+/// # Errors
+///
+/// Returns the index of the first invalid part, and the reason.
 pub fn first_unread(alloc: Global, text: &[u8], spans: &[Span]) -> Result<(), Unread>
     ensures { MatchResult result (λ _. AreAllRead text.now spans.now) (IsFirstUnread text.now spans.now) }
 {

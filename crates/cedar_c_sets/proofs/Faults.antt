@@ -1,4 +1,4 @@
--- A fault of a policy set as it is told to a caller.
+-- A fault of a policy set, as the caller receives it.
 use Rattle.std.specs.Prelude.{◌≡◌, ◌⊎◌, ℕ, List, ◌∷◌, ◌++◌, All, IfOk, MatchResult, Option, Some, None, Result, Ok, Err}
 use Rattle.std.proofs.Common.{ap, sym, subst, ◌∙◌, inl, inr, arith, refl}
 use Rattle.cedar_policy.specs.declared.err.TemplateValidationError.{TemplateValidationError}
@@ -14,7 +14,7 @@ use Rattle.cedar_c_lists.specs.declared.reason.Reason.TheVariants as reasons
 use Rattle.cedar_c_sets.specs.Validity.{IsFaultTold, NamesFault, fault_reason}
 use Rattle.cedar_c_sets.specs.declared.telling.Told.{Told}
 
--- what is told of a copy's fault is told of the set's
+-- The fault of a copy is a fault of the set.
 pub told_fault : {E : Type 0} (e : PolicySetValidationError) (copy now : SetParts) (told : Result Told E) (w : Reason)
     (before text : List ℕ) → copy ≡ now → IsSetFault e copy
     → IfOk told (λ t. IsFaultTold e t.reason t.text.items)
@@ -28,7 +28,7 @@ told_fault e copy now (Ok told) w before text is fault t h =
       subst (λ v. IsFaultTold e v text) (sym h.0) (subst (IsFaultTold e told.reason) (sym h.1) t),
     )
 
--- no fault of a body is told as want of memory
+-- No fault of a body has the reason of an allocation failure.
 no_memory_named : (e : TemplateValidationError) (id text : List ℕ) → NamesFault (fault_reason e) id reasons.NoMemory text
     → ⊥
 no_memory_named (templates.SlotsInConditionClause s) id text t = absurd (omega (arith, ap number_of t.0))
@@ -37,13 +37,13 @@ no_memory_named (templates.InvalidExpression f) id text t = absurd (omega (arith
 no_memory_named templates.SlotCacheMismatch id text t = absurd (omega (arith, ap number_of t.0))
 no_memory_named templates.Memory id text t = t
 
--- no fault of a set is
+-- No fault of a set has the reason of an allocation failure.
 no_memory_told : (e : PolicySetValidationError) (text : List ℕ) → IsFaultTold e reasons.NoMemory text → ⊥
 no_memory_told (LinkToSlotlessTemplate l i) text t = absurd (omega (arith, ap number_of t.0))
 no_memory_told (InvalidTemplate i e) text t = no_memory_named e i text t
 no_memory_told Memory text t = t
 
--- the text of the last refusal is as it was where memory was refused
+-- The text of the last error does not change after an allocation failure.
 pub kept_before : {E : Type 0} (e : PolicySetValidationError) (told : Result Told E) (w : Reason) (before text : List ℕ)
     → IfOk told (λ t. IsFaultTold e t.reason t.text.items)
     → MatchResult told (λ t. (w ≡ t.reason) × (text ≡ t.text.items)) (λ _. (w ≡ reasons.NoMemory) × (text ≡ before))

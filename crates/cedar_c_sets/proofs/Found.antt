@@ -1,4 +1,4 @@
--- What is found of a policy set by an id, as a policy or as a body, and how it is told.
+-- Lookups of policies and bodies by id, and their encoding.
 use Rattle.std.proofs.Common.{◌≡◌, ◌≤◌, ℕ, List, inl, inr, refl, subst}
 use Rattle.std.specs.Prelude.{◌⊎◌, MatchResult, Option, Some, None, Result, Ok, Err}
 use Rattle.std.specs.Option.{option_map}
@@ -13,7 +13,7 @@ use Rattle.cedar_c_sets.specs.Reads.{IsUntoldAt, body_at, body_bound, bound_body
 use Rattle.cedar_c_sets.specs.Scopes.{TellsFound, TellsScope, action_at, of_bound, of_found, principal_at, resource_at}
 use Rattle.cedar_c_sets.specs.laws.Finding.{IsScopeless, IsUnfound}
 
--- nothing is bound where nothing is found
+-- If nothing is found, the id is not in use.
 none_among : {X : Type 0} (p : PolicyParts → X) (t : BodyParts → X) (x : Option PolicyParts) (y : Option BodyParts)
     → of_found p t x y ≡ None → option_map body_bound (bound_among x y) ≡ None
 none_among p t (Some x) y e = absurd (cc)
@@ -29,7 +29,7 @@ unfound : {X : Type 0} (p : PolicyParts → X) (t : BodyParts → X) (which : �
 unfound p t which b id w (inl m) = inl m
 unfound p t which b id w (inr h) = inr (inr (h.0, none_bound p t b id h.1))
 
--- what is told of each of the three is told of the one with its number
+-- The encoding of each of the three constraints is the encoding of the one with its number.
 pub by_principal : (which : ℕ) (b : SetParts) (id : List ℕ) (r : Result (ℕ × List (List ℕ)) Reason) → which ≡ 0
     → MatchResult r (λ v. TellsFound TellsConstraint (principal_at b id) v.0 v.1) (IsUnfound (principal_at b id))
     → MatchResult r (λ v. TellsScope which b id v.0 v.1) (IsScopeless which b id)
@@ -54,7 +54,7 @@ scope_untold_of which b id w u (inl m) = inr (inl (inl m))
 scope_untold_of which b id w u (inr (inl h)) = inl h
 scope_untold_of which b id w u (inr (inr h)) = inr (inr (h.0, u, h.1))
 
--- why a scope is not told, of an id that was read
+-- The reason why there is no constraint, for a valid id.
 pub scope_untold : (which : ℕ) (b : SetParts) (i id : List ℕ) (w : Reason) → i ≡ id → IsUtf8 id
     → IsScopeless which b i w
     → ((w ≡ reasons.BadArgument) × (3 ≤ which)) ⊎ IsUntoldAt (bound_body b id) id w

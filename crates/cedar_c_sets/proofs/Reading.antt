@@ -1,4 +1,4 @@
--- What is found at an id that was read, and the annotation at a key that was.
+-- Lookups by a valid id, and of an annotation by a valid key.
 use Rattle.std.proofs.Common.{◌≡◌, ℕ, List, [], ◌∷◌, true, false, refl, subst, sym}
 use Rattle.std.specs.Prelude.{Option, Some, None}
 use Rattle.cedar_ids.specs.TextOf.{IsIdentifierText}
@@ -6,16 +6,16 @@ use Rattle.cedar_annotation.specs.Annotations.{AnnotationsView, value_at}
 use Rattle.cedar_policy_maps.specs.PolicySets.{SetParts}
 use Rattle.cedar_c_sets.specs.Reads.{IsValueTold}
 
--- what is found at an id that was read is found at its bytes
+-- A lookup by a valid id is a lookup by its bytes.
 pub found : {X : Type 0} (at : SetParts → List ℕ → Option X) (b : SetParts) (i id : List ℕ) (x : X) → i ≡ id
     → Some x ≡ at b i → at b id ≡ Some x
 found at b i id x is f = sym (subst (λ n. Some x ≡ at b n) is f)
 
--- a key that was read is the text
+-- A valid key is its text.
 pub own_key : (k text : List ℕ) → IsIdentifierText k text → IsIdentifierText text text
 own_key k text r = subst (λ t. IsIdentifierText t t) (sym r.1) (r.0, refl)
 
--- what is told of an annotation at a key that was read: that there is none, or its value
+-- The texts for an annotation with a valid key.
 pub told_none : (key k : List ℕ) (a : AnnotationsView) (texts : List (List ℕ)) → key ≡ k → None ≡ value_at k a
     → texts ≡ [] → IsValueTold (value_at key a) false texts
 told_none key k a texts is f p =

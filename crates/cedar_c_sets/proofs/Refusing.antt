@@ -1,4 +1,4 @@
--- A refusal of a step as it is told to a caller.
+-- An error of a step, as the caller receives it.
 use Rattle.std.specs.Prelude.{◌≡◌, ◌⊎◌, ℕ, List, ◌∷◌, Bool, false, ◌++◌, IfOk, MatchResult, Option, Some, None, Result}
 use Rattle.std.specs.Prelude.{Ok, Err}
 use Rattle.std.proofs.Common.{ap, sym, subst, ◌∙◌, inl, inr, arith}
@@ -16,7 +16,7 @@ use Rattle.cedar_c_lists.specs.declared.reason.Reason.TheVariants as reasons
 use Rattle.cedar_c_sets.specs.Sets.{IsToldBy, IsToldFor, named_by, reason_of, taking}
 use Rattle.cedar_c_sets.specs.declared.telling.Told.{Told}
 
--- a step that takes something out is refused as is told; or memory for the text was
+-- The error of a removal is the error of its step, or an allocation failure.
 pub told_taking : {E : Type 0} (o : Option Refusal) (step : Result Binding Refusal) (b : SetParts) (i : List ℕ)
     (told : Result Told E) (w : Reason) (before text : List ℕ) → IsRefusal o step
     → IfOk told (λ t. IsToldFor o t.reason t.text.items)
@@ -27,7 +27,7 @@ told_taking None step b i (Ok told) w before text r t h = absurd t
 told_taking (Some x) step b i (Ok told) w before text r t h =
     inr (x, ap (taking b i) r, (h.0 ∙ t.0, λ n. h.1 ∙ t.1 n ∙ ap (λ v. words_of v ++ (32 ∷ named_by x)) (sym h.0)))
 
--- a step that puts something in is refused as is told; or memory for the text was
+-- The error of an addition is the error of its step, or an allocation failure.
 pub told_step : {B E : Type 0} (o : Option Refusal) (step : Result B Refusal) (told : Result Told E) (w : Reason)
     (before text : List ℕ) → IsRefusal o step
     → IfOk told (λ t. IsToldFor o t.reason t.text.items)
@@ -38,7 +38,7 @@ told_step None step (Ok told) w before text r t h = absurd t
 told_step (Some x) step (Ok told) w before text r t h =
     inr (x, r, (h.0 ∙ t.0, λ n. h.1 ∙ t.1 n ∙ ap (λ v. words_of v ++ (32 ∷ named_by x)) (sym h.0)))
 
--- a merge is refused by the first id that conflicts, as is told; or memory was
+-- The error of a merge names the first conflicting id, or is an allocation failure.
 merging_told : {A E : Type 0} (entries : A → List (List ℕ × List ℕ)) (e : PolicySetError) (copy now other : SetParts)
     (rename : Bool) (new : SetParts) (told : Result Told E) (w : Reason) (before text : List ℕ) → copy ≡ now
     → Merges entries (Err e) copy other rename new
@@ -74,7 +74,7 @@ told_merging entries r e copy now other rename new told w before text err is m t
     merging_told entries e copy now other rename new told w before text is
     (subst (λ x. Merges entries x copy other rename new) err m) t h
 
--- no refusal is told as want of memory
+-- No error has the reason of an allocation failure.
 no_memory_told : (x : Refusal) → reason_of x ≡ reasons.NoMemory → ⊥
 no_memory_told (occupied i) m = absurd (omega (arith, ap number_of m))
 no_memory_told (no_body i) m = absurd (omega (arith, ap number_of m))
@@ -90,7 +90,7 @@ no_memory_told (not_a_template i) m = absurd (omega (arith, ap number_of m))
 no_memory_told (no_static i) m = absurd (omega (arith, ap number_of m))
 no_memory_told (not_static i) m = absurd (omega (arith, ap number_of m))
 
--- the text of the last refusal is as it was where memory was refused
+-- The text of the last error does not change after an allocation failure.
 pub kept_before : {E : Type 0} (o : Option Refusal) (told : Result Told E) (w : Reason) (before text : List ℕ)
     → IfOk told (λ t. IsToldFor o t.reason t.text.items)
     → MatchResult told (λ t. (w ≡ t.reason) × (text ≡ t.text.items)) (λ _. (w ≡ reasons.NoMemory) × (text ≡ before))

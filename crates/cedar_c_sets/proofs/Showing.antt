@@ -1,4 +1,4 @@
--- What is shown of what an id is bound to.
+-- The encoded expressions of the policy or template with an id.
 use Rattle.std.specs.Prelude.{◌≡◌, ℕ, List, Option, Some}
 use Rattle.std.proofs.Common.{subst, sym, ◌∙◌}
 use Rattle.std.specs.Str.{IsUtf8}
@@ -11,7 +11,7 @@ use Rattle.cedar_c_sets.specs.Reads.{bound_body}
 use Rattle.cedar_c_sets.specs.declared.kept_set.KeptSet.{KeptSet}
 use Rattle.cedar_c_sets.proofs.Reading.{found}
 
--- what is kept of an expression that is shown, of what an id that was read is bound to
+-- The stored expression of the policy or template with a valid id.
 pub shows : {B H : Type 0} (of : BodyParts → Option ExprTree) (i id : List ℕ) (old new : KeptSet B H) (t : BodyParts)
     (e : ExprTree) (answer : List (List ℕ)) (nodes : List Node) → i ≡ id → IsUtf8 id → Some t ≡ bound_body old.set i
     → of t ≡ Some e → IsShown e answer nodes → new.set ≡ old.set → new.refusal.items ≡ old.refusal.items

@@ -1,4 +1,4 @@
--- Which step it is by which a body joins as a static policy.
+-- The step by which a body is added as a static policy.
 use Rattle.std.proofs.Common.{◌≡◌, List, [], ◌∷◌, ap, refl, sym}
 use Rattle.std.specs.Prelude.{Err}
 use Rattle.cedar_terms.specs.declared.slot.SlotId.{SlotId}
@@ -12,10 +12,10 @@ slotted_with : (ss : List SlotId) (b : SetParts) (t : BodyParts) → (ss ≡ [] 
 slotted_with [] b t n = absurd (n refl)
 slotted_with (s ∷ ss) b t n = refl
 
--- a body with slots is refused as no static policy
+-- A body with slots is not a static policy.
 pub slotted : (b : SetParts) (t : BodyParts) → (body_slots t ≡ [] → ⊥) → static_step b t ≡ Err (not_static t.id)
 slotted b t n = slotted_with (body_slots t) b t n
 
--- one without joins as a static policy
+-- A body without slots is added as a static policy.
 pub slotless : (b : SetParts) (t : BodyParts) → body_slots t ≡ [] → add_static_step b t ≡ static_step b t
 slotless b t e = sym (ap (λ (ss : List SlotId). static_step_with ss b t) e)

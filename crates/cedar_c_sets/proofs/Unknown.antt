@@ -1,4 +1,4 @@
--- The uids of a set, of which some unknowns name each.
+-- The uids of a set that some unknowns name.
 use Rattle.std.proofs.Common.{◌≡◌, List, ap, ◌∙◌}
 use Rattle.std.specs.FinSet as set
 use Rattle.std.specs.HashSet.{HashSet}
@@ -11,7 +11,7 @@ use Rattle.cedar_uid_sets.specs.laws.Sets.{contains_listed}
 use Rattle.cedar_policy.specs.Unknowns.{AreUnknownEntities}
 use Rattle.cedar_c_sets.specs.Unknowns.{AreNamedBy}
 
--- the uids of a set that is made of those that some unknowns name are such
+-- The set of the uids that some unknowns name.
 pub named_by : {S : Type 0} (found : HashSet EntityUID S) (xs : List UnknownParts) (s : UidValues) (us : List EntityUID)
     → AreUnknownEntities found xs → s ≡ set.from_list {R = uid_order} found.keys
     → ((q : EntityUID) → is_member same_uid us q ≡ set.contains s q) → AreNamedBy xs us

@@ -1,4 +1,4 @@
--- What joins a policy set by the bodies that a caller gives.
+-- The addition of bodies from a caller's lists to a policy set.
 use Rattle.std.specs.Prelude.{◌⊎◌, ℕ, List, [], ◌∷◌, Result, Err}
 use Rattle.cedar_terms.specs.declared.slot.SlotId.{SlotId}
 use Rattle.cedar_body.specs.Bodies.{BodyParts, body_slots}
@@ -10,26 +10,27 @@ use Rattle.cedar_c_bodies.specs.Bodies.{Given, IsGiven, IsNotGiven}
 use Rattle.cedar_c_sets.specs.Sets.{KeepsTexts, Makes}
 use Rattle.cedar_c_sets.specs.declared.kept_set.KeptSet.{KeptSet}
 
--- a body with these slots joins as a static policy where there are none, and is else refused as no static one
+-- The addition of a body as a static policy. If it has slots, the result is an error.
 abbrev pub static_step_with : List SlotId → SetParts → BodyParts → Result SetParts Refusal
 static_step_with [] b t = add_static_step b t
 static_step_with (s ∷ ss) b t = Err (not_static t.id)
 
--- a body joins so, by its slots
+-- The addition of a body as a static policy, by its slots.
 abbrev pub static_step : SetParts → BodyParts → Result SetParts Refusal
 static_step b t = static_step_with (body_slots t) b t
 
--- the body that a caller gives joins by a step; or it is not read, and all is as it was
+-- The effect of adding a body from a caller's lists by a step. Either the input is invalid and nothing changes, or the
+-- step is made on the decoded body.
 abbrev pub JoinsBy : {A B H : Type 0} → (SetParts → BodyParts → Result SetParts Refusal) → List ℕ → Given
     → Result A Reason → KeptSet B H → KeptSet B H → Type 0
 JoinsBy step id G r i j =
     IsStopped (IsNotGiven id G) r i j
     ⊎ ((b : BodyParts) × IsGiven id G b × Makes (step i.set b) r i j × KeepsTexts r i j)
 
--- it joins as a static policy
+-- The effect of adding a static policy from a caller's lists.
 abbrev pub AddsStaticWith : {A B H : Type 0} → List ℕ → Given → Result A Reason → KeptSet B H → KeptSet B H → Type 0
 AddsStaticWith id G r i j = JoinsBy static_step id G r i j
 
--- it joins as a template
+-- The effect of adding a template from a caller's lists.
 abbrev pub AddsTemplateWith : {A B H : Type 0} → List ℕ → Given → Result A Reason → KeptSet B H → KeptSet B H → Type 0
 AddsTemplateWith id G r i j = JoinsBy add_template_step id G r i j

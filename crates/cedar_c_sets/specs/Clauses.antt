@@ -1,4 +1,4 @@
--- What reading a clause or a condition tells, and what is kept of it.
+-- The results of reading a clause or a condition.
 use Rattle.std.specs.Prelude.{◌≡◌, ℕ, List, [], ◌∷◌, Bool, true, false, Option, Some, None, Result, Ok, Err}
 use Rattle.std.specs.Str.{IsUtf8}
 use Rattle.cedar_terms.specs.ExprTree.{ExprTree}
@@ -9,13 +9,13 @@ use Rattle.cedar_c_trees.specs.declared.node.Node.{Node}
 use Rattle.cedar_c_sets.specs.Reads.{IsUntoldAt, bound_body}
 use Rattle.cedar_c_sets.specs.declared.kept_set.KeptSet.{KeptSet}
 
--- an expression is written as nodes over one text, which is the answer
+-- Holds if the expression is encoded as nodes, and `answer` has their text.
 pub record IsShown (e : ExprTree) (answer : List (List ℕ)) (nodes : List Node) : Type 0 where
   pub bytes : List ℕ
   pub one : answer ≡ bytes ∷ []
   pub written : IsExprWritten e (record { bytes = bytes; nodes = nodes })
 
--- an expression is shown of the body of what an id is bound to; the set and the last refusal are as they were
+-- Holds if an expression of the body with an id was encoded and stored. The set and the last error do not change.
 pub record Shows {B H : Type 0} (of : BodyParts → Option ExprTree) (id : List ℕ) (i j : KeptSet B H) : Type 0 where
   pub set : j.set ≡ i.set
   pub refusal : j.refusal.items ≡ i.refusal.items
@@ -26,14 +26,15 @@ pub record Shows {B H : Type 0} (of : BodyParts → Option ExprTree) (id : List 
   pub found : of body ≡ Some expr
   pub shown : IsShown expr j.answer j.nodes.items
 
--- whether there is a clause: then it is shown; where there is none, and where that is not told, all is as it was
+-- The effect of reading a clause. If there is one, it is encoded and stored. If there is none, or after an error,
+-- nothing changes.
 abbrev pub AnswersClause : {B H : Type 0} → List ℕ → Result Bool Reason → KeptSet B H → KeptSet B H → Type 0
 AnswersClause id (Ok true) i j = Shows (λ t. t.clause) id i j
 AnswersClause id (Ok false) i j =
     (j ≡ i) × IsUtf8 id × ((t : BodyParts) × (bound_body i.set id ≡ Some t) × (t.clause ≡ None))
 AnswersClause id (Err w) i j = (j ≡ i) × IsUntoldAt (bound_body i.set id) id w
 
--- the condition is shown; or why not, and all is as it was
+-- The effect of reading a condition. It is encoded and stored. After an error nothing changes.
 abbrev pub AnswersCondition : {A B H : Type 0} → List ℕ → Result A Reason → KeptSet B H → KeptSet B H → Type 0
 AnswersCondition id (Ok a) i j = Shows (λ t. Some (condition t)) id i j
 AnswersCondition id (Err w) i j = (j ≡ i) × IsUntoldAt (bound_body i.set id) id w

@@ -1,4 +1,4 @@
--- What the calls that read a policy set tell: of the set, and of what an id is bound to.
+-- The results of the calls that read a policy set.
 use Rattle.std.specs.Prelude.{◌≡◌, ◌⊎◌, ℕ, List, [], ◌∷◌, Bool, true, false, Option, Some, None, Result, Ok, Err}
 use Rattle.std.specs.List.{find, flat_map}
 use Rattle.std.specs.Option.{IfSome, option_map}
@@ -26,55 +26,55 @@ use Rattle.cedar_c_sets.specs.Sets.{IsSlots, pair_of}
 use Rattle.cedar_c_sets.specs.declared.kept_set.KeptSet.{KeptSet}
 use Rattle.cedar_c_sets.specs.declared.making.SlotsNamed.{SlotsNamed}
 
--- ---- what an id is bound to
+-- ---- Lookups by id
 
--- the body with an id, of a static policy or a template
+-- The body with an id: the body of a static policy or a template.
 abbrev pub body_at : SetParts → List ℕ → Option BodyParts
 body_at b id = find (is_body_at id) b.bodies
 
--- the policy with an id, a static policy or a link
+-- The policy with an id: a static policy or a link.
 abbrev pub policy_at : SetParts → List ℕ → Option PolicyParts
 policy_at b id = find (is_policy_at id) b.policies
 
--- the body of what is bound: of a link that of its template
+-- The body of a binding. For a link it is the body of its template.
 abbrev pub body_bound : Binding → BodyParts
 body_bound (Static t) = t
 body_bound (Template t) = t
 body_bound (Link l t e) = t
 
--- the body of what an id is bound to
+-- The body of the policy or template with an id.
 abbrev pub bound_body : SetParts → List ℕ → Option BodyParts
 bound_body b id = option_map body_bound (bound_at b id)
 
--- the number of what is bound: 1 for a static policy, 2 for a link, 3 for a template, 0 for nothing
+-- The number of a kind: 1 for a static policy, 2 for a link, 3 for a template, and 0 if the id is not in use.
 abbrev pub kind_number : Option Binding → ℕ
 kind_number None = 0
 kind_number (Some (Static t)) = 1
 kind_number (Some (Link l t e)) = 2
 kind_number (Some (Template t)) = 3
 
--- the number of what an id is bound to; or why it is not told
+-- The result of reading the kind of an id, or the reason for the error.
 abbrev pub KindAt : SetParts → List ℕ → Result ℕ Reason → Type 0
 KindAt b id (Ok n) = IsUtf8 id × (n ≡ kind_number (bound_at b id))
 KindAt b id (Err w) = IsNoId id w
 
--- ---- what is told
+-- ---- Values
 
--- why nothing is told of what was looked for at an id
+-- Holds if w is the reason why a lookup by id has no result.
 abbrev pub IsUntoldAt : {X : Type 0} → Option X → List ℕ → Reason → Type 0
 IsUntoldAt {X = X} found id w = IsNoId id w ⊎ ((w ≡ reasons.NoBody) × IsUtf8 id × (found ≡ None))
 
--- a value of what is found at an id; or why it is not told
+-- The result of reading a value of the policy or body with an id, or the reason for the error.
 abbrev pub AsksAt : {X V : Type 0} → (SetParts → List ℕ → Option X) → (V → X → Type 0) → SetParts → List ℕ
     → Result V Reason → Type 0
 AsksAt {X = X} at Is b id (Ok v) = IsUtf8 id × ((x : X) × (at b id ≡ Some x) × Is v x)
 AsksAt at Is b id (Err w) = IsUntoldAt (at b id) id w
 
--- the number of the effect of a body
+-- Holds if n is the number of the body's effect.
 abbrev pub IsEffectOf : ℕ → BodyParts → Type 0
 IsEffectOf n t = IsEffect n t.effect
 
--- the slots of a body
+-- The slots of a body.
 abbrev pub slots_named : BodyParts → SlotsNamed
 slots_named t = record {
   principal = is_among (body_slots t) Principal;
@@ -82,81 +82,83 @@ slots_named t = record {
   resource = is_among (body_slots t) Resource;
 }
 
--- the number of them
+-- Holds if n is the number of the body's slots.
 abbrev pub IsSlotsOf : ℕ → BodyParts → Type 0
 IsSlotsOf n t = IsSlots n (slots_named t)
 
--- ---- answers
+-- ---- Stored texts
 
--- texts become the answer, and the set, the nodes and the last refusal are as they were
+-- Holds if the new `answer` satisfies `Are`. The set, the nodes and the last error do not change.
 abbrev pub IsAnswered : {B H : Type 0} → (List (List ℕ) → Type 0) → KeptSet B H → KeptSet B H → Type 0
 IsAnswered Are i j = (j.set ≡ i.set) × (j.refusal.items ≡ i.refusal.items) × (j.nodes.items ≡ i.nodes.items)
     × Are j.answer
 
--- texts of what is found at an id become the answer; or why they do not, and all is as it was
+-- The effect of reading texts of the policy or body with an id. They are stored in `answer`. After an error nothing
+-- changes.
 abbrev pub AnswersAt : {X A B H : Type 0} → (SetParts → List ℕ → Option X) → (X → List (List ℕ) → Type 0) → List ℕ
     → Result A Reason → KeptSet B H → KeptSet B H → Type 0
 AnswersAt {X = X} at Are id (Ok a) i j = IsUtf8 id × ((x : X) × (at i.set id ≡ Some x) × IsAnswered (Are x) i j)
 AnswersAt at Are id (Err w) i j = (j ≡ i) × IsUntoldAt (at i.set id) id w
 
--- a text, of which that is known
+-- Holds if the text is the specified output. If the output is unspecified, it always holds.
 abbrev pub IsTextBy : Option (List ℕ) → List ℕ → Type 0
 IsTextBy output text = IfSome output (λ t. text ≡ t)
 
--- there is one text, and what is known of it is this
+-- Holds if there is one text, and it is the specified output.
 abbrev pub IsOneBy : Option (List ℕ) → List (List ℕ) → Type 0
 IsOneBy output texts = (t : List ℕ) × (texts ≡ t ∷ []) × IsTextBy output t
 
--- the text of a body
+-- Holds if the only text is the text of the body.
 abbrev pub IsBodyText : BodyParts → List (List ℕ) → Type 0
 IsBodyText t texts = IsOneBy (body_output t) texts
 
--- the text of a policy
+-- Holds if the only text is the text of the policy.
 abbrev pub IsPolicyText : PolicyParts → List (List ℕ) → Type 0
 IsPolicyText p texts = IsOneBy (policy_output p) texts
 
--- the id of the template of a policy
+-- Holds if the only text is the id of the policy's template.
 abbrev pub IsTemplateId : PolicyParts → List (List ℕ) → Type 0
 IsTemplateId p texts = texts ≡ p.template.id ∷ []
 
--- the annotations of a body, keys ascending: each key, and behind it its value
+-- Holds if the texts are the annotations of a body in ascending order of key: each key, followed by its value.
 abbrev pub AreAnnotations : BodyParts → List (List ℕ) → Type 0
 AreAnnotations t texts = (texts ≡ flat_map pair_of t.annotations) × KeysAscend t.annotations
 
--- the text of what a slot is bound to: the empty one where it is not bound
+-- Holds if the text is the text of the bound uid, or empty if the slot is not bound.
 abbrev pub IsBoundText : Option UidParts → List ℕ → Type 0
 IsBoundText None text = text ≡ []
 IsBoundText (Some u) text = IsTextBy (uid_output u) text
 
--- what the principal's, the action's and the resource's slot are bound to
+-- Holds if the texts are the texts of the bound principal, action and resource.
 abbrev pub AreBoundBy : EnvParts → List (List ℕ) → Type 0
 AreBoundBy e texts =
     (x : List ℕ) × (y : List ℕ) × (z : List ℕ) × (texts ≡ x ∷ y ∷ z ∷ []) × IsBoundText (e Principal) x
     × IsBoundText (e Action) y × IsBoundText (e Resource) z
 
--- what those of a policy are bound to
+-- Holds if the texts are the bindings of the policy.
 abbrev pub AreBoundIn : PolicyParts → List (List ℕ) → Type 0
 AreBoundIn p texts = AreBoundBy p.env texts
 
--- the text of a set becomes the answer; or memory was refused, and all is as it was
+-- The effect of reading the text of a set. It is stored in `answer`. After an allocation failure nothing changes.
 abbrev pub AnswersText : {A B H : Type 0} → Result A Reason → KeptSet B H → KeptSet B H → Type 0
 AnswersText (Ok a) i j = IsAnswered (IsOneBy (set_output i.set)) i j
 AnswersText (Err w) i j = (j ≡ i) × (w ≡ reasons.NoMemory)
 
--- the ids of the policies on a body become the answer; or why they do not, and all is as it was
+-- The effect of reading the ids of the policies that use a body. They are stored in `answer`. After an error nothing
+-- changes.
 abbrev pub AnswersLinked : {A B H : Type 0} → List ℕ → Result A Reason → KeptSet B H → KeptSet B H → Type 0
 AnswersLinked id (Ok a) i j = IsUtf8 id × IsAnswered (λ ids. get_linked_step i.set id ≡ Ok ids) i j
 AnswersLinked id (Err w) i j =
     (j ≡ i) × (IsNoId id w ⊎ ((w ≡ reasons.NoBody) × IsUtf8 id × (get_linked_step i.set id ≡ Err (no_body id))))
 
--- ---- one annotation
+-- ---- A single annotation
 
--- whether there is a value, which is the only text then; else there is no text
+-- The texts for an annotation: its value, or no text if there is none.
 abbrev pub IsValueTold : Option (List ℕ) → Bool → List (List ℕ) → Type 0
 IsValueTold None has texts = (has ≡ false) × (texts ≡ [])
 IsValueTold (Some v) has texts = (has ≡ true) × (texts ≡ v ∷ [])
 
--- the annotation at a key, of the body of what an id is bound to, becomes the answer; or why not, and all is as it was
+-- The effect of reading the annotation with a key. Its value is stored in `answer`. After an error nothing changes.
 abbrev pub AnswersAnnotation : {B H : Type 0} → List ℕ → List ℕ → Result Bool Reason → KeptSet B H → KeptSet B H
     → Type 0
 AnswersAnnotation id key (Ok has) i j =

@@ -1,5 +1,4 @@
--- What the calls on a policy set give, and what is kept of it, whatever builds its hashers: B is that builder, and H
--- what it builds.
+-- The results of the calls on a policy set, for any hasher builder B with hashers H.
 use Rattle.std.specs.Prelude.{◌≡◌, ◌⊎◌, ◌+◌, ℕ, List, [], ◌∷◌, ◌++◌, Bool, false, IsTrue, Option, Some, None, Result}
 use Rattle.std.specs.Prelude.{Ok, Err, if◌then◌else◌}
 use Rattle.std.specs.List.{flat_map}
@@ -32,40 +31,39 @@ use Rattle.cedar_c_sets.specs.declared.making.SlotsNamed.{SlotsNamed}
 use Rattle.cedar_c_lists.specs.declared.reason.Reason.{Reason}
 use Rattle.cedar_c_lists.specs.declared.reason.Reason.TheVariants as reasons
 
--- ---- numbers and texts
+-- ---- Numbers and texts
 
--- the number of some slots: 1 for the principal's, 2 for the action's and 4 for the resource's; why a number is taken
--- as none
+-- The number of slots is a sum: 1 for the principal, 2 for the action and 4 for the resource.
 abbrev pub IsSlots : ℕ → SlotsNamed → Type 0
 IsSlots n s = n ≡ (if s.principal then 1 else 0) + ((if s.action then 2 else 0) + (if s.resource then 4 else 0))
 
--- the number is that of no slots
+-- Holds if the number is not a number of slots; the reason is `BadArgument`.
 abbrev pub IsNoSlots : ℕ → Reason → Type 0
 IsNoSlots n w = (w ≡ reasons.BadArgument) × ((s : SlotsNamed) → IsSlots n s → ⊥)
 
--- a template with these slots, which constrains nothing else
+-- The body of a template with these slots and no other constraints.
 abbrev pub template_body : List ℕ → Effect → SlotsNamed → BodyParts
 template_body i e s = slotted_body i e s.principal s.action s.resource
 
--- what a part of a text says that a slot is bound to: nothing where the part is empty, else the uid that is read of it
+-- The binding in a part of a text: none if the part is empty, and otherwise the parsed uid.
 abbrev pub IsBoundAs : List ℕ → Span → Option EntityUID → Type 0
 IsBoundAs text s None = IsInside text s × (part text s ≡ [])
 IsBoundAs text s (Some u) = (part text s ≡ [] → ⊥) × IsReadAt text u s
 
--- why that is not read
+-- Holds if w is the reason why there is no binding.
 abbrev pub IsUnboundAs : List ℕ → Span → Reason → Type 0
 IsUnboundAs text s w = IsUnreadAt text s w
 
--- bindings with one slot bound, if something is given to bind it to
+-- The bindings with one more slot bound, if there is a uid.
 abbrev pub bound_if : EnvParts → SlotId → Option EntityUID → EnvParts
 bound_if e s None = e
 bound_if e s (Some u) = bound_more e s (uid_parts u)
 
--- a slot is bound to what a part of a text says
+-- Holds if a slot was bound to the uid in a part of a text.
 abbrev pub Binds : List ℕ → Span → SlotId → EnvParts → EnvParts → Type 0
 Binds text at s old new = (o : Option EntityUID) × IsBoundAs text at o × (new ≡ bound_if old s o)
 
--- three parts of a text say what the principal's, the action's and the resource's slot are bound to
+-- The bindings of principal, action and resource in three parts of a text.
 abbrev pub AreBindings : List ℕ → List Span → EnvParts → Type 0
 AreBindings text (p ∷ (a ∷ (r ∷ []))) e =
     (x : Option EntityUID) × (y : Option EntityUID) × (z : Option EntityUID) × IsBoundAs text p x × IsBoundAs text a y
@@ -73,14 +71,14 @@ AreBindings text (p ∷ (a ∷ (r ∷ []))) e =
     × (e ≡ bound_if (bound_if (bound_if no_env Principal x) Action y) Resource z)
 AreBindings text parts e = ⊥
 
--- why three parts are not read so
+-- Holds if w is the reason why there are no bindings: there are not three parts, or one is invalid.
 abbrev pub IsUnboundBy : List ℕ → List Span → Reason → Type 0
 IsUnboundBy text (p ∷ (a ∷ (r ∷ []))) w = IsUnboundAs text p w ⊎ (IsUnboundAs text a w ⊎ IsUnboundAs text r w)
 IsUnboundBy text parts w = w ≡ reasons.BadArgument
 
--- ---- refusals
+-- ---- Errors
 
--- the reason that a refusal is
+-- The reason of an error.
 abbrev pub reason_of : Refusal → Reason
 reason_of (occupied i) = reasons.Occupied
 reason_of (no_body i) = reasons.NoBody
@@ -96,7 +94,7 @@ reason_of (not_a_template i) = reasons.NotATemplate
 reason_of (no_static i) = reasons.NoStatic
 reason_of (not_static i) = reasons.NotStatic
 
--- what a refusal names: an id; slots; or a uid
+-- The name in an error: an id, slots, or a uid.
 abbrev pub named_by : Refusal → List ℕ
 named_by (occupied i) = i
 named_by (no_body i) = i
@@ -112,54 +110,57 @@ named_by (not_a_template i) = i
 named_by (no_static i) = i
 named_by (not_static i) = i
 
--- no byte of the eid of a uid that it names is past ASCII
+-- Holds if the uid in the error, if there is one, has an ASCII eid.
 abbrev pub NamesAscii : Refusal → Type 0
 NamesAscii (not_an_action u) = IsTrue (is_ascii u.eid)
 NamesAscii x = Unit {0}
 
--- a reason and a text tell a refusal: the words of the reason, a blank, and what is named. Of a uid past ASCII nothing
--- is said
+-- Holds if w is the reason of the error, and the text has the words of the reason, a blank, and the name. If the name
+-- is a uid with a non-ASCII eid, the text is unspecified.
 abbrev pub IsToldBy : Refusal → Reason → List ℕ → Type 0
 IsToldBy x w text = (w ≡ reason_of x) × (NamesAscii x → text ≡ words_of w ++ (32 ∷ named_by x))
 
--- a reason and a text tell a refusal, if there is one
+-- Holds if there is an error, and the reason and the text are its.
 abbrev pub IsToldFor : Option Refusal → Reason → List ℕ → Type 0
 IsToldFor None w text = ⊥
 IsToldFor (Some x) w text = IsToldBy x w text
 
--- ---- steps
+-- ---- Steps
 
--- a call that lists nothing keeps the texts of the last answer, the nodes of the last expression, and the text of the
--- last refusal where it is made or memory is refused
+-- A call that returns no texts keeps `answer` and `nodes`. It keeps the text of the last error if it succeeds or an
+-- allocation fails.
 abbrev pub KeepsTexts : {A B H : Type 0} → Result A Reason → KeptSet B H → KeptSet B H → Type 0
 KeepsTexts r i j = (j.answer ≡ i.answer) × (j.nodes.items ≡ i.nodes.items) × KeepsRefusal r i.refusal.items j.refusal.items
 
--- the set is that of the step; or it is as it was, and the step is refused as is told, or memory was
+-- The effect of a call that makes a step. The set is the result of the step. After an error the set is unchanged, and
+-- the error is the error of the step or an allocation failure.
 abbrev pub Makes : {A B H : Type 0} → Result SetParts Refusal → Result A Reason → KeptSet B H → KeptSet B H → Type 0
 Makes step (Ok a) i j = step ≡ Ok j.set
 Makes step (Err w) i j = (j.set ≡ i.set) × ((w ≡ reasons.NoMemory)
     ⊎ ((x : Refusal) × (step ≡ Err x) × IsToldBy x w j.refusal.items))
 
--- the policy set without what a step takes out, or why it is refused
+-- The policy set after a removal, or its error.
 abbrev pub taking : SetParts → List ℕ → Result Binding Refusal → Result SetParts Refusal
 taking b i (Ok x) = Ok (without_id b i)
 taking b i (Err x) = Err x
 
--- a static policy with these bytes as its id and the effect of a number joins, or that is not read
+-- The effect of adding a static policy without constraints from an id and the number of an effect, or the reason why
+-- the input is invalid.
 abbrev pub AddsStatic : {A B H : Type 0} → List ℕ → ℕ → Result A Reason → KeptSet B H → KeptSet B H → Type 0
 AddsStatic id n r i j =
     IsStopped (λ w. IsNoEffect n w ⊎ IsNoId id w) r i j
     ⊎ ((e : Effect) × IsEffect n e × IsUtf8 id × Makes (add_static_step i.set (static_body id e)) r i j
     × KeepsTexts r i j)
 
--- and so a template, with the slots of a number
+-- The effect of adding a template from an id and the numbers of an effect and of slots, or the reason why the input is
+-- invalid.
 abbrev pub AddsTemplate : {A B H : Type 0} → List ℕ → ℕ → ℕ → Result A Reason → KeptSet B H → KeptSet B H → Type 0
 AddsTemplate id n m r i j =
     IsStopped (λ w. IsNoEffect n w ⊎ (IsNoSlots m w ⊎ IsNoId id w)) r i j
     ⊎ ((e : Effect) × (s : SlotsNamed) × IsEffect n e × IsSlots m s × IsUtf8 id
     × Makes (add_template_step i.set (template_body id e s)) r i j × KeepsTexts r i j)
 
--- a link of the template with an id joins under another, with these bindings; or something of that is not read
+-- The effect of linking a template from two ids and bindings, or the reason why the input is invalid.
 abbrev pub Links : {A B H : Type 0} → List ℕ → List ℕ → List ℕ → List Span → Result A Reason → KeptSet B H → KeptSet B H
     → Type 0
 Links template id text parts r i j =
@@ -167,25 +168,25 @@ Links template id text parts r i j =
     ⊎ ((e : EnvParts) × AreBindings text parts e × IsUtf8 template × IsUtf8 id
     × Makes (link_step i.set template id e) r i j × KeepsTexts r i j)
 
--- what an id is bound to is taken out by a step; or the id is not read
+-- The effect of a removal by id, or the reason why the id is invalid.
 abbrev pub Takes : {A B H : Type 0} → (SetParts → List ℕ → Result Binding Refusal) → List ℕ → Result A Reason
     → KeptSet B H → KeptSet B H → Type 0
 Takes step id r i j = IsStopped (IsNoId id) r i j ⊎ (IsUtf8 id × Makes (taking i.set id (step i.set id)) r i j
     × KeepsTexts r i j)
 
--- ---- merging
+-- ---- Merging
 
--- a renaming as texts: each id that was renamed, and behind it its new one
+-- An entry of a renaming as texts: the old id, followed by the new one.
 abbrev pub pair_of : List ℕ × List ℕ → List (List ℕ)
 pair_of p = p.0 ∷ p.1 ∷ []
 
--- the texts of a renaming: each old id, and behind it the new one
+-- A renaming as texts: each old id, followed by the new one.
 abbrev pub renaming_texts : List (List ℕ × List ℕ) → List (List ℕ)
 renaming_texts r = flat_map pair_of r
 
--- another set is merged into this one, and the answer is the renaming; or the first id that conflicts is told, where
--- ids keep theirs, or memory was refused, and the set is as it was, as the text of the last refusal is where memory was
--- refused
+-- The effect of merging another set. The texts of the renaming are stored in `answer`. After an error the set is
+-- unchanged. The error is an allocation failure, or the first conflicting id if ids are not renamed. After an
+-- allocation failure the text of the last error is kept.
 abbrev pub MergesSet : {A B H : Type 0} → SetParts → Bool → Result A Reason → KeptSet B H → KeptSet B H → Type 0
 MergesSet other rename (Ok a) i j =
     (r : List (List ℕ × List ℕ)) × IsRenaming i.set other r × (rename ≡ false → conflicts i.set other ≡ [])
@@ -198,24 +199,24 @@ MergesSet other rename (Err w) i j =
     ⊎ ((rename ≡ false) × ((id : List ℕ) × (rest : List (List ℕ)) × (conflicts i.set other ≡ id ∷ rest)
     × IsToldBy (occupied id) w j.refusal.items)))
 
--- ---- ids
+-- ---- Ids
 
--- the number of each order of a policy set, and the ids in it
+-- The ids of a policy set by number: 0 for the bodies and 1 for the policies, each in order.
 abbrev pub IsKind : ℕ → SetParts → List (List ℕ) → Type 0
 IsKind n b ids = ((n ≡ 0) × (ids ≡ body_ids b)) ⊎ ((n ≡ 1) × (ids ≡ policy_ids b))
 
--- the ids of an order become the answer; or why they do not, and all is as it was
+-- The effect of reading the ids. They are stored in `answer`. After an error nothing changes.
 abbrev pub ListsIds : {A B H : Type 0} → ℕ → Result A Reason → KeptSet B H → KeptSet B H → Type 0
 ListsIds n (Ok a) i j =
     (j.set ≡ i.set) × (j.refusal.items ≡ i.refusal.items) × (j.nodes.items ≡ i.nodes.items) × IsKind n i.set j.answer
 ListsIds n (Err w) i j = (j ≡ i) × ((w ≡ reasons.NoMemory)
     ⊎ ((w ≡ reasons.BadArgument) × ((ids : List (List ℕ)) → IsKind n i.set ids → ⊥)))
 
--- no call has answered anything of what is kept, and none was refused
+-- Holds if `answer` and `nodes` are empty, and there is no last error.
 abbrev pub IsUntold : {B H : Type 0} → KeptSet B H → Type 0
 IsUntold k = (k.answer ≡ []) × (k.refusal.items ≡ []) × (k.nodes.items ≡ [])
 
--- a copy of a set; or why it is not made
+-- The result of copying a set: an equal set, or an allocation failure.
 abbrev pub CopiesSet : {B H : Type 0} → SetParts → Result (KeptSet B H) Reason → Type 0
 CopiesSet b (Ok k) = (k.set ≡ b) × IsUntold k
 CopiesSet b (Err w) = w ≡ reasons.NoMemory

@@ -1,4 +1,4 @@
--- What validating a policy set tells, and what is kept of it.
+-- The result of validating a policy set.
 use Rattle.std.specs.Prelude.{◌≡◌, ◌⊎◌, ℕ, List, ◌∷◌, ◌++◌, Option, Some, None, Result, Ok, Err, All}
 use Rattle.cedar_policy.specs.declared.err.TemplateValidationError.{TemplateValidationError}
 use Rattle.cedar_policy.specs.declared.err.TemplateValidationError.TheVariants as templates
@@ -11,7 +11,7 @@ use Rattle.cedar_c_lists.specs.declared.reason.Reason.{Reason}
 use Rattle.cedar_c_lists.specs.declared.reason.Reason.TheVariants as reasons
 use Rattle.cedar_c_sets.specs.declared.kept_set.KeptSet.{KeptSet}
 
--- the reason that a fault of a body is; want of memory is none. A body's slots are never other than those of its condition
+-- The reason of an invalid body. An allocation failure has none. `SlotCacheMismatch` never occurs.
 abbrev pub fault_reason : TemplateValidationError → Option Reason
 fault_reason (templates.SlotsInConditionClause s) = Some reasons.SlotInClause
 fault_reason (templates.InvalidActionType us) = Some reasons.NotActions
@@ -19,19 +19,21 @@ fault_reason (templates.InvalidExpression f) = Some reasons.UnknownFunction
 fault_reason templates.SlotCacheMismatch = Some reasons.SlotInClause
 fault_reason templates.Memory = None
 
--- a reason and a text tell a fault, if there is one: the words of the reason, a blank, and an id
+-- Holds if there is a reason, and the text has its words, a blank, and the id.
 abbrev pub NamesFault : Option Reason → List ℕ → Reason → List ℕ → Type 0
 NamesFault None id w text = ⊥
 NamesFault (Some x) id w text = (w ≡ x) × (text ≡ words_of w ++ (32 ∷ id))
 
--- they tell the fault of a set: the link of a template without slots, or the body that is not valid
+-- Holds if w and the text are the reason and the text for an invalid set. They name a link whose template has no slots,
+-- or an invalid body.
 abbrev pub IsFaultTold : PolicySetValidationError → Reason → List ℕ → Type 0
 IsFaultTold (LinkToSlotlessTemplate l t) w text = NamesFault (Some reasons.SlotlessLink) l w text
 IsFaultTold (InvalidTemplate i e) w text = NamesFault (fault_reason e) i w text
 IsFaultTold Memory w text = ⊥
 
--- links and bodies are valid, and all is as it was; or the first fault is told, and the set, the answer and the nodes
--- are as they were, as the text of the last refusal is where memory was refused
+-- The effect of validating a set. If links and bodies are valid, nothing changes. Otherwise the error is the first
+-- fault or an allocation failure. The set, `answer` and `nodes` do not change, and after an allocation failure neither
+-- does the text of the last error.
 abbrev pub Validates : {A B H : Type 0} → Result A Reason → KeptSet B H → KeptSet B H → Type 0
 Validates (Ok a) i j = HasSlottedLinks i.set × All IsValidBody i.set.bodies × (j ≡ i)
 Validates (Err w) i j =

@@ -1,4 +1,4 @@
-//! Copies of a policy set that share nothing with it, for another thread, and merging by such a copy.
+//! Deep copies of a policy set, for another thread, and merging of a deep copy.
 ghost use Rattle.cedar_c_sets.specs.Sets.{CopiesSet, MergesSet};
 
 use crate::kept_set::KeptSet;
@@ -8,8 +8,12 @@ use std::alloc::Global;
 use std::hash::BuildHasher;
 
 impl<S: BuildHasher + Copy> KeptSet<S> {
-    /// A copy that shares nothing with the set, so that it may go to another thread; of it nothing was answered and
-    /// nothing refused. Takes memory, for all that the set holds. That nothing is shared is tested, not proved.
+    /// Returns a deep copy of the set, with an empty `answer` and no last error. It can be sent to another thread. That
+    /// nothing is shared is tested, not proved.
+    ///
+    /// # Errors
+    ///
+    /// Returns `NoMemory` if an allocation fails.
     pub fn copy_apart(&self, alloc: Global) -> Result<KeptSet<S>, Reason>
         ensures { CopiesSet self.now.set result }
     {
@@ -17,8 +21,11 @@ impl<S: BuildHasher + Copy> KeptSet<S> {
         Ok(KeptSet::of(alloc, set))
     }
 
-    /// Takes in what another set binds, as `merge` does, but of a copy of that set which shares nothing with it. Takes
-    /// memory, for that copy too.
+    /// Merges a deep copy of another set, as [`KeptSet::merge`] does.
+    ///
+    /// # Errors
+    ///
+    /// The errors of [`KeptSet::merge`].
     pub fn merge_apart(
         &mut self,
         alloc: Global,

@@ -1,4 +1,4 @@
-//! The calls on a policy set by which bodies that a caller gives join it.
+//! The calls that add bodies from a caller's lists to a policy set.
 ghost use Rattle.cedar_c_bodies.specs.Bodies.{given_by};
 ghost use Rattle.cedar_c_sets.specs.BodyCalls.{AddsStaticWith, AddsTemplateWith, static_step};
 ghost use Rattle.cedar_c_sets.specs.Sets.{KeepsTexts, Makes};
@@ -12,7 +12,7 @@ use std::alloc::Global;
 use std::hash::BuildHasher;
 
 impl<S: BuildHasher + Copy> KeptSet<S> {
-    // The static policy of a template joins; it is refused as none where the template has slots.
+    // Adds a template as a static policy. Returns `NotStatic` if it has slots.
     fn join_as_static(&mut self, alloc: Global, template: Template) -> Result<(), Reason>
         ensures makes { Makes (static_step self.old.set template) result self.old self.new }
         ensures texts { KeepsTexts result self.old self.new }
@@ -27,9 +27,17 @@ impl<S: BuildHasher + Copy> KeptSet<S> {
         }
     }
 
-    /// A static policy with these bytes as its id joins, with the effect, the annotations, the constraints and the
-    /// clause that a caller gives. What `template_of` refuses leaves all as it was; `NotStatic` comes where a slot stands
-    /// in the body, before the set is asked. Takes memory; a refusal leaves the set as it was.
+    /// Adds a static policy with these bytes as its id, and with the effect, annotations, constraints and clause of the
+    /// caller's lists.
+    ///
+    /// # Errors
+    ///
+    /// - The errors of `template_of`.
+    /// - `NotStatic`: the body has a slot.
+    /// - `Occupied`: the id is already in use.
+    /// - `NoMemory`: an allocation failed.
+    ///
+    /// After an error the set is unchanged.
     pub fn add_static_with(
         &mut self,
         alloc: Global,
@@ -42,8 +50,15 @@ impl<S: BuildHasher + Copy> KeptSet<S> {
         self.join_as_static(alloc, template)
     }
 
-    /// A template with these bytes as its id joins so. Slots may stand in it, or none. Takes memory; a refusal leaves the
-    /// set as it was.
+    /// Adds a template with these bytes as its id, from the caller's lists. It may have slots.
+    ///
+    /// # Errors
+    ///
+    /// - The errors of `template_of`.
+    /// - `Occupied`: the id is already in use.
+    /// - `NoMemory`: an allocation failed.
+    ///
+    /// After an error the set is unchanged.
     pub fn add_template_with(
         &mut self,
         alloc: Global,

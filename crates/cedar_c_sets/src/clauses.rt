@@ -10,14 +10,14 @@ use cedar_terms::Expr;
 use std::alloc::{AllocError, Global};
 use std::hash::BuildHasher;
 
-// The text that the nodes of an expression stand over, as an answer, and the nodes.
+// An encoded expression: a list with the text of the nodes, and the nodes.
 #[derive(Drop)]
 struct Shown {
     answer: Answer,
     nodes: Vec<Node>,
 }
 
-// An expression as nodes over one text.
+// Encodes an expression as nodes over one text.
 fn shown_expr(alloc: Global, expr: &Expr) -> Result<Shown, AllocError>
     ensures { IfOk result (λ s. IsShown expr.now s.answer s.nodes.items) }
 {
@@ -28,7 +28,7 @@ fn shown_expr(alloc: Global, expr: &Expr) -> Result<Shown, AllocError>
 }
 
 impl<S: BuildHasher + Copy> KeptSet<S> {
-    // Keeps what is shown. Takes no memory.
+    // Stores an encoded expression in `answer` and `nodes`.
     fn keep_shown(&mut self, shown: Shown)
         ensures set { self.new.set ≡ self.old.set }
         ensures refusal { self.new.refusal.items ≡ self.old.refusal.items }
@@ -40,11 +40,17 @@ impl<S: BuildHasher + Copy> KeptSet<S> {
         self.nodes = nodes;
     }
 
-    /// Whether what an id is bound to has a clause. Where it has, the clause as nodes becomes the nodes that are kept,
-    /// and the text that they stand over the answer, as one text; its slots are as they stand there, of a link too.
+    /// Encodes the clause of the policy or template with an id, and returns whether it has one. Stores the nodes in
+    /// `nodes`, and their text in `answer`. The slots stay in the clause, also for a link. If there is no clause,
+    /// nothing changes.
     ///
-    /// `NoBody` comes where the id is bound to nothing. A refusal leaves all as it was, and so does a clause that is not
-    /// there. Takes memory.
+    /// # Errors
+    ///
+    /// - `NotUtf8`: the id is not UTF-8.
+    /// - `NoBody`: the id is not in use.
+    /// - `NoMemory`: an allocation failed.
+    ///
+    /// After an error nothing has changed.
     pub fn clause(&mut self, alloc: Global, id: &[u8]) -> Result<bool, Reason>
         ensures { AnswersClause id.now result self.old self.new }
     {
@@ -60,10 +66,16 @@ impl<S: BuildHasher + Copy> KeptSet<S> {
         Ok(true)
     }
 
-    /// The condition of what an id is bound to, as nodes, becomes the nodes that are kept, and their text the answer: what
-    /// principal, action and resource have to be, and the clause; its slots are as they stand there, of a link too.
+    /// Encodes the condition of the policy or template with an id: the scope and the clause. Stores the nodes in
+    /// `nodes`, and their text in `answer`. The slots stay in the condition, also for a link.
     ///
-    /// `NoBody` comes where the id is bound to nothing. A refusal leaves all as it was. Takes memory.
+    /// # Errors
+    ///
+    /// - `NotUtf8`: the id is not UTF-8.
+    /// - `NoBody`: the id is not in use.
+    /// - `NoMemory`: an allocation failed.
+    ///
+    /// After an error nothing has changed.
     pub fn condition(&mut self, alloc: Global, id: &[u8]) -> Result<(), Reason>
         ensures { AnswersCondition id.now result self.old self.new }
     {

@@ -1,4 +1,4 @@
-//! A policy set with what its caller was answered last, and the calls on it.
+//! A policy set with the last result texts for its caller, and its calls.
 ghost use Rattle.std.specs.Prelude.{◌≡◌, [], IfOk, MatchResult};
 ghost use Rattle.cedar_binding.specs.Views.{env_of};
 ghost use Rattle.cedar_policy_set.specs.SetEquality.{same_policy_set};
@@ -24,23 +24,23 @@ use indexmap::IndexMap;
 use std::alloc::{AllocError, Global};
 use std::hash::BuildHasher;
 
-/// A policy set, the texts of the last answer, the nodes of the last expression, and the text of the last refusal.
+/// A policy set, the texts of the last result, the nodes of the last expression, and the text of the last error.
 ///
-/// The set hashes ids by what `S` builds, and so do the sets that its calls make. No contract sees the builder; but
-/// code that is generic in it makes none of its own, so each set here has the one that the caller gave.
+/// The set, and the sets of its calls, hash ids with hashers of `S`. Contracts do not mention the builder. Generic code
+/// cannot create a builder, so every set uses the builder of the caller.
 #[derive(Drop)]
 pub struct KeptSet<S: BuildHasher> {
     /// The policy set.
     pub set: PolicySet<S>,
-    /// The texts that the last call that answers some gave.
+    /// The texts of the last call that returned texts.
     pub answer: Answer,
-    /// The nodes of the last clause or condition that was read, over the text that was the answer then.
+    /// The nodes of the last clause or condition, over the text that was stored in `answer`.
     pub nodes: Vec<Node>,
-    /// The text of the last refusal of a call on the set.
+    /// The text of the last error of a call on the set.
     pub refusal: Vec<u8>,
 }
 
-// The ids of all bodies, as texts.
+// Returns the ids of all bodies as texts.
 fn body_texts<S: BuildHasher + Copy>(
     alloc: Global,
     set: &PolicySet<S>,
@@ -54,7 +54,7 @@ fn body_texts<S: BuildHasher + Copy>(
     Ok(answer)
 }
 
-// The ids of all policies, as texts.
+// Returns the ids of all policies as texts.
 fn policy_texts<S: BuildHasher + Copy>(
     alloc: Global,
     set: &PolicySet<S>,
@@ -68,7 +68,7 @@ fn policy_texts<S: BuildHasher + Copy>(
     Ok(answer)
 }
 
-// A renaming, as texts.
+// Returns a renaming as texts.
 fn texts_of_renaming<S: BuildHasher>(
     alloc: Global,
     renaming: &IndexMap<PolicyID, PolicyID, S>,
@@ -83,7 +83,7 @@ fn texts_of_renaming<S: BuildHasher>(
     Ok(answer)
 }
 
-// Links a template, and keeps the link in the set alone.
+// Links a template. Drops the returned policy.
 fn link<S: BuildHasher + Copy>(
     alloc: Global,
     set: &mut PolicySet<S>,
@@ -98,7 +98,7 @@ fn link<S: BuildHasher + Copy>(
 }
 
 impl<S: BuildHasher + Copy> KeptSet<S> {
-    /// A set of which nothing was answered and nothing refused. Takes no memory.
+    /// Creates the state for a set, with an empty `answer` and no last error. Does not allocate.
     pub fn of(alloc: Global, set: PolicySet<S>) -> KeptSet<S>
         ensures set { result.set ≡ set }
         ensures answer { result.answer ≡ [] }
@@ -113,7 +113,7 @@ impl<S: BuildHasher + Copy> KeptSet<S> {
         }
     }
 
-    /// The set without a binding, which hashes ids by what `hasher` builds. Takes no memory.
+    /// Creates an empty set that hashes ids with hashers of `hasher`. Does not allocate.
     pub fn new(alloc: Global, hasher: S) -> KeptSet<S>
         ensures set { result.set ≡ empty_set }
         ensures answer { result.answer ≡ [] }
@@ -123,7 +123,7 @@ impl<S: BuildHasher + Copy> KeptSet<S> {
         KeptSet::of(alloc, PolicySet::with_hasher(alloc, hasher))
     }
 
-    // The text of a refusal is kept, and its reason told. Want of memory for the text leaves the one before.
+    // Stores the text of an error and returns its reason. If the allocation of the text failed, the old text is kept.
     pub(crate) fn refuse(&mut self, told: Result<Told, AllocError>) -> Reason
         ensures set { self.new.set ≡ self.old.set }
         ensures answer { self.new.answer ≡ self.old.answer }
@@ -141,7 +141,7 @@ impl<S: BuildHasher + Copy> KeptSet<S> {
         }
     }
 
-    // A static policy joins.
+    // Adds a static policy.
     pub(crate) fn join_static(&mut self, alloc: Global, policy: StaticPolicy) -> Result<(), Reason>
         ensures makes { Makes (add_static_step self.old.set policy) result self.old self.new }
         ensures texts { KeepsTexts result self.old self.new }
@@ -152,7 +152,7 @@ impl<S: BuildHasher + Copy> KeptSet<S> {
         }
     }
 
-    // A template joins.
+    // Adds a template.
     pub(crate) fn join_template(&mut self, alloc: Global, template: Template) -> Result<(), Reason>
         ensures makes { Makes (add_template_step self.old.set template) result self.old self.new }
         ensures texts { KeepsTexts result self.old self.new }
@@ -163,7 +163,7 @@ impl<S: BuildHasher + Copy> KeptSet<S> {
         }
     }
 
-    // A link joins.
+    // Adds a link.
     fn join_link(
         &mut self,
         alloc: Global,
@@ -180,7 +180,7 @@ impl<S: BuildHasher + Copy> KeptSet<S> {
         }
     }
 
-    // A link goes.
+    // Removes a link.
     fn take_link(&mut self, alloc: Global, id: &PolicyID) -> Result<(), Reason>
         ensures makes { Makes (taking self.old.set id.now (unlink_step self.old.set id.now)) result self.old self.new }
         ensures texts { KeepsTexts result self.old self.new }
@@ -191,7 +191,7 @@ impl<S: BuildHasher + Copy> KeptSet<S> {
         }
     }
 
-    // A static policy goes.
+    // Removes a static policy.
     fn take_static(&mut self, alloc: Global, id: &PolicyID) -> Result<(), Reason>
         ensures makes { Makes (taking self.old.set id.now
             (remove_static_step self.old.set id.now)) result self.old self.new }
@@ -203,7 +203,7 @@ impl<S: BuildHasher + Copy> KeptSet<S> {
         }
     }
 
-    // A template goes.
+    // Removes a template.
     fn take_template(&mut self, alloc: Global, id: &PolicyID) -> Result<(), Reason>
         ensures makes { Makes (taking self.old.set id.now
             (remove_template_step self.old.set id.now)) result self.old self.new }
@@ -215,8 +215,16 @@ impl<S: BuildHasher + Copy> KeptSet<S> {
         }
     }
 
-    /// A static policy with these bytes as its id and the effect of a number, which constrains nothing, joins. Takes
-    /// memory; a refusal leaves the set as it was, as it does in each call here.
+    /// Adds a static policy without constraints, with these bytes as its id and the effect with this number.
+    ///
+    /// # Errors
+    ///
+    /// - `BadArgument`: the number of the effect is invalid.
+    /// - `NotUtf8`: the id is not UTF-8.
+    /// - `Occupied`: the id is already in use.
+    /// - `NoMemory`: an allocation failed.
+    ///
+    /// After an error the set is unchanged.
     pub fn add_static(&mut self, alloc: Global, id: &[u8], effect: u32) -> Result<(), Reason>
         ensures { AddsStatic id.now effect result self.old self.new }
     {
@@ -226,8 +234,17 @@ impl<S: BuildHasher + Copy> KeptSet<S> {
         self.join_static(alloc, policy)
     }
 
-    /// A template with these bytes as its id, the effect of a number and the slots of another, which constrains nothing
-    /// else, joins. Takes memory.
+    /// Adds a template with these bytes as its id, the effect with a number, and the slots with a number. It has no
+    /// other constraints.
+    ///
+    /// # Errors
+    ///
+    /// - `BadArgument`: the number of the effect or of the slots is invalid.
+    /// - `NotUtf8`: the id is not UTF-8.
+    /// - `Occupied`: the id is already in use.
+    /// - `NoMemory`: an allocation failed.
+    ///
+    /// After an error the set is unchanged.
     pub fn add_template(
         &mut self,
         alloc: Global,
@@ -244,8 +261,21 @@ impl<S: BuildHasher + Copy> KeptSet<S> {
         self.join_template(alloc, template)
     }
 
-    /// A link of the template with an id joins under another id, with the bindings that three parts of a text say.
-    /// Takes memory.
+    /// Links the template with an id. The link gets another id, and the bindings in three parts of a text: principal,
+    /// action and resource. An empty part binds nothing.
+    ///
+    /// # Errors
+    ///
+    /// - `BadArgument`: there are not three spans, or a span is not within the text.
+    /// - `NotAUid`: a part is not the text of a uid.
+    /// - `NotUtf8`: an id is not UTF-8.
+    /// - `NoSuchTemplate`: there is no template with the id.
+    /// - `Arity`: the bindings do not match the slots of the template.
+    /// - `NotAnAction`: the slot of the action is bound to a uid that is not an action.
+    /// - `IdConflict`: the id of the link is already in use.
+    /// - `NoMemory`: an allocation failed.
+    ///
+    /// After an error the set is unchanged.
     pub fn link(
         &mut self,
         alloc: Global,
@@ -262,7 +292,16 @@ impl<S: BuildHasher + Copy> KeptSet<S> {
         self.join_link(alloc, template, id, values)
     }
 
-    /// The link with an id goes. Takes memory for the id.
+    /// Removes the link with an id.
+    ///
+    /// # Errors
+    ///
+    /// - `NotUtf8`: the id is not UTF-8.
+    /// - `NoLink`: the id is not in use.
+    /// - `NotALink`: the id is not the id of a link.
+    /// - `NoMemory`: an allocation failed.
+    ///
+    /// After an error the set is unchanged.
     pub fn unlink(&mut self, alloc: Global, id: &[u8]) -> Result<(), Reason>
         ensures { Takes unlink_step id.now result self.old self.new }
     {
@@ -270,7 +309,16 @@ impl<S: BuildHasher + Copy> KeptSet<S> {
         self.take_link(alloc, &id)
     }
 
-    /// The static policy with an id goes. Takes memory for the id.
+    /// Removes the static policy with an id.
+    ///
+    /// # Errors
+    ///
+    /// - `NotUtf8`: the id is not UTF-8.
+    /// - `NoStatic`: there is no policy with the id.
+    /// - `NotStatic`: the id is the id of a link.
+    /// - `NoMemory`: an allocation failed.
+    ///
+    /// After an error the set is unchanged.
     pub fn remove_static(&mut self, alloc: Global, id: &[u8]) -> Result<(), Reason>
         ensures { Takes remove_static_step id.now result self.old self.new }
     {
@@ -278,7 +326,17 @@ impl<S: BuildHasher + Copy> KeptSet<S> {
         self.take_static(alloc, &id)
     }
 
-    /// The template with an id goes. Takes memory for the id, and for a copy of the template.
+    /// Removes the template with an id. Copies the template.
+    ///
+    /// # Errors
+    ///
+    /// - `NotUtf8`: the id is not UTF-8.
+    /// - `NoTemplate`: the id is not in use.
+    /// - `WithLinks`: the template has links.
+    /// - `NotATemplate`: the id is not the id of a template.
+    /// - `NoMemory`: an allocation failed.
+    ///
+    /// After an error the set is unchanged.
     pub fn remove_template(&mut self, alloc: Global, id: &[u8]) -> Result<(), Reason>
         ensures { Takes remove_template_step id.now result self.old self.new }
     {
@@ -286,8 +344,15 @@ impl<S: BuildHasher + Copy> KeptSet<S> {
         self.take_template(alloc, &id)
     }
 
-    /// Takes in what another set binds, as `PolicySet::merge_policyset` does, and answers each id that was renamed with
-    /// its new one behind it. Takes memory, for a copy of this set too: what can be refused is done on the copy.
+    /// Merges another set into this one, as `PolicySet::merge_policyset` does. Stores each renamed id, followed by its
+    /// new id, in `answer`. The merge is made on a copy of this set, because it can fail.
+    ///
+    /// # Errors
+    ///
+    /// - `Occupied`: both sets use an id differently, and `rename` is false.
+    /// - `NoMemory`: an allocation failed.
+    ///
+    /// After an error the set is unchanged.
     pub fn merge(&mut self, alloc: Global, other: &KeptSet<S>, rename: bool) -> Result<(), Reason>
         ensures { MergesSet other.now.set rename result self.old self.new }
     {
@@ -302,8 +367,14 @@ impl<S: BuildHasher + Copy> KeptSet<S> {
         }
     }
 
-    /// The ids of the bodies, for 0, or of the policies, for 1, become the answer, in their order. Takes memory for the
-    /// texts; a refusal leaves the answer as it was.
+    /// Stores the ids of the bodies (`kind` 0) or of the policies (`kind` 1) in `answer`, in order.
+    ///
+    /// # Errors
+    ///
+    /// - `BadArgument`: the number of the kind is invalid.
+    /// - `NoMemory`: an allocation failed.
+    ///
+    /// After an error nothing has changed.
     pub fn ids(&mut self, alloc: Global, kind: u32) -> Result<(), Reason>
         ensures { ListsIds kind result self.old self.new }
     {
@@ -320,7 +391,11 @@ impl<S: BuildHasher + Copy> KeptSet<S> {
         }
     }
 
-    /// A copy, of which nothing was answered and nothing refused. Takes memory.
+    /// Returns a copy, with an empty `answer` and no last error.
+    ///
+    /// # Errors
+    ///
+    /// Returns `NoMemory` if an allocation fails.
     pub fn copy(&self, alloc: Global) -> Result<KeptSet<S>, Reason>
         ensures { CopiesSet self.now.set result }
     {
@@ -328,7 +403,7 @@ impl<S: BuildHasher + Copy> KeptSet<S> {
         Ok(KeptSet::of(alloc, set))
     }
 
-    /// Whether both sets have equal bodies and policies, in equal orders. Takes no memory.
+    /// Returns whether both sets have equal bodies and policies in the same orders. Does not allocate.
     pub fn is_equal(&self, other: &KeptSet<S>) -> bool
         ensures { result ≡ same_policy_set self.now.set other.now.set }
     {

@@ -1,5 +1,6 @@
-//! The calls of the library for C on a policy set: the set with its last answer and its last refusal, and policies,
-//! templates and bindings as a caller describes them; bodies come as `cedar_c_bodies` reads them. No handle is known here.
+//! The calls of the C library on a policy set. The state of a set includes the texts of its last result and of its last
+//! error. Policies, templates and bindings are built from the caller's data. The crate `cedar_c_bodies` decodes bodies.
+//! This crate does not depend on handles.
 #![tactic(auto)]
 
 mod apart;

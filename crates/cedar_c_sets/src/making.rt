@@ -1,4 +1,4 @@
-//! The policies, templates and bindings that a caller describes by numbers and texts.
+//! Policies, templates and bindings from the numbers and texts of a caller.
 ghost use Rattle.std.specs.Prelude.{◌≡◌, IfOk, MatchResult, OnOk};
 ghost use Rattle.cedar_ids.specs.UidOf.{uid_parts};
 ghost use Rattle.cedar_binding.specs.Views.{env_of};
@@ -19,15 +19,14 @@ use std::alloc::{AllocError, Global};
 /// The slots of a template.
 #[derive(Clone, Copy)]
 pub struct SlotsNamed {
-    /// Whether the principal's is one.
+    /// Whether there is a slot for the principal.
     pub principal: bool,
-    /// Whether the action's is one.
+    /// Whether there is a slot for the action.
     pub action: bool,
-    /// Whether the resource's is one.
+    /// Whether there is a slot for the resource.
     pub resource: bool,
 }
 
-// These slots.
 fn named(principal: bool, action: bool, resource: bool) -> SlotsNamed
     ensures { result ≡ record { principal = principal; action = action; resource = resource } }
 {
@@ -38,8 +37,8 @@ fn named(principal: bool, action: bool, resource: bool) -> SlotsNamed
     }
 }
 
-// The slots of a number: 1 for the principal's, 2 for the action's and 4 for the resource's, added up. `BadArgument`
-// comes where it is no such sum. Takes no memory.
+// Returns the slots with a number. The number is a sum: 1 for the principal, 2 for the action, 4 for the resource.
+// Returns `BadArgument` for any other number.
 pub(crate) fn slots_of(number: u32) -> Result<SlotsNamed, Reason>
     ensures { MatchResult result (IsSlots number) (IsNoSlots number) }
 {
@@ -56,7 +55,7 @@ pub(crate) fn slots_of(number: u32) -> Result<SlotsNamed, Reason>
     }
 }
 
-// A template with these slots, which constrains nothing else. Takes memory.
+// Creates a template with these slots and no other constraints.
 pub(crate) fn template(
     alloc: Global,
     id: PolicyID,
@@ -83,7 +82,7 @@ fn bind(values: &mut SlotEnv, slot: SlotId, uid: EntityUID) -> Result<(), AllocE
     Ok(())
 }
 
-// The uid that a part of a text is, if the part is not empty.
+// Parses the uid in a part of a text, unless the part is empty.
 fn bound_at(alloc: Global, text: &[u8], at: Span) -> Result<Option<EntityUID>, Reason>
     ensures { MatchResult result (IsBoundAs text.now at) (IsUnboundAs text.now at) }
 {
@@ -94,7 +93,7 @@ fn bound_at(alloc: Global, text: &[u8], at: Span) -> Result<Option<EntityUID>, R
     Ok(Some(uid_of(alloc, text)?))
 }
 
-// Binds a slot to the uid that a part of a text is, if the part is not empty.
+// Binds a slot to the uid in a part of a text, unless the part is empty.
 fn bind_at(
     alloc: Global,
     values: &mut SlotEnv,
@@ -111,9 +110,9 @@ fn bind_at(
     }
 }
 
-// Bindings of the three slots, in the order of principal, action and resource: one part of a text for each, empty where
-// the slot is not bound. `BadArgument` comes where there are not three parts, or where one does not lie within the
-// text; `NotAUid` where one is no uid's text. Takes memory.
+// Reads the bindings of principal, action and resource. The text has one part for each, which is empty if the slot is
+// not bound. Returns `BadArgument` if there are not three parts, or if one is not within the text. Returns `NotAUid` if
+// a part is not the text of a uid.
 pub(crate) fn bindings_of(alloc: Global, text: &[u8], parts: &[Span]) -> Result<SlotEnv, Reason>
     ensures { MatchResult result (λ v. AreBindings text.now parts.now (env_of v)) (IsUnboundBy text.now parts.now) }
 {

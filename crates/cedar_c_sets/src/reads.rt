@@ -1,4 +1,4 @@
-//! The calls that read a policy set: what an id is bound to, and the texts of that and of the set.
+//! The calls that read a policy set: the kind of an id, and the texts of policies and of the set.
 ghost use Rattle.std.specs.Prelude.{◌≡◌, [], ◌∷◌, IfOk};
 ghost use Rattle.std.specs.List.{flat_map};
 ghost use Rattle.std.specs.Option.{option_copied};
@@ -28,7 +28,7 @@ use cedar_terms::slot::SlotId;
 use std::alloc::{AllocError, Global};
 use std::hash::BuildHasher;
 
-// The number of what an id is bound to.
+// Returns the number of the kind of an id.
 fn kind<S: BuildHasher + Copy>(set: &PolicySet<S>, id: &PolicyID) -> u32
     ensures { result ≡ kind_number (bound_at set.now id.now) }
 {
@@ -41,7 +41,7 @@ fn kind<S: BuildHasher + Copy>(set: &PolicySet<S>, id: &PolicyID) -> u32
     }
 }
 
-// The body of what an id is bound to.
+// Returns the body of the policy or template with an id.
 pub(crate) fn body_of<'a, S: BuildHasher + Copy>(
     set: &'a PolicySet<S>,
     id: &PolicyID,
@@ -54,7 +54,7 @@ pub(crate) fn body_of<'a, S: BuildHasher + Copy>(
     }
 }
 
-// The number of an effect.
+// Returns the number of an effect.
 fn effect_number(effect: Effect) -> u32
     ensures { IsEffect result effect }
 {
@@ -64,7 +64,7 @@ fn effect_number(effect: Effect) -> u32
     }
 }
 
-// Whether a slot is one of a template's.
+// Checks whether a template has a slot.
 fn has_slot(template: &Template, id: SlotId) -> bool
     ensures { result ≡ is_among (body_slots template.now) id }
 {
@@ -76,7 +76,7 @@ fn has_slot(template: &Template, id: SlotId) -> bool
     false
 }
 
-// The number of slots.
+// Returns the number of slots.
 fn slots_number(principal: bool, action: bool, resource: bool) -> u32
     ensures { IsSlots result (record { principal = principal; action = action; resource = resource }) }
 {
@@ -92,7 +92,7 @@ fn slots_number(principal: bool, action: bool, resource: bool) -> u32
     }
 }
 
-// The number of a template's slots.
+// Returns the number of a template's slots.
 fn slots_of(template: &Template) -> u32
     ensures { IsSlotsOf result template.now }
 {
@@ -102,14 +102,14 @@ fn slots_of(template: &Template) -> u32
     slots_number(principal, action, resource)
 }
 
-// One text.
+// Returns a list with one text.
 fn one_text(alloc: Global, text: &str) -> Result<Answer, AllocError>
     ensures { IfOk result (λ a. a ≡ text.now ∷ []) }
 {
     Answer::new(alloc).with(text.as_bytes())
 }
 
-// Annotations, as texts.
+// Returns annotations as texts.
 fn texts_of_annotations(alloc: Global, annotations: Iter<'_>) -> Result<Answer, AllocError>
     ensures { IfOk result (λ a. a ≡ flat_map pair_of annotations.entry) }
 {
@@ -121,7 +121,7 @@ fn texts_of_annotations(alloc: Global, annotations: Iter<'_>) -> Result<Answer, 
     Ok(answer)
 }
 
-// Ids, as texts.
+// Returns ids as texts.
 fn texts_of_ids(alloc: Global, ids: LinkedIds<'_>) -> Result<Answer, AllocError>
     ensures { IfOk result (λ a. a ≡ ids.entry) }
 {
@@ -132,7 +132,7 @@ fn texts_of_ids(alloc: Global, ids: LinkedIds<'_>) -> Result<Answer, AllocError>
     Ok(answer)
 }
 
-// The text of what a slot is bound to, empty where it is not bound.
+// Returns the text of the uid bound to a slot, or an empty text.
 fn bound_text(alloc: Global, values: &SlotEnv, id: SlotId) -> Result<String, AllocError>
     ensures { IfOk result (λ t. IsBoundText (env_of values.now id) (string_bytes t)) }
 {
@@ -142,7 +142,7 @@ fn bound_text(alloc: Global, values: &SlotEnv, id: SlotId) -> Result<String, All
     }
 }
 
-// The texts of what the three slots are bound to.
+// Returns the texts of the uids bound to the three slots.
 fn texts_of_bindings(alloc: Global, values: &SlotEnv) -> Result<Answer, AllocError>
     ensures { IfOk result (AreBoundBy (env_of values.now)) }
 {
@@ -155,8 +155,12 @@ fn texts_of_bindings(alloc: Global, values: &SlotEnv) -> Result<Answer, AllocErr
 }
 
 impl<S: BuildHasher + Copy> KeptSet<S> {
-    /// What an id is bound to: 1 for a static policy, 2 for a link, 3 for a template, 0 for nothing. Takes memory for
-    /// the id.
+    /// Returns the kind of an id: 1 for a static policy, 2 for a link, 3 for a template, and 0 if the id is not in use.
+    ///
+    /// # Errors
+    ///
+    /// - `NotUtf8`: the id is not UTF-8.
+    /// - `NoMemory`: an allocation failed.
     pub fn kind(&self, alloc: Global, id: &[u8]) -> Result<u32, Reason>
         ensures { KindAt self.now.set id.now result }
     {
@@ -164,8 +168,13 @@ impl<S: BuildHasher + Copy> KeptSet<S> {
         Ok(kind(&self.set, &id))
     }
 
-    /// The effect of what an id is bound to: 0 permits, 1 forbids. `NoBody` comes where it is bound to nothing. Takes
-    /// memory for the id.
+    /// Returns the effect of the policy or template with an id: 0 is permit, 1 is forbid.
+    ///
+    /// # Errors
+    ///
+    /// - `NotUtf8`: the id is not UTF-8.
+    /// - `NoBody`: the id is not in use.
+    /// - `NoMemory`: an allocation failed.
     pub fn effect(&self, alloc: Global, id: &[u8]) -> Result<u32, Reason>
         ensures { AsksAt bound_body IsEffectOf self.now.set id.now result }
     {
@@ -176,8 +185,14 @@ impl<S: BuildHasher + Copy> KeptSet<S> {
         }
     }
 
-    /// The slots of the static policy or the template with an id, as a sum: 1 for the principal's, 2 for the action's,
-    /// 4 for the resource's. `NoBody` comes where there is neither. Takes memory for the id.
+    /// Returns the slots of the static policy or the template with an id, as a sum: 1 for the principal, 2 for the
+    /// action, 4 for the resource.
+    ///
+    /// # Errors
+    ///
+    /// - `NotUtf8`: the id is not UTF-8.
+    /// - `NoBody`: there is no static policy and no template with the id.
+    /// - `NoMemory`: an allocation failed.
     pub fn slots(&self, alloc: Global, id: &[u8]) -> Result<u32, Reason>
         ensures { AsksAt body_at IsSlotsOf self.now.set id.now result }
     {
@@ -188,10 +203,17 @@ impl<S: BuildHasher + Copy> KeptSet<S> {
         }
     }
 
-    /// The annotation at a key, of what an id is bound to, becomes the answer, and it is told whether there is one:
-    /// where there is none the answer is without a text. `NoBody` comes where the id is bound to nothing, `NotAName`
-    /// where the key is no identifier. Takes memory; a refusal leaves the answer as it was, as it does in each call
-    /// here.
+    /// Returns whether the policy or template with an id has an annotation with a key. Stores its value in `answer`,
+    /// which becomes empty if there is none.
+    ///
+    /// # Errors
+    ///
+    /// - `NotUtf8`: the id is not UTF-8.
+    /// - `NotAName`: the key is not an identifier.
+    /// - `NoBody`: the id is not in use.
+    /// - `NoMemory`: an allocation failed.
+    ///
+    /// After an error nothing has changed.
     pub fn annotation(&mut self, alloc: Global, id: &[u8], key: &[u8]) -> Result<bool, Reason>
         ensures { AnswersAnnotation id.now key.now result self.old self.new }
     {
@@ -212,8 +234,16 @@ impl<S: BuildHasher + Copy> KeptSet<S> {
         }
     }
 
-    /// The annotations of what an id is bound to become the answer, by key: each key, and behind it its value. `NoBody`
-    /// comes where the id is bound to nothing. Takes memory.
+    /// Stores the annotations of the policy or template with an id in `answer`, in order of key: each key, followed by
+    /// its value.
+    ///
+    /// # Errors
+    ///
+    /// - `NotUtf8`: the id is not UTF-8.
+    /// - `NoBody`: the id is not in use.
+    /// - `NoMemory`: an allocation failed.
+    ///
+    /// After an error nothing has changed.
     pub fn annotations(&mut self, alloc: Global, id: &[u8]) -> Result<(), Reason>
         ensures { AnswersAt bound_body AreAnnotations id.now result self.old self.new }
     {
@@ -226,9 +256,16 @@ impl<S: BuildHasher + Copy> KeptSet<S> {
         Ok(())
     }
 
-    /// What the principal's, the action's and the resource's slot are bound to, by the policy with an id, become the
-    /// answer: three texts, of which one is empty where its slot is not bound. `NoBody` comes where no policy has the
-    /// id. Takes memory.
+    /// Stores the bindings of the policy with an id in `answer`: three texts, for principal, action and resource. A
+    /// text is empty if its slot is not bound.
+    ///
+    /// # Errors
+    ///
+    /// - `NotUtf8`: the id is not UTF-8.
+    /// - `NoBody`: there is no policy with the id.
+    /// - `NoMemory`: an allocation failed.
+    ///
+    /// After an error nothing has changed.
     pub fn env(&mut self, alloc: Global, id: &[u8]) -> Result<(), Reason>
         ensures { AnswersAt policy_at AreBoundIn id.now result self.old self.new }
     {
@@ -241,8 +278,15 @@ impl<S: BuildHasher + Copy> KeptSet<S> {
         Ok(())
     }
 
-    /// The id of the template of the policy with an id becomes the answer: of a static policy its own. `NoBody` comes
-    /// where no policy has the id. Takes memory.
+    /// Stores the id of the template of the policy with an id in `answer`. For a static policy it is its own id.
+    ///
+    /// # Errors
+    ///
+    /// - `NotUtf8`: the id is not UTF-8.
+    /// - `NoBody`: there is no policy with the id.
+    /// - `NoMemory`: an allocation failed.
+    ///
+    /// After an error nothing has changed.
     pub fn template_id(&mut self, alloc: Global, id: &[u8]) -> Result<(), Reason>
         ensures { AnswersAt policy_at IsTemplateId id.now result self.old self.new }
     {
@@ -255,8 +299,16 @@ impl<S: BuildHasher + Copy> KeptSet<S> {
         Ok(())
     }
 
-    /// The ids of the policies on the body with an id become the answer, in the order in which they joined: of a
-    /// template its links, of a static policy itself. `NoBody` comes where no body has the id. Takes memory.
+    /// Stores the ids of the policies that use the body with an id in `answer`, in insertion order. They are the links
+    /// of a template, or the static policy itself.
+    ///
+    /// # Errors
+    ///
+    /// - `NotUtf8`: the id is not UTF-8.
+    /// - `NoBody`: there is no body with the id.
+    /// - `NoMemory`: an allocation failed.
+    ///
+    /// After an error nothing has changed.
     pub fn linked(&mut self, alloc: Global, id: &[u8]) -> Result<(), Reason>
         ensures { AnswersLinked id.now result self.old self.new }
     {
@@ -270,7 +322,11 @@ impl<S: BuildHasher + Copy> KeptSet<S> {
         Ok(())
     }
 
-    /// The text of the set becomes the answer, as its `Display` writes it. Takes memory.
+    /// Stores the text of the set, from its `Display`, in `answer`.
+    ///
+    /// # Errors
+    ///
+    /// Returns `NoMemory` if an allocation fails, and then changes nothing.
     pub fn text(&mut self, alloc: Global) -> Result<(), Reason>
         ensures { AnswersText result self.old self.new }
     {
@@ -279,8 +335,15 @@ impl<S: BuildHasher + Copy> KeptSet<S> {
         Ok(())
     }
 
-    /// The text of the policy with an id becomes the answer, as its `Display` writes it. `NoBody` comes where no policy
-    /// has the id. Takes memory.
+    /// Stores the text of the policy with an id, from its `Display`, in `answer`.
+    ///
+    /// # Errors
+    ///
+    /// - `NotUtf8`: the id is not UTF-8.
+    /// - `NoBody`: there is no policy with the id.
+    /// - `NoMemory`: an allocation failed.
+    ///
+    /// After an error nothing has changed.
     pub fn policy_text(&mut self, alloc: Global, id: &[u8]) -> Result<(), Reason>
         ensures { AnswersAt policy_at IsPolicyText id.now result self.old self.new }
     {
@@ -293,8 +356,15 @@ impl<S: BuildHasher + Copy> KeptSet<S> {
         Ok(())
     }
 
-    /// The text of the static policy or the template with an id becomes the answer, as its `Display` writes it.
-    /// `NoBody` comes where there is neither. Takes memory.
+    /// Stores the text of the static policy or the template with an id, from its `Display`, in `answer`.
+    ///
+    /// # Errors
+    ///
+    /// - `NotUtf8`: the id is not UTF-8.
+    /// - `NoBody`: there is no static policy and no template with the id.
+    /// - `NoMemory`: an allocation failed.
+    ///
+    /// After an error nothing has changed.
     pub fn template_text(&mut self, alloc: Global, id: &[u8]) -> Result<(), Reason>
         ensures { AnswersAt body_at IsBodyText id.now result self.old self.new }
     {

@@ -1,4 +1,4 @@
-//! The call that reads what principal, action and resource have to be.
+//! The call that reads the constraints of principal, action and resource.
 ghost use Rattle.std.specs.Prelude.{◌≡◌, IfOk, MatchResult};
 ghost use Rattle.std.specs.Option.{option_map};
 ghost use Rattle.cedar_action.specs.Views.{rule_of};
@@ -16,7 +16,7 @@ use cedar_scope::{PrincipalConstraint, ResourceConstraint};
 use std::alloc::{AllocError, Global};
 use std::hash::BuildHasher;
 
-// What the principal has to be by what an id is bound to.
+// Returns the principal constraint of the policy or template with an id.
 fn principal_at<S: BuildHasher + Copy>(
     alloc: Global,
     set: &PolicySet<S>,
@@ -39,7 +39,7 @@ fn principal_at<S: BuildHasher + Copy>(
     }
 }
 
-// What the action has to be by that.
+// Returns the action constraint of the policy or template with an id.
 fn action_at<S: BuildHasher + Copy>(
     alloc: Global,
     set: &PolicySet<S>,
@@ -62,7 +62,7 @@ fn action_at<S: BuildHasher + Copy>(
     }
 }
 
-// What the resource has to be by that.
+// Returns the resource constraint of the policy or template with an id.
 fn resource_at<S: BuildHasher + Copy>(
     alloc: Global,
     set: &PolicySet<S>,
@@ -85,7 +85,7 @@ fn resource_at<S: BuildHasher + Copy>(
     }
 }
 
-// What the principal has to be, told by a number and by texts.
+// Returns the principal constraint as a number and texts.
 fn principal_told<S: BuildHasher + Copy>(
     alloc: Global,
     set: &PolicySet<S>,
@@ -104,7 +104,7 @@ fn principal_told<S: BuildHasher + Copy>(
     }
 }
 
-// What the action has to be, told so.
+// Returns the action constraint as a number and texts.
 fn action_told<S: BuildHasher + Copy>(
     alloc: Global,
     set: &PolicySet<S>,
@@ -123,7 +123,7 @@ fn action_told<S: BuildHasher + Copy>(
     }
 }
 
-// What the resource has to be, told so.
+// Returns the resource constraint as a number and texts.
 fn resource_told<S: BuildHasher + Copy>(
     alloc: Global,
     set: &PolicySet<S>,
@@ -142,7 +142,7 @@ fn resource_told<S: BuildHasher + Copy>(
     }
 }
 
-// What one of the three has to be, told so.
+// Returns one of the three constraints as a number and texts.
 fn scope_told<S: BuildHasher + Copy>(
     alloc: Global,
     set: &PolicySet<S>,
@@ -160,10 +160,18 @@ fn scope_told<S: BuildHasher + Copy>(
 }
 
 impl<S: BuildHasher + Copy> KeptSet<S> {
-    /// What the principal, for 0, the action, for 1, or the resource, for 2, has to be by what an id is bound to, told as
-    /// the kind of a `Scope`; its texts become the answer, that of its type and behind it those of its uids. A link has
-    /// its slots filled. `BadArgument` comes where the number is none of the three, `NoBody` where the id is bound to
-    /// nothing. Takes memory; a refusal leaves the answer as it was.
+    /// Returns the kind of the principal constraint (`which` 0), the action constraint (1) or the resource constraint
+    /// (2) of the policy or template with an id. See `Scope` for the kinds. Stores the text of its type, followed by
+    /// the texts of its uids, in `answer`. The slots of a link are replaced by their uids.
+    ///
+    /// # Errors
+    ///
+    /// - `BadArgument`: the number `which` is invalid.
+    /// - `NotUtf8`: the id is not UTF-8.
+    /// - `NoBody`: the id is not in use.
+    /// - `NoMemory`: an allocation failed.
+    ///
+    /// After an error nothing has changed.
     pub fn scope(&mut self, alloc: Global, id: &[u8], which: u32) -> Result<u32, Reason>
         ensures { AnswersScope which id.now result self.old self.new }
     {

@@ -1,4 +1,4 @@
-//! The reasons and the texts of what a policy set refuses.
+//! The reasons and texts of the errors of a policy set.
 ghost use Rattle.std.specs.Prelude.{◌≡◌, ◌∷◌, ◌++◌, IfOk, Some};
 ghost use Rattle.cedar_policy_set.specs.Refusals.{told_by_linking, told_by_removal, told_by_set};
 ghost use Rattle.cedar_policy_set.specs.Refusals.{told_by_template_removal, told_by_unlinking};
@@ -20,14 +20,14 @@ use cedar_policy_set::{
 };
 use std::alloc::{AllocError, Global};
 
-// A reason, and the text of a refusal for it.
+// A reason, and the text of an error with this reason.
 #[derive(Drop)]
 pub(crate) struct Told {
     pub(crate) reason: Reason,
     pub(crate) text: Vec<u8>,
 }
 
-// A reason and what it names.
+// Returns a reason and the name in its text.
 pub(crate) fn named(alloc: Global, reason: Reason, name: &str) -> Result<Told, AllocError>
     ensures { IfOk result (λ t. (t.reason ≡ reason) × (t.text.items ≡ words_of reason ++ (32 ∷ name.now))) }
 {
@@ -38,7 +38,7 @@ pub(crate) fn named(alloc: Global, reason: Reason, name: &str) -> Result<Told, A
     Ok(Told { reason, text })
 }
 
-// What joining was refused for.
+// Converts the error of an addition.
 pub(crate) fn by_set(alloc: Global, error: &PolicySetError) -> Result<Told, AllocError>
     ensures { IfOk result (λ t. IsToldFor (told_by_set error.now) t.reason t.text.items) }
 {
@@ -48,14 +48,14 @@ pub(crate) fn by_set(alloc: Global, error: &PolicySetError) -> Result<Told, Allo
     }
 }
 
-// What is no static policy, for it has slots.
+// Returns the error for a template with slots that is not a static policy.
 pub(crate) fn by_slot(alloc: Global, template: &Template) -> Result<Told, AllocError>
     ensures { IfOk result (λ t. IsToldFor (Some (not_static template.now.id)) t.reason t.text.items) }
 {
     named(alloc, Reason::NotStatic, template.id().as_ref())
 }
 
-// The slots that bindings lack or have besides.
+// Returns the error with the missing and the extra slots of bindings.
 fn arity_told(alloc: Global, slots: ArityText<'_>) -> Result<Told, AllocError>
     ensures { IfOk result (λ t. (t.reason ≡ reasons.Arity)
         × (t.text.items
@@ -65,7 +65,7 @@ fn arity_told(alloc: Global, slots: ArityText<'_>) -> Result<Told, AllocError>
     named(alloc, Reason::Arity, name.as_str())
 }
 
-// The uid that is no action.
+// Returns the error with the uid that is not an action.
 fn uid_told(alloc: Global, uid: &EntityUID) -> Result<Told, AllocError>
     ensures { IfOk result (λ t. (t.reason ≡ reasons.NotAnAction)
         × (IsAsciiUid uid.now → t.text.items ≡ words_of reasons.NotAnAction ++ spaced uid.now)) }
@@ -79,7 +79,7 @@ fn uid_told(alloc: Global, uid: &EntityUID) -> Result<Told, AllocError>
     })
 }
 
-// What linking was refused for.
+// Converts the error of linking.
 pub(crate) fn by_linking(alloc: Global, error: &LinkingError) -> Result<Told, AllocError>
     ensures { IfOk result (λ t. IsToldFor (told_by_linking error.now) t.reason t.text.items) }
 {
@@ -101,7 +101,7 @@ pub(crate) fn by_linking(alloc: Global, error: &LinkingError) -> Result<Told, Al
     }
 }
 
-// What unlinking was refused for.
+// Converts the error of unlinking.
 pub(crate) fn by_unlinking(alloc: Global, error: &PolicySetUnlinkError) -> Result<Told, AllocError>
     ensures { IfOk result (λ t. IsToldFor (told_by_unlinking error.now) t.reason t.text.items) }
 {
@@ -112,7 +112,7 @@ pub(crate) fn by_unlinking(alloc: Global, error: &PolicySetUnlinkError) -> Resul
     }
 }
 
-// What taking a static policy out was refused for.
+// Converts the error of removing a static policy.
 pub(crate) fn by_removal(
     alloc: Global,
     error: &PolicySetPolicyRemovalError,
@@ -130,7 +130,7 @@ pub(crate) fn by_removal(
     }
 }
 
-// What taking a template out was refused for.
+// Converts the error of removing a template.
 pub(crate) fn by_template_removal(
     alloc: Global,
     error: &PolicySetTemplateRemovalError,

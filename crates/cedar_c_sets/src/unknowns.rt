@@ -1,4 +1,4 @@
-//! The call that tells which entities a policy leaves unknown.
+//! The call that returns the unknown entities of a policy.
 ghost use Rattle.std.specs.Prelude.{IfOk};
 ghost use Rattle.cedar_c_lists.specs.Texts.{AreTextsOf};
 ghost use Rattle.cedar_c_sets.specs.Reads.{AnswersAt, policy_at};
@@ -11,7 +11,7 @@ use cedar_uid_sets::{UidSet, Uids};
 use std::alloc::{AllocError, Global};
 use std::hash::BuildHasher;
 
-// The texts of uids.
+// Returns the texts of uids.
 fn texts_of_uids(alloc: Global, uids: Uids<'_>) -> Result<Answer, AllocError>
     ensures { IfOk result (AreTextsOf uids.entry) }
 {
@@ -22,8 +22,8 @@ fn texts_of_uids(alloc: Global, uids: Uids<'_>) -> Result<Answer, AllocError>
     Ok(answer)
 }
 
-// The texts of the uids that unknowns of a policy's condition name. The set that they are gathered in hashes by what
-// `hasher` builds.
+// Returns the texts of the uids of the unknowns in a policy's condition. They are collected in a set with the hasher
+// builder `hasher`.
 fn unknowns_of<S: BuildHasher + Copy>(
     alloc: Global,
     policy: &Policy,
@@ -38,10 +38,16 @@ fn unknowns_of<S: BuildHasher + Copy>(
 }
 
 impl<S: BuildHasher + Copy> KeptSet<S> {
-    /// The uids that unknowns of the condition of the policy with an id name become the answer, as
-    /// `Policy::unknown_entities_with_hasher` finds them by the hasher of the set: ascending, each once. `NoBody` comes
-    /// where no policy has the id. Takes memory for the condition, its walk, the uids and their texts; a refusal leaves
-    /// all as it was.
+    /// Stores the uids of the unknowns in the condition of the policy with an id in `answer`: ascending, each once.
+    /// They are the uids of `Policy::unknown_entities_with_hasher` with the set's hasher builder.
+    ///
+    /// # Errors
+    ///
+    /// - `NotUtf8`: the id is not UTF-8.
+    /// - `NoBody`: there is no policy with the id.
+    /// - `NoMemory`: an allocation failed.
+    ///
+    /// After an error nothing has changed.
     pub fn unknown_entities(&mut self, alloc: Global, id: &[u8]) -> Result<(), Reason>
         ensures { AnswersAt policy_at AreUnknownIn id.now result self.old self.new }
     {

@@ -1,4 +1,4 @@
-//! The call that looks for what is wrong with a policy set.
+//! The call that validates a policy set.
 ghost use Rattle.std.specs.Prelude.{IfOk};
 ghost use Rattle.cedar_c_sets.specs.Validity.{IsFaultTold, NamesFault, Validates, fault_reason};
 
@@ -11,8 +11,8 @@ use cedar_policy_set::PolicySetValidationError;
 use std::alloc::{AllocError, Global};
 use std::hash::BuildHasher;
 
-// What a body is not valid for, and its id. `SlotCacheMismatch`, which is never answered, goes with the other that is
-// about slots.
+// Returns the error of an invalid body, with its id. `SlotCacheMismatch` never occurs, and has the reason of the other
+// error on slots.
 fn by_body(
     alloc: Global,
     id: &PolicyID,
@@ -37,7 +37,7 @@ fn by_body(
     }
 }
 
-// What a set is not valid for.
+// Returns the error of an invalid set.
 fn by_fault(alloc: Global, error: &PolicySetValidationError) -> Result<Told, AllocError>
     ensures { IfOk result (λ t. IsFaultTold error.now t.reason t.text.items) }
 {
@@ -51,11 +51,19 @@ fn by_fault(alloc: Global, error: &PolicySetValidationError) -> Result<Told, All
 }
 
 impl<S: BuildHasher + Copy> KeptSet<S> {
-    /// Looks for what is wrong with the set, as `PolicySet::try_validate` does, over a copy: the first link, in the
-    /// order of policies, of a template without slots (`SlotlessLink`, which names the link); else the first fault of
-    /// the first body, in the order of bodies, that has one, which names the body: `SlotInClause`, `NotActions`,
-    /// `UnknownFunction`. The set, the answer and the nodes stay as they were. Takes memory, for a copy of the set and
-    /// of each body.
+    /// Validates a copy of the set, as `PolicySet::try_validate` does. `answer` and `nodes` do not change.
+    ///
+    /// # Errors
+    ///
+    /// The first fault determines the error. Links are checked before bodies, each in order.
+    ///
+    /// - `SlotlessLink`: a link has a template without slots. The error names the link.
+    /// - `SlotInClause`: the clause of a body has a slot. The error names the body, as the next two do.
+    /// - `NotActions`: the action constraint of a body has a uid that is not an action.
+    /// - `UnknownFunction`: the clause of a body calls an unknown function.
+    /// - `NoMemory`: an allocation failed. Copies of the set and of each body are allocated.
+    ///
+    /// After an error the set is unchanged.
     pub fn validate(&mut self, alloc: Global) -> Result<(), Reason>
         ensures { Validates result self.old self.new }
     {

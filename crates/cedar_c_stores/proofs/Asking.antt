@@ -1,4 +1,4 @@
--- What a plain store says of one of its entities.
+-- Queries of an entity of a plain store.
 use Rattle.std.specs.Prelude.{◌≡◌, ◌↔◌, ◌||◌, Bool, true, false, Some}
 use Rattle.std.proofs.Common.{ap, sym, refl, ◌∙◌, subst}
 use Rattle.std.specs.Option.{option_map, IfSome}
@@ -11,18 +11,18 @@ use Rattle.cedar_graph.specs.Graph.{Reach}
 use Rattle.cedar_ids.specs.declared.entity.EntityUID.{EntityUID}
 use Rattle.cedar_c_stores.specs.Reads.{IsFarAbove, has_indirect}
 
--- its ancestors are what it reaches
+-- In a plain store, the ancestors of an entity are the uids that it reaches.
 pub above_held : (S : StoreView) (u v : EntityUID) (x : EntityView) → finmap.get S.held u ≡ Some x → (W : World)
     → IsPlainStore W S → (has_ancestor x v ≡ true) ↔ Reach (graph W) u v
 above_held S u v x e W p =
     subst (λ o. IfSome o (λ y. (z : EntityUID) → (has_ancestor y z ≡ true) ↔ Reach (graph W) u z)) e (p.reached u) v
 
--- its parents are the world's
+-- In a plain store, the parents of an entity are its parents in the input store.
 pub parent_held : (S : StoreView) (u v : EntityUID) (x : EntityView) → finmap.get S.held u ≡ Some x → (W : World)
     → IsPlainStore W S → graph W u v ≡ set.contains x.parents v
 parent_held S u v x e W p = ap (λ o. is_parent_in o v) (sym (p.holds u) ∙ ap (option_map parts_of) e)
 
--- of two truths, of which the second is false where the first is so
+-- If b is false whenever a is true, and b is true, then a is false.
 first_is_false : (a b : Bool) → (a ≡ true → b ≡ false) → b ≡ true → a ≡ false
 first_is_false false b apart second = refl
 first_is_false true b apart second = sym second ∙ apart refl
@@ -36,7 +36,7 @@ second_is_left true true either first = refl
 second_is_left true false either first = sym first
 second_is_left false b either first = either
 
--- its indirect ancestors are what it reaches but for its parents
+-- In a plain store, the indirect ancestors of an entity are the uids that it reaches and that are not parents.
 pub far_above_held : (S : StoreView) (u v : EntityUID) (x : EntityView) → finmap.get S.held u ≡ Some x → (W : World)
     → IsPlainStore W S → (has_indirect x v ≡ true) ↔ IsFarAbove W u v
 far_above_held S u v x e W p =

@@ -1,4 +1,4 @@
--- What an edit leaves, and what a trial says of it.
+-- The store after an edit, and what a trial of the edit shows.
 use Rattle.std.specs.Prelude.{◌≡◌, ◌↔◌, ◌⊎◌, Bool, true, List, [], ◌∷◌, map, Result, Ok, Err, IfErr, OnOk, IsTrue}
 use Rattle.std.proofs.Common.{ℕ, ap, sym, refl, subst, ◌∙◌, inl, inr}
 use Rattle.std.proofs.lemmas.Bool.{false≢true}
@@ -24,12 +24,12 @@ use Rattle.cedar_trial_edits.specs.laws.OnlyMemory.{adding_passes, overwriting_p
 use Rattle.cedar_c_lists.specs.declared.reason.Reason.{Reason}
 use Rattle.cedar_c_stores.specs.Edits.{EditGives, Edits, IsSure, KeepsPlain, StandsOrEmpties, StandsOrStays}
 use Rattle.cedar_c_stores.specs.SomePlain.{IsSomePlain}
-use Rattle.cedar_c_stores.specs.Stores.{AddGives, UpsertGives, RemoveGives, IsToldBy, StaysOrEmpties, empty_store}
+use Rattle.cedar_c_stores.specs.Stores.{AddGives, UpsertGives, RemoveGives, IsToldBy, StaysOrEmpties, emptied}
 use Rattle.cedar_c_stores.specs.Stores.{reason_of}
 use Rattle.cedar_c_stores.specs.declared.edits.Edit.{Edit}
 use Rattle.cedar_c_stores.specs.declared.edits.Edit.TheVariants as edits
 
--- an adding that a trial lets through is refused for memory alone
+-- After a successful trial, adding entities can fail only because an allocation fails.
 pub add_sure : (m : TCComputation) (L : List EntityView) (S : StoreView) → m ≡ modes.ComputeNow
     → AreBare L → IsSomePlain S
     → ((W : World) → IsPlainStore W S → AreBare L → calls.Passes W (calls.Add (map given_of L)))
@@ -38,7 +38,7 @@ add_sure m L S now bare plain tries e g =
     let h : AddGives modes.ComputeNow L S (Err e) = subst (λ k. AddGives k L S (Err e)) now g in
     adding_passes plain.0 (map given_of L) e (tries plain.0 plain.1 bare) (h.plain plain.0 plain.1 bare).err
 
--- and an overwriting
+-- After a successful trial, upserting entities can fail only because an allocation fails.
 pub upsert_sure : (m : TCComputation) (L : List EntityView) (S : StoreView) → m ≡ modes.ComputeNow
     → AreBare L → IsSomePlain S
     → ((W : World) → IsPlainStore W S → AreBare L → calls.Passes W (calls.Upsert (map given_of L)))
@@ -47,7 +47,7 @@ upsert_sure m L S now bare plain tries e g =
     let h : UpsertGives modes.ComputeNow L S (Err e) = subst (λ k. UpsertGives k L S (Err e)) now g in
     overwriting_passes plain.0 (map given_of L) e (tries plain.0 plain.1 bare) (h.plain plain.0 plain.1 bare).err
 
--- what a trial is refused for, an adding may be
+-- An error of a trial is a possible error of adding the entities.
 pub add_so : (m : TCComputation) (L : List EntityView) (S : StoreView) (e : EntitiesError) → m ≡ modes.ComputeNow
     → IsAddRefusal S.held L e
     → ((W : World) → IsPlainStore W S → AreBare L → calls.IsRefusedAs W (calls.Add (map given_of L)) e)
@@ -58,7 +58,7 @@ add_so m L S e now h tries = subst (λ k. AddGives k L S (Err e)) (sym now) (rec
   plain = λ W p b. record { agree = tt; ok = tt; err = tries W p b };
 })
 
--- and an overwriting
+-- An error of a trial is a possible error of upserting the entities.
 pub upsert_so : (m : TCComputation) (L : List EntityView) (S : StoreView) (e : EntitiesError) → m ≡ modes.ComputeNow
     → IsUpsertRefusal S.held L e
     → ((W : World) → IsPlainStore W S → AreBare L → calls.IsRefusedAs W (calls.Upsert (map given_of L)) e)
@@ -69,7 +69,7 @@ upsert_so m L S e now h tries = subst (λ k. UpsertGives k L S (Err e)) (sym now
   plain = λ W p b. record { ok = tt; err = tries W p b };
 })
 
--- what a trial of an adding is refused for, the edit may be
+-- An error of a trial of adding is a possible error of the edit.
 pub adding_refused : {A : Type 0} (m : TCComputation) (x : Edit) (v : Vec (Rc EntityView Global)) (M : List EntityView)
     (S : StoreView) → x ≡ edits.Add v → M ≡ entities_in v.items → KeepsPlain m x → (r : Result A EntitiesError)
     → IfErr r (IsAddRefusal S.held M)
@@ -79,7 +79,7 @@ adding_refused m x v M S is same keeps (Ok a) h t = tt
 adding_refused m x v M S is same keeps (Err e) h t = subst (λ y. EditGives m y S (Err e)) (sym is)
     (subst (λ L. AddGives m L S (Err e)) same (add_so m M S e (subst (KeepsPlain m) is keeps).0 h t))
 
--- and where it is let through, only memory refuses the edit
+-- After a successful trial of adding, the edit can fail only because an allocation fails.
 pub adding_passed : {A : Type 0} (m : TCComputation) (x : Edit) (v : Vec (Rc EntityView Global)) (M : List EntityView)
     (S : StoreView) → x ≡ edits.Add v → M ≡ entities_in v.items → KeepsPlain m x → IsSomePlain S
     → (r : Result A EntitiesError)
@@ -91,7 +91,7 @@ adding_passed m x v M S is same keeps plain (Ok a) t = λ e g.
     (subst (λ L. AddGives m L S (Err e)) (sym same) (subst (λ y. EditGives m y S (Err e)) is g))
 adding_passed m x v M S is same keeps plain (Err e) t = tt
 
--- what a trial of an overwriting is refused for, the edit may be
+-- An error of a trial of upserting is a possible error of the edit.
 pub upserting_refused : {A : Type 0} (m : TCComputation) (x : Edit) (v : Vec (Rc EntityView Global)) (M : List EntityView)
     (S : StoreView) → x ≡ edits.Upsert v → M ≡ entities_in v.items → KeepsPlain m x → (r : Result A EntitiesError)
     → IfErr r (IsUpsertRefusal S.held M)
@@ -101,7 +101,7 @@ upserting_refused m x v M S is same keeps (Ok a) h t = tt
 upserting_refused m x v M S is same keeps (Err e) h t = subst (λ y. EditGives m y S (Err e)) (sym is)
     (subst (λ L. UpsertGives m L S (Err e)) same (upsert_so m M S e (subst (KeepsPlain m) is keeps).0 h t))
 
--- and where it is let through, only memory refuses the edit
+-- After a successful trial of upserting, the edit can fail only because an allocation fails.
 pub upserting_passed : {A : Type 0} (m : TCComputation) (x : Edit) (v : Vec (Rc EntityView Global)) (M : List EntityView)
     (S : StoreView) → x ≡ edits.Upsert v → M ≡ entities_in v.items → KeepsPlain m x → IsSomePlain S
     → (r : Result A EntitiesError)
@@ -113,13 +113,13 @@ upserting_passed m x v M S is same keeps plain (Ok a) t = λ e g.
     (subst (λ L. UpsertGives m L S (Err e)) (sym same) (subst (λ y. EditGives m y S (Err e)) is g))
 upserting_passed m x v M S is same keeps plain (Err e) t = tt
 
--- a removal from a plain store is refused for memory alone
+-- A removal from a plain store can fail only because an allocation fails.
 pub removing_passed : (m : TCComputation) (x : Edit) (v : Vec EntityUID) (S : StoreView) → x ≡ edits.Remove v
     → IsSomePlain S → IsSure m x S
 removing_passed m x v S is plain = λ e g.
     let h : RemoveGives m v.items S (Err e) = subst (λ y. EditGives m y S (Err e)) is g in (h.plain plain.0 plain.1).err
 
--- memory may be wanted in each edit
+-- An allocation failure is a possible result of each edit.
 pub memory_gives : (m : TCComputation) (x : Edit) (S : StoreView) → EditGives m x S (Err errors.Memory)
 memory_gives modes.AssumeAlreadyComputed (edits.Add v) S = record {
   partial = tt;
@@ -167,7 +167,7 @@ memory_gives modes.ComputeNow (edits.Remove v) S = record {
   plain = λ W p. record { ok = tt; err = refl };
 }
 
--- an edit that keeps a plain store plain does so
+-- The result of an edit that keeps a plain store plain is plain.
 pub plain_given : (m : TCComputation) (x : Edit) (S N : StoreView) → KeepsPlain m x → EditGives m x S (Ok N) → IsSomePlain S
     → IsSomePlain N
 plain_given m (edits.Add v) S N k g p =
@@ -186,47 +186,48 @@ module _ (A : Type 0) (m : TCComputation) (x : Edit) (O N : StoreView) where
   plain_stood a (Ok S) k g s p = subst IsSomePlain (sym s) (plain_given m x O S k g p)
   plain_stood a (Err e) k g s p = absurd s
 
-  -- so what an edit made is plain
+  -- The store after such an edit is plain.
   pub plain_edited : (a : A) → KeepsPlain m x → Edits m x O (Ok a) N → IsSomePlain O → IsSomePlain N
   plain_edited a k h p = plain_stood a h.0 k h.1 h.2 p
 
   stands_sure : (given : Result StoreView EntitiesError) (r : Result A EntitiesError) → IsSure m x O
-      → EditGives m x O given → StandsOrEmpties given r N → StandsOrStays O given r N
+      → EditGives m x O given → StandsOrEmpties O given r N → StandsOrStays O given r N
   stands_sure (Ok S) (Ok a) sure g s = s
   stands_sure (Err e) (Err f) sure g s = (s.0, inr (sure e g, s.1))
   stands_sure (Ok S) (Err f) sure g s = absurd s
   stands_sure (Err e) (Ok a) sure g s = absurd s
 
-  -- an edit that only want of memory refuses
+  -- An edit that can fail only because an allocation fails.
   pub edited_sure : (r : Result A EntitiesError) → IsSure m x O
-      → (given : Result StoreView EntitiesError) × EditGives m x O given × StandsOrEmpties given r N → Edits m x O r N
+      → (given : Result StoreView EntitiesError) × EditGives m x O given × StandsOrEmpties O given r N → Edits m x O r N
   edited_sure r sure h = (h.0, h.1, stands_sure h.0 r sure h.1 h.2)
 
-  stood : (a : A) (given : Result StoreView EntitiesError) → StandsOrEmpties given (Ok a) N
+  stood : (a : A) (given : Result StoreView EntitiesError) → StandsOrEmpties O given (Ok a) N
       → StandsOrStays O given (Ok a) N
   stood a (Ok S) s = s
   stood a (Err e) s = absurd s
 
-  -- an edit that is made
+  -- An edit that succeeds.
   pub edited_made : (a : A)
-      → (given : Result StoreView EntitiesError) × EditGives m x O given × StandsOrEmpties given (Ok a) N
+      → (given : Result StoreView EntitiesError) × EditGives m x O given × StandsOrEmpties O given (Ok a) N
       → Edits m x O (Ok a) N
   edited_made a h = (h.0, h.1, stood a h.0 h.2)
 
   put_back : (B : StoreView) (f : EntitiesError) (given : Result StoreView EntitiesError)
-      → StandsOrEmpties {A = A} given (Err f) B → N ≡ O → StandsOrStays {A = A} O given (Err f) N
+      → StandsOrEmpties {A = A} O given (Err f) B → N ≡ O → StandsOrStays {A = A} O given (Err f) N
   put_back B f (Ok S) s is = absurd s
   put_back B f (Err e) s is = (s.0, inl is)
 
-  -- an edit that is refused, and the copy that is put back
+  -- An edit that fails, after which the copy is restored.
   pub edited_back : (B : StoreView) (f : EntitiesError)
-      → (given : Result StoreView EntitiesError) × EditGives m x O given × StandsOrEmpties {A = A} given (Err f) B → N ≡ O
+      → (given : Result StoreView EntitiesError) × EditGives m x O given × StandsOrEmpties {A = A} O given (Err f) B
+      → N ≡ O
       → Edits {A = A} m x O (Err f) N
   edited_back B f h is = (h.0, h.1, put_back B f h.0 h.2 is)
 
--- what an edit leaves, told by a reason
+-- The store after an error, by the reason of the error.
 pub left_told : (O N : StoreView) (e : EntitiesError) (w : Reason) (text : List ℕ)
-    → (N ≡ O) ⊎ ((e ≡ errors.Memory) × (N ≡ empty_store)) → IsToldBy e w text → StaysOrEmpties O w N
+    → (N ≡ O) ⊎ ((e ≡ errors.Memory) × (N ≡ emptied O)) → IsToldBy e w text → StaysOrEmpties O w N
 left_told O N e w text (inl is) told = inl is
 left_told O N e w text (inr h) told = inr (elim told [ inl n ↦ n | inr t ↦ t.0 ∙ ap reason_of h.0 ], h.1)
 
@@ -237,10 +238,10 @@ no_path : (a b : EntityUID) (xs : List EntityUID) → Path (graph empty_world) a
 no_path a b [] p = no_edge a b p
 no_path a b (x ∷ xs) p = no_edge a x p.0
 
--- the store without entities is plain
-pub empty_plain : IsSomePlain empty_store
-empty_plain = (
-  empty_world,
+-- The empty store is plain, whether partial or not.
+pub emptied_plain : (O : StoreView) → IsSomePlain (emptied O)
+emptied_plain O = (
+  record empty_world { partial = O.partial },
   record {
     partial = refl;
     holds = λ q. ap (option_map parts_of) (finmap.get-empty uid_order q) ∙ sym (finmap.get-empty uid_order q);
@@ -253,14 +254,14 @@ empty_plain = (
   },
 )
 
--- an edit that is refused leaves a plain store plain
+-- A plain store is plain after an edit that fails.
 pub plain_left : (plain : Bool) (O N : StoreView) (e : EntitiesError)
-    → (N ≡ O) ⊎ ((e ≡ errors.Memory) × (N ≡ empty_store)) → (IsTrue plain → IsSomePlain O) → IsTrue plain
+    → (N ≡ O) ⊎ ((e ≡ errors.Memory) × (N ≡ emptied O)) → (IsTrue plain → IsSomePlain O) → IsTrue plain
     → IsSomePlain N
 plain_left plain O N e (inl is) known t = subst IsSomePlain (sym is) (known t)
-plain_left plain O N e (inr h) known t = subst IsSomePlain (sym h.1) empty_plain
+plain_left plain O N e (inr h) known t = subst IsSomePlain (sym h.1) (emptied_plain O)
 
--- and so does one that is made, where it keeps a plain store plain
+-- A plain store is plain after an edit that keeps it plain.
 pub plain_after : {A : Type 0} (m : TCComputation) (x : Edit) (O N : StoreView) (plain : Bool) → KeepsPlain m x
     → IsSomePlain O → (r : Result A EntitiesError) → Edits m x O r N → OnOk r (IsTrue plain → IsSomePlain N)
 plain_after {A} m x O N plain keeps p (Ok a) h = λ t. plain_edited A m x O N a keeps h p
@@ -271,12 +272,12 @@ refused_left : (A : Type 0) (O N : StoreView) (f : EntitiesError) (plain : Bool)
 refused_left A O N f plain (Ok S) s known t = absurd s
 refused_left A O N f plain (Err e) s known t = plain_left plain O N e s.1 known t
 
--- a refused edit leaves what was known
+-- After an edit that fails, a store that is known to be plain is still plain.
 pub plain_refused : {A : Type 0} (m : TCComputation) (x : Edit) (O N : StoreView) (f : EntitiesError) (plain : Bool)
     → Edits {A = A} m x O (Err f) N → (IsTrue plain → IsSomePlain O) → IsTrue plain → IsSomePlain N
 plain_refused {A} m x O N f plain h known t = refused_left A O N f plain h.0 h.2 known t
 
--- an edit before which memory is wanted
+-- An edit that is not made because an allocation fails.
 pub edited_for_memory : {A : Type 0} (m : TCComputation) (x : Edit) (O : StoreView) (r : Result A EntitiesError)
     → IsErrAnd r (λ e. e ≡ errors.Memory) → Edits m x O r O
 edited_for_memory m x O (Ok a) h = absurd h

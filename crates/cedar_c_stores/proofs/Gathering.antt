@@ -1,4 +1,4 @@
--- Parents that are gathered edge by edge are those that all edges give.
+-- The parents that are collected edge by edge are the parents in all edges.
 use Rattle.std.proofs.Common.{◌≡◌, ap, sym, refl, ◌∙◌, ◌++◌, ◌+◌, ◌<◌, ◌≤◌, ℕ, suc, zero, List, [], ◌∷◌, Some, None}
 use Rattle.std.proofs.Common.{length, map, if◌then◌else◌, take, Bool, subst, arith, ◌⊎◌, inl, inr}
 use Rattle.std.proofs.lemmas.Bool.{cases_lt, eq-eqb, ne_eqb}
@@ -22,7 +22,7 @@ use Rattle.cedar_c_stores.specs.laws.Listed.{with_edge}
 use Rattle.cedar_c_lists.specs.declared.reason.Reason.{Reason}
 use Rattle.cedar_c_lists.specs.declared.reason.Reason.TheVariants.{NoMemory, BadArgument}
 
--- an edge from another place gives no parent more
+-- An edge from another position adds no parent.
 pub none_more : (us : List EntityUID) (es : List Edge) (e : Edge) (i : ℕ) → (e.from ≡ i → ⊥)
     → parents_at us (es ++ e ∷ []) i ≡ parents_at us es i
 none_more us es e i other =
@@ -31,7 +31,7 @@ none_more us es e i other =
     (ne_eqb e.from i other)
     ∙ append-nil (parents_at us es i)
 
--- an edge from the place gives the uid that it leads to
+-- An edge from the position adds its target.
 pub one_more : (us : List EntityUID) (es : List Edge) (e : Edge) (i : ℕ) (p : EntityUID) → e.from ≡ i
     → slice_get us e.to ≡ Some p → parents_at us (es ++ e ∷ []) i ≡ parents_at us es i ++ p ∷ []
 one_more us es e i p same found =
@@ -40,7 +40,7 @@ one_more us es e i p same found =
     (eq-eqb e.from i same)
     ∙ ap (λ o. parents_at us es i ++ cons_option o []) found
 
--- those behind the place have no parent more
+-- An edge from an earlier position changes no later items.
 later_same : (us : List EntityUID) (es : List Edge) (e : Edge) (i : ℕ) (xs : List EntityUID) → e.from < i
     → listed_from us (es ++ e ∷ []) i xs ≡ listed_from us es i xs
 later_same us es e i [] h = refl
@@ -49,7 +49,7 @@ later_same us es e i (x ∷ xs) h =
     (none_more us es e i (λ q. absurd (omega (arith, h, q))))
     ∙ ap (λ l. (x, parents_at us es i) ∷ l) (later_same us es e (i + 1) xs (omega (arith, h)))
 
--- the one at the place has the uid that the edge leads to
+-- An edge appends its target to the item at its source.
 gather_at : (us : List EntityUID) (es : List Edge) (e : Edge) (p : EntityUID) (k i : ℕ) (xs : List EntityUID)
     → e.from ≡ i + k → slice_get us e.to ≡ Some p → k < length xs →
     with_edge k p (listed_from us es i xs) ≡ listed_from us (es ++ e ∷ []) i xs
@@ -68,25 +68,25 @@ pub length_listed : (us : List EntityUID) (es : List Edge) (i : ℕ) (xs : List 
 length_listed us es i [] = refl
 length_listed us es i (x ∷ xs) = ap suc (length_listed us es (i + 1) xs)
 
--- of those that stand from the first place on
+-- The same for the list from the first position on.
 pub gather : (us : List EntityUID) (es : List Edge) (e : Edge) (p : EntityUID) (xs : List EntityUID)
     → slice_get us e.to ≡ Some p → e.from < length (listed_from us es 0 xs) →
     with_edge e.from p (listed_from us es 0 xs) ≡ listed_from us (es ++ e ∷ []) 0 xs
 gather us es e p xs found h =
     gather_at us es e p e.from 0 xs (omega arith) found (subst (λ n. e.from < n) (length_listed us es 0 xs) h)
 
--- with no edge there are no parents
+-- Without edges there are no parents.
 pub listed_bare : (us : List EntityUID) (i : ℕ) (xs : List EntityUID) → map (λ u. (u, [])) xs ≡ listed_from us [] i xs
 listed_bare us i [] = refl
 listed_bare us i (x ∷ xs) = ap (λ l. (x, []) ∷ l) (listed_bare us (i + 1) xs)
 
--- what was gathered makes the entities
+-- The collected uids and parents form the entities.
 pub made_of_listed : (us : List EntityUID) (es : List Edge) (i : ℕ) (xs : List EntityUID)
     → map (λ p. with_parents p.0 p.1) (listed_from us es i xs) ≡ entities_from us es i xs
 made_of_listed us es i [] = refl
 made_of_listed us es i (x ∷ xs) = ap (λ l. with_parents x (parents_at us es i) ∷ l) (made_of_listed us es (i + 1) xs)
 
--- and none of them has an indirect ancestor
+-- The entities have no indirect ancestors.
 pub made_bare : (us : List EntityUID) (es : List Edge) (i : ℕ) (xs : List EntityUID)
     → AreBare (entities_from us es i xs)
 made_bare us es i [] = tt
@@ -97,7 +97,7 @@ length_with_edge k p [] = refl
 length_with_edge zero p (g ∷ gs) = refl
 length_with_edge (suc k) p (g ∷ gs) = ap suc (length_with_edge k p gs)
 
--- the edge at the next place is gathered
+-- The next edge extends the collected parents.
 pub gather_next : (us : List EntityUID) (es : List Edge) (k : ℕ) (d : Edge) (p : EntityUID) (gs hs : List Gathered)
     (xs : List EntityUID) → k < length es →
     gs ≡ listed_from us (take k es) 0 xs → slice_get us (get_or es k d).to ≡ Some p → (get_or es k d).from < length gs
@@ -112,7 +112,7 @@ pub length_next : (k : ℕ) (p : EntityUID) (gs hs : List Gathered) (n : ℕ) �
     → length hs ≡ n
 length_next k p gs hs n so step = ap length step ∙ length_with_edge k p gs ∙ so
 
--- the edge at the next place is in range too
+-- The next edge is in range.
 pub within_next : (us : List EntityUID) (es : List Edge) (k : ℕ) (d : Edge) (p : EntityUID) (n : ℕ) → k < length es
     → ((j : ℕ) (e : Edge) → j < k → slice_get es j ≡ Some e → IsEdgeOf n (length us) e)
     → slice_get us (get_or es k d).to ≡ Some p → (get_or es k d).from < n
@@ -128,13 +128,13 @@ within_next us es k d p n l before found within j e below at =
           subst (IsEdgeOf n (length us)) one (within, slice_get_within us (get_or es k d).to p found)
     ]
 
--- an edge that leads from nowhere or to nowhere
+-- An edge is out of range.
 pub edge_out : (n m : ℕ) (es : List Edge) (k : ℕ) (d : Edge) (w : Reason) → k < length es
     → (IsEdgeOf n m (get_or es k d) → ⊥) → (w ≡ NoMemory) ⊎ (w ≡ BadArgument) → IsSomeEdgeOut n m es w
 edge_out n m es k d w l out (inl e) = inl e
 edge_out n m es k d w l out (inr e) = inr (e, (k, get_or es k d, slice_get-get_or es k d l, out))
 
--- a parent more, put into the one that stands at the place
+-- Setting the item at a position to the item with one more parent is `with_edge`.
 pub put_in : (gs : List Gathered) (k : ℕ) (g h : Gathered) (p : EntityUID) → k < length gs → get_or gs k g ≡ g
     → h ≡ (g.0, g.1 ++ p ∷ []) → set gs k h ≡ with_edge k p gs
 put_in [] k g h p l e s = absurd (omega (arith, l))
@@ -155,7 +155,7 @@ pub length_gathered : (us : List EntityUID) (n : ℕ) (first : List EntityUID) (
 length_gathered us n first gs few front bare =
     ap length bare ∙ length_bare first ∙ ap length front ∙ length_first us n few
 
--- what the edges make of the first uids
+-- The entities with the first uids and the parents in the edges.
 made_of_edges : (us : List EntityUID) (es : List Edge) (n : ℕ) (first : List EntityUID) (gs hs : List Gathered)
     (L : List EntityView) → first ≡ take n us → gs ≡ map (λ u. (u, [])) first →
     ((xs : List EntityUID) → gs ≡ listed_from us [] 0 xs → hs ≡ listed_from us es 0 xs)
@@ -165,7 +165,7 @@ made_of_edges us es n first gs hs L front bare put made =
     (put (take n us) (bare ∙ ap (map (λ u. (u, []))) front ∙ listed_bare us 0 (take n us)))
     ∙ made_of_listed us es 0 (take n us)
 
--- so the first uids are gathered, where there are so many and the edges are in range
+-- The first uids are collected if there are enough uids and the edges are in range.
 pub gathered_by : (us : List EntityUID) (es : List Edge) (n : ℕ) (first : List EntityUID) (gs hs : List Gathered)
     (L : List EntityView) → n ≤ length us → first ≡ take n us → gs ≡ map (λ u. (u, [])) first →
     ((xs : List EntityUID) → gs ≡ listed_from us [] 0 xs → hs ≡ listed_from us es 0 xs)
@@ -176,14 +176,14 @@ gathered_by us es n first gs hs L few front bare put range made = record {
   entities = made_of_edges us es n first gs hs L front bare put made;
 }
 
--- an edge that is out of range of the first uids
+-- An edge is out of range of the first uids.
 pub out_of_first : (us : List EntityUID) (es : List Edge) (n : ℕ) (first : List EntityUID) (gs : List Gathered)
     (w : Reason) → n ≤ length us → first ≡ take n us → gs ≡ map (λ u. (u, [])) first →
     IsSomeEdgeOut (length gs) (length us) es w → IsUngathered (length us) n es w
 out_of_first us es n first gs w few front bare out =
     inr (subst (λ k. IsSomeEdgeOut k (length us) es w) (length_gathered us n first gs few front bare) out)
 
--- uids are as many as the parts that they are read of
+-- There are as many uids as spans from which they are parsed.
 pub length_read : (text : List ℕ) (us : List EntityUID) (spans : List Span) → AreReadAt text us spans
     → length us ≡ length spans
 length_read text [] [] r = refl
@@ -191,7 +191,7 @@ length_read text [] (s ∷ spans) r = absurd r
 length_read text (u ∷ us) [] r = absurd r
 length_read text (u ∷ us) (s ∷ spans) r = ap suc (length_read text us spans r.1)
 
--- each part that a uid is read of lies within the text
+-- Each span from which a uid is parsed is within the text.
 pub inside_read : (text : List ℕ) (us : List EntityUID) (spans : List Span) → AreReadAt text us spans
     → (k : ℕ) (s : Span) → slice_get spans k ≡ Some s → IsInside text s
 inside_read text us [] r k s at = absurd (cc)
@@ -199,7 +199,7 @@ inside_read text [] (x ∷ spans) r k s at = absurd r
 inside_read text (u ∷ us) (x ∷ spans) r zero s at = let same : x ≡ s = cc in subst (IsInside text) same r.0.0
 inside_read text (u ∷ us) (x ∷ spans) r (suc k) s at = inside_read text us spans r.1 k s at
 
--- the list is made of what was read, which is in range
+-- The list has the entities of the input, which is in range.
 pub listed_of : (text : List ℕ) (spans : List Span) (n : ℕ) (es : List Edge) (us shared : List EntityUID)
     (L : List EntityView) → AreReadAt text us spans → shared ≡ us → IsGathered shared n es L
     → AreListed text spans n es L
@@ -218,7 +218,7 @@ listed_of text spans n es us shared L read same made =
       bare = subst AreBare (sym entities) (made_bare us es 0 (take n us));
     }
 
--- or it is not, where something is out of range
+-- The list is not created because something is out of range.
 pub unlisted_by : (text : List ℕ) (spans : List Span) (n : ℕ) (es : List Edge) (us shared : List EntityUID) (w : Reason)
     → AreReadAt text us spans → shared ≡ us → IsUngathered (length shared) n es w → IsUnlisted text spans n es w
 unlisted_by text spans n es us shared w read same (inl p) =

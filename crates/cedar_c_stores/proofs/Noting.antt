@@ -1,4 +1,4 @@
--- What is noted anew stands under its text, and under each other what stood there; and rows of numbers of uids.
+-- Insertion into the cache changes the value of one text only. Rows of numbers of uids.
 use Rattle.std.specs.Prelude.{◌≡◌, ◌++◌, ◌||◌, ℕ, zero, suc, List, [], ◌∷◌, Bool, true, false, Option, Some, None, nat_eq}
 use Rattle.std.specs.Prelude.{if◌then◌else◌, slice_get}
 use Rattle.std.proofs.Common.{refl, sym, subst, ap, ◌∙◌}
@@ -23,11 +23,11 @@ use Rattle.cedar_c_stores.specs.declared.noted.Noted.{Noted}
 
 -- ---- texts
 
--- whether two keys have the same bytes
+-- Whether two keys have the same bytes.
 abbrev same_key : {A : Type 0} → Vec ℕ A → Vec ℕ A → Bool
 same_key x y = pointwise nat_eq x.items y.items
 
--- whether a key has the bytes of a text
+-- Whether a key has the bytes of a text.
 abbrev is_at : {A : Type 0} → List ℕ → Vec ℕ A → Bool
 is_at t k = pointwise nat_eq t k.items
 
@@ -49,13 +49,13 @@ put_by {A} {X} m n k x updates P new t old false e =
     let kept : KeepsOthers same_key (same_key k) m.entries n.entries = updates.3 in
     subst (P t) (sym (kept (is_at t) (finds_key t) (are_apart k t e))) old
 
--- of each text holds what held of what was noted, where it holds of what is put under its own
+-- If a property is true of all cached values and of the inserted one, it is true of all values after the insertion.
 pub noted_put : {A X B : Type 0} (m n : HashMap (Vec ℕ A) X B) (k : Vec ℕ A) (x : X)
     → UpdatesBy same_key (same_key k) m n (Some x) → (P : List ℕ → Option X → Type 0) → P k.items (Some x)
     → ((t : List ℕ) → P t (noted_at m t)) → (t : List ℕ) → P t (noted_at n t)
 noted_put m n k x updates P new old t = put_by m n k x updates P new t (old t) (pointwise nat_eq t k.items) refl
 
--- what holds of a value that there is
+-- An implication for the value of an option.
 pub some_then : {X : Type 0} (P Q : X → Type 0) → ((x : X) → P x → Q x) → (o : Option X) → IfSome o P → IfSome o Q
 some_then P Q f (Some x) p = f x p
 some_then P Q f None p = p
@@ -65,7 +65,7 @@ some_then P Q f None p = p
 none_is_not : (u : EntityUID) → None ≡ Some u → ⊥
 none_is_not u e = cc
 
--- a number stays where more uids come behind
+-- A uid keeps its number after more uids are appended.
 pub still_given : (us more : List EntityUID) (n : ℕ) (u : EntityUID) → slice_get us n ≡ Some u
     → slice_get (us ++ more) n ≡ Some u
 still_given [] more n u e = absurd (none_is_not u e)
@@ -77,14 +77,14 @@ all_given : (us more : List EntityUID) (row : List ℕ) → AllByRecursion (IsGi
 all_given us more [] a = a
 all_given us more (n ∷ row) (g, a) = ((g.0, still_given us more n g.0 g.1), all_given us more row a)
 
--- two tests that answer alike for each number of a row
+-- Two tests that agree on each number of a row give the same result for the row.
 any_alike : (us : List EntityUID) (p r : ℕ → Bool) (row : List ℕ) → AllByRecursion (IsGiven us) row
     → ((n : ℕ) (u : EntityUID) → slice_get us n ≡ Some u → p n ≡ r n) → list_any p row ≡ list_any r row
 any_alike us p r [] a alike = refl
 any_alike us p r (n ∷ row) (g, a) alike =
     ap (λ b. b || list_any p row) (alike n g.0 g.1) ∙ ap (λ b. r n || b) (any_alike us p r row a alike)
 
--- a row stays where more uids come behind
+-- A row is unchanged after more uids are appended.
 pub row_kept : (us more : List EntityUID) (test : EntityUID → Bool) (row : List ℕ) → AreNumbersOf us test row
     → AreNumbersOf (us ++ more) test row
 row_kept us more test row r = record {
@@ -94,7 +94,7 @@ row_kept us more test row r = record {
   given = all_given us more row r.given;
 }
 
--- a row is that of a test that answers alike
+-- A row of a test is a row of any equal test.
 pub row_alike : (us : List EntityUID) (test other : EntityUID → Bool) (row : List ℕ) → ((q : EntityUID) → test q ≡ other q)
     → AreNumbersOf us test row → AreNumbersOf us other row
 row_alike us test other row alike r = record { told = λ q. r.told q ∙ alike q; given = r.given }
@@ -108,7 +108,7 @@ given_more : (us : List EntityUID) (row : List ℕ) (n : ℕ) → AllByRecursion
 given_more us [] n a g = (g, a)
 given_more us (m ∷ row) n (h, a) g = (h, given_more us row n a g)
 
--- a row takes the number of one more uid
+-- A row extended by the number of a uid is the row of the extended list.
 pub row_more : (us : List EntityUID) (done : List EntityUID) (row : List ℕ) (n : ℕ) (u : EntityUID)
     → AreNumbersOf us (is_member same_uid done) row → slice_get us n ≡ Some u
     → AreNumbersOf us (is_member same_uid (done ++ u ∷ [])) (row ++ n ∷ [])
@@ -127,7 +127,7 @@ all_at P [] n u a e = absurd (none_is_not u e)
 all_at P (x ∷ us) zero u (p, a) e = subst (λ o. IfSome o P) e p
 all_at P (x ∷ us) (suc n) u (p, a) e = all_at P us n u a e
 
--- two numbers are the same where their uids are
+-- Two numbers are equal exactly if their uids are.
 pub numbers_tell : (us : List EntityUID) → IsDistinct same_uid us → (m n : ℕ) (u v : EntityUID) → slice_get us m ≡ Some u
     → slice_get us n ≡ Some v → nat_eq m n ≡ same_uid v u
 unfolding IsDistinct
@@ -143,7 +143,7 @@ numbers_tell (x ∷ us) d (suc m) zero u v e f =
     eqb-suc-zero m ∙ sym (subst (λ o. IfSome o (λ y. same_uid y u ≡ false)) f (all_at (λ y. same_uid x y ≡ false) us m u d.0 e))
 numbers_tell (x ∷ us) d (suc m) (suc n) u v e f = eqb-suc-suc m n ∙ numbers_tell us d.1 m n u v e f
 
--- of a uid that has a number, the row tells by the number what the test tells
+-- A row contains the number of a uid exactly if the test is true of the uid.
 pub row_tells : (us : List EntityUID) (test : EntityUID → Bool) (row : List ℕ) → IsDistinct same_uid us
     → AreNumbersOf us test row → (n : ℕ) (v : EntityUID) → slice_get us n ≡ Some v
     → list_any (λ m. nat_eq m n) row ≡ test v
@@ -152,7 +152,7 @@ row_tells us test row d r n v f =
     (λ m u e. numbers_tell us d m n u v e f ∙ sym (ap (λ o. option_map_or (same_uid v) o false) e))
     ∙ r.told v
 
--- ---- uids that get numbers
+-- ---- numbering uids
 
 append_none : (us : List EntityUID) → us ++ [] ≡ us
 append_none [] = refl
@@ -178,7 +178,7 @@ pub keeps_with : (us ws : List EntityUID) (u : EntityUID) → ws ≡ uids_with u
     → KeepsNumbers us ws
 keeps_with us ws u e d = let m = keeps_by (is_member same_uid us u) us u in (m.0, e ∙ m.1, λ _. d)
 
--- ---- all that is noted
+-- ---- the whole cache
 
 pub row_stays : (S : StoreView) (us vs : List EntityUID) (t : List ℕ) (row : List ℕ) → KeepsNumbers us vs
     → IsRowAt S us t row → IsRowAt S vs t row
@@ -194,7 +194,7 @@ pub name_stays : (us vs : List EntityUID) (t : List ℕ) (n : ℕ) → KeepsNumb
 name_stays us vs t n k (v, e, read) =
     (v, subst (λ (s : List EntityUID). slice_get s n ≡ Some v) (sym k.1) (still_given us k.0 n v e), read)
 
--- what is noted stands where uids get numbers and the maps have the entries that they had
+-- The cache is still correct after uids are numbered, if the maps are unchanged.
 pub noted_stays : {B H : Type 0} (S : StoreView) (i j : Noted B H) → KeepsNumbers i.numbers j.numbers
     → j.above.entries ≡ i.above.entries → j.names.entries ≡ i.names.entries → AreNoted S i → AreNoted S j
 noted_stays S i j k above names a = record {

@@ -1,4 +1,4 @@
--- A uid with an ASCII eid whose text this is is the one that is read of it.
+-- A text of a uid with an ASCII eid is parsed as that uid.
 use Rattle.std.proofs.Common.{◌≡◌, ℕ, List, ap, ◌∙◌, refl}
 use Rattle.cedar_ids.specs.Escape.{escaped}
 use Rattle.cedar_ids.specs.Printed.{printed_name}

@@ -1,4 +1,4 @@
--- What lists say of entities, gathered one edge and one term after another, is what all of them say.
+-- The parts that are collected edge by edge and term by term are the parts in the whole input.
 use Rattle.std.specs.Prelude.{◌==◌, Err, MatchResult, Ok, Result}
 use Rattle.std.proofs.Common.{◌≡◌, ap, sym, refl, ◌∙◌, ◌++◌, ◌+◌, ◌<◌, ◌≤◌, ℕ, suc, zero, List, [], ◌∷◌, Some, None}
 use Rattle.std.proofs.Common.{length, map, if◌then◌else◌, take, Bool, subst, arith, ◌⊎◌, inl, inr}
@@ -35,7 +35,7 @@ use Rattle.cedar_c_stores.specs.laws.Rows.{said_of, with_above, with_field}
 use Rattle.cedar_c_stores.proofs.Gathering.{inside_read, length_first, length_gathered, length_read, listed_bare}
 use Rattle.cedar_c_stores.proofs.Gathering.{none_more, one_more}
 
--- ---- places
+-- ---- positions
 
 placed_same : {A B : Type 0} (F G : ℕ → A → B) (i : ℕ) (xs : List A)
     → ((j : ℕ) (x : A) → i ≤ j → G j x ≡ F j x) → placed F i xs ≡ placed G i xs
@@ -44,7 +44,7 @@ placed_same F G i (x ∷ xs) same =
     ap (λ b. b ∷ placed F (i + 1) xs) (sym (same i x (omega arith)))
     ∙ ap (λ l. G i x ∷ l) (placed_same F G (i + 1) xs (λ j y h. same j y (omega (arith, h))))
 
--- the one at place m, the k-th from place i on, is changed
+-- Changing the item at position m, which is the k-th from position i on.
 placed_changed : {A B : Type 0} (F G : ℕ → A → B) (f : B → B) (k m i : ℕ) (xs : List A) → m ≡ i + k → k < length xs
     → ((x : A) → G m x ≡ f (F m x)) → ((j : ℕ) (x : A) → (m ≡ j → ⊥) → G j x ≡ F j x)
     → changed_at k f (placed F i xs) ≡ placed G i xs
@@ -66,14 +66,14 @@ length_changed k f [] = refl
 length_changed zero f (x ∷ xs) = refl
 length_changed (suc k) f (x ∷ xs) = ap suc (length_changed k f xs)
 
--- a thing is put in the place of the one there, which it is made of
+-- Setting the item at a position to f of the old item is `changed_at`.
 pub put_changed : {A : Type 0} (xs : List A) (k : ℕ) (x y : A) (f : A → A) → k < length xs → get_or xs k x ≡ x
     → y ≡ f x → set xs k y ≡ changed_at k f xs
 put_changed [] k x y f l e s = absurd (omega (arith, l))
 put_changed (z ∷ xs) zero x y f l e s = ap (λ w. w ∷ xs) (s ∙ ap f (sym e))
 put_changed (z ∷ xs) (suc k) x y f l e s = ap (λ l. z ∷ l) (put_changed xs k x y f (omega (arith, l)) e s)
 
--- ---- each of a list
+-- ---- each item of a list
 
 all_more : {A : Type 0} (P : A → Type 0) (xs : List A) (x : A) → AllByRecursion P xs → P x
     → AllByRecursion P (xs ++ x ∷ [])
@@ -86,9 +86,9 @@ all_at P [] all k x at = absurd (cc)
 all_at P (y ∷ xs) all zero x at = let same : y ≡ x = cc in subst P same all.0
 all_at P (y ∷ xs) all (suc k) x at = all_at P xs all.1 k x at
 
--- ---- further ancestors
+-- ---- indirect ancestors
 
--- one edge more, and the uid that it leads to
+-- An edge appends its target to the row of its source.
 gather_above : (us : List EntityUID) (es far : List Edge) (e : Edge) (u : EntityUID) (xs : List EntityUID)
     → slice_get us e.to ≡ Some u → e.from < length xs
     → changed_at e.from (with_above u) (placed (said_at us es far []) 0 xs)
@@ -125,11 +125,11 @@ above_more us far e u old mid new p found led within put = record {
       (subst (λ n. e.from < n) p.many within, led);
 }
 
--- no edge gave anything
+-- Without edges nothing is added.
 pub none_above : (us : List EntityUID) (rows : List Said) → PutsAbove us [] rows rows
 none_above us rows = record { rows = λ es xs so. so; many = refl; range = tt }
 
--- the next edge too
+-- The next edge is added.
 pub above_next : (us : List EntityUID) (far : List Edge) (k : ℕ) (d : Edge) (u : EntityUID) (old mid new : List Said)
     → k < length far → PutsAbove us (take k far) old mid → slice_get us (get_or far k d).to ≡ Some u
     → (get_or far k d).to < length us → (get_or far k d).from < length mid
@@ -137,7 +137,7 @@ pub above_next : (us : List EntityUID) (far : List Edge) (k : ℕ) (d : Edge) (u
 above_next us far k d u old mid new l p found led within put =
     rw (take_more far k d l) (above_more us (take k far) (get_or far k d) u old mid new p found led within put)
 
--- all edges
+-- All edges are added.
 pub above_done : (us : List EntityUID) (far : List Edge) (k : ℕ) (old new : List Said) → length far ≤ k
     → PutsAbove us (take k far) old new → PutsAbove us far old new
 above_done us far k old new l p = subst (λ es. PutsAbove us es old new) (take_all k far l) p
@@ -201,30 +201,30 @@ terms_more text ns ts t old mid new p s =
           (subst (λ n. IsTermIn text ns n t) p.many s.range);
     }
 
--- no term gave anything
+-- Without terms nothing is added.
 pub no_terms : (text : List ℕ) (ns : List Node) (rows : List Said) → PutsTerms text ns [] rows rows
 no_terms text ns rows = record { fields = []; read = tt; rows = λ us es far xs so. so; many = refl; range = tt }
 
--- the next term too
+-- The next term is added.
 pub terms_next : (text : List ℕ) (ns : List Node) (ts : List Term) (k : ℕ) (d : Term) (old mid new : List Said)
     → k < length ts → PutsTerms text ns (take k ts) old mid → PutsTerm text ns (get_or ts k d) mid new
     → PutsTerms text ns (take (k + 1) ts) old new
 terms_next text ns ts k d old mid new l p s =
     rw (take_more ts k d l) (terms_more text ns (take k ts) (get_or ts k d) old mid new p s)
 
--- all terms
+-- All terms are added.
 pub terms_done : (text : List ℕ) (ns : List Node) (ts : List Term) (k : ℕ) (old new : List Said) → length ts ≤ k
     → PutsTerms text ns (take k ts) old new → PutsTerms text ns ts old new
 terms_done text ns ts k old new l p = subst (λ us. PutsTerms text ns us old new) (take_all k ts l) p
 
--- a term that gives nothing
+-- A term adds no field.
 pub term_out : (text : List ℕ) (ns : List Node) (ts : List Term) (k : ℕ) (d : Term) (old mid : List Said) (w : Reason)
     → k < length ts → PutsTerms text ns (take k ts) old mid → IsTermOut text ns (length mid) (get_or ts k d) w
     → IsSomeTermOut text ns (length old) ts w
 term_out text ns ts k d old mid w l p out =
     (k, get_or ts k d, slice_get-get_or ts k d l, subst (λ n. IsTermOut text ns n (get_or ts k d) w) p.many out)
 
--- an edge that leads from nowhere or to nowhere
+-- An edge is out of range.
 pub above_out : (us : List EntityUID) (far : List Edge) (k : ℕ) (d : Edge) (old mid : List Said) (w : Reason)
     → k < length far → PutsAbove us (take k far) old mid → (IsEdgeOf (length mid) (length us) (get_or far k d) → ⊥)
     → w ≡ BadArgument → IsSomeEdgeOut (length old) (length us) far w
@@ -241,7 +241,7 @@ above_out us far k d old mid w l p out is =
 
 -- ---- one term
 
--- its key, its value and its place are right
+-- The key, the value and the position of a term are correct.
 pub term_put : (text : List ℕ) (ns : List Node) (t : Term) (key : List ℕ) (value : PartialValue) (old new : List Said)
     → IsTextAt text t.key key → IsValueOf text ns t value → t.of < length old → t.part ≤ 1
     → new ≡ changed_at t.of (with_field t.part key value) old → PutsTerm text ns t old new
@@ -252,7 +252,7 @@ term_put text ns t key value old new is has within part put = record {
   put = put;
 }
 
--- its nodes are those that are read
+-- The nodes of a term are the nodes that are decoded.
 pub value_read : (text : List ℕ) (ns : List Node) (t : Term) (found : List Node) (r : Result PartialValue Reason)
     → HasNodes ns t → found ≡ nodes_of ns t
     → MatchResult r (IsPartialReadAs text found) (IsPartialRefused text found)
@@ -278,14 +278,14 @@ place_out text ns n t w (inl e) = inl e
 place_out text ns n t w (inr (e, inl h)) = inr (inl (e, λ r. absurd (omega (arith, h, r.of))))
 place_out text ns n t w (inr (e, inr h)) = inr (inl (e, λ r. absurd (omega (arith, h, r.part))))
 
--- ---- the first of the uids
+-- ---- the first uids
 
 said_of_listed : (us : List EntityUID) (es : List Edge) (i : ℕ) (xs : List EntityUID)
     → map said_of (listed_from us es i xs) ≡ placed (said_at us es [] []) i xs
 said_of_listed us es i [] = refl
 said_of_listed us es i (x ∷ xs) = ap (λ l. said_at us es [] [] i x ∷ l) (said_of_listed us es (i + 1) xs)
 
--- what edges to parents say of them
+-- The parts from edges to parents.
 pub first_by : (us : List EntityUID) (es : List Edge) (n : ℕ) (first : List EntityUID) (gs hs : List Gathered)
     (rows : List Said) → n ≤ length us → first ≡ take n us → gs ≡ map (λ u. (u, [])) first
     → ((xs : List EntityUID) → gs ≡ listed_from us [] 0 xs → hs ≡ listed_from us es 0 xs)
@@ -303,9 +303,9 @@ length_of_first : (us : List EntityUID) (n : ℕ) (es : List Edge) (rows : List 
 length_of_first us n es rows f =
     ap length f.said ∙ length_placed (said_at us es [] []) 0 (take n us) ∙ length_first us n f.enough
 
--- ---- the whole
+-- ---- the whole input
 
--- all that is laid out is said of them
+-- The rows are the parts of the entities of the input.
 pub said_by : (us : List EntityUID) (L : Laid) (first mid rows : List Said) → AreFirst us L.count L.edges first
     → PutsAbove us L.above first mid → PutsTerms L.text L.nodes L.terms mid rows → AreSaid us L rows
 said_by us L first mid rows f a t =
@@ -340,7 +340,7 @@ made_more [] (x ∷ list) s r z m = absurd z
 made_more (y ∷ rows) [] s r z m = absurd z
 made_more (y ∷ rows) (x ∷ list) s r z m = (z.0, made_more rows list s r z.1 m)
 
--- one entity more is made of what is said of it
+-- The next row becomes an entity.
 pub made_next : (rows : List Said) (list new : List (Rc EntityView Global)) (s : Said) (r : Rc EntityView Global)
     → AllZip IsEntityOf rows (entities_in list) → IsEntityOf s r.value → new ≡ list ++ r ∷ []
     → AllZip IsEntityOf (rows ++ s ∷ []) (entities_in new)
@@ -348,7 +348,7 @@ made_next rows list new s r z m step =
     subst (λ (l : List (Rc EntityView Global)). AllZip IsEntityOf (rows ++ s ∷ []) (entities_in l)) (sym step)
     (made_more rows list s r z m)
 
--- the entities of which that is said are those that are laid out
+-- The entities with these parts are the entities of the input.
 pub laid_of : (L : Laid) (us shared : List EntityUID) (rows : List Said) (list : List EntityView)
     → AreReadAt L.text us L.uids → shared ≡ us → AreSaid shared L rows → AllZip IsEntityOf rows list → AreLaid L list
 laid_of L us shared rows list read same said made =
@@ -370,7 +370,7 @@ laid_of L us shared rows list read same said made =
           (said.said ∙ ap (λ l. placed (said_at l L.edges L.above said.fields) 0 (take L.count l)) same) made;
     }
 
--- or they are not, where something is out of range or is not read
+-- The entities are not created because something is out of range or cannot be read.
 pub unlaid_by : (L : Laid) (us shared : List EntityUID) (w : Reason) → AreReadAt L.text us L.uids → shared ≡ us
     → IsUnsaid shared L w → IsUnlaid L w
 unlaid_by L us shared w read same (inl (inl p)) =

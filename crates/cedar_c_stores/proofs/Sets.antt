@@ -1,4 +1,4 @@
--- Entities without ancestors get parents, and further ancestors but for these.
+-- Entities without ancestors to which parents and indirect ancestors are added.
 use Rattle.std.specs.Prelude.{◌≡◌, Bool, true, false, not, ◌||◌, ◌&&◌, List, [], ◌∷◌, ◌++◌}
 use Rattle.std.proofs.Common.{ap, sym, refl, subst, ◌∙◌}
 use Rattle.std.specs.FinSet as set
@@ -16,7 +16,7 @@ and_false : (b : Bool) → (b && false) ≡ false
 and_false true = refl
 and_false false = refl
 
--- what has nothing has nothing when a uid is taken out
+-- An empty set stays empty after the removal of a uid.
 removed_none : (u : EntityUID) → set.remove (set.empty {R = uid_order}) u ≡ set.empty
 removed_none u = same_members (set.remove set.empty u) set.empty (λ q.
     set.contains-remove uid_order_total set.empty u q
@@ -24,7 +24,7 @@ removed_none u = same_members (set.remove set.empty u) set.empty (λ q.
     ∙ and_false (not (eq_by_cmp uid_order q u))
     ∙ sym (set.contains-empty uid_order q))
 
--- an entity without ancestors has the parents that came so far, and the next
+-- Adding the next parent to an entity extends the list of its parents by that uid.
 pub parents_next : (first old new : EntityView) (ys : List EntityUID) (p : EntityUID) → first.indirect ≡ set.empty
     → old ≡ record first { parents = set.from_list ys } → new ≡ record old {
       parents = set.insert old.parents p;
@@ -42,18 +42,18 @@ parents_next first old new ys p none so step =
       indirect = (ap (λ (s : UidValues). set.remove s p) none ∙ removed_none p ∙ sym none) i;
     }
 
--- where there is no parent, there is none yet
+-- An entity without parents has the parents of the empty list.
 pub no_parents : (e : EntityView) → e.parents ≡ set.empty → e ≡ record e { parents = set.from_list [] }
 no_parents e none = λ i. record e { parents = none i }
 
--- the parents are those of the list that was sorted
+-- The parents are the uids of the list before it was sorted.
 pub all_parents : (first new : EntityView) (ys ps : List EntityUID) (s : UidValues) → set.from_list ys ≡ s
     → s ≡ set.from_list ps → new ≡ record first { parents = set.from_list ys }
     → new ≡ record first { parents = set.from_list ps }
 all_parents first new ys ps s sorted same so =
     so ∙ ap (λ (t : UidValues). record first { parents = t }) (sorted ∙ same)
 
--- an entity without indirect ancestors has those that came, but for its parents
+-- The indirect ancestors are the added uids without the parents.
 pub above_added : (old new : EntityView) (ks : List EntityUID) → old.indirect ≡ set.empty
     → new ≡ record old {
       indirect = set.union old.indirect (set.difference (set.from_list ks) old.parents);
@@ -67,7 +67,7 @@ above_added old new ks none so =
     (ap (λ (s : UidValues). set.contains s q) none ∙ set.contains-empty uid_order q)) in
     so ∙ λ i. record old { indirect = alone i }
 
--- with its fields, its parents and further ancestors it is the entity of which this is said
+-- With its fields, parents and indirect ancestors it is the entity with these parts.
 pub entity_of : (s : Said) (a b c : EntityView) → HasFields s.uid s.attrs s.tags a
     → b ≡ record a { parents = set.from_list s.parents }
     → c ≡ record b { indirect = set.difference (set.from_list s.above) b.parents } → IsEntityOf s c

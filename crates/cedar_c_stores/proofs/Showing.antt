@@ -1,4 +1,4 @@
--- What is told and kept of an attribute or a tag.
+-- The result and the stored value of reading an attribute or a tag.
 use Rattle.std.specs.Prelude.{◌≡◌, ℕ, List, [], ◌∷◌, Bool, true, false, Option, Some, None, Ok}
 use Rattle.std.proofs.Common.{sym, subst, ◌∙◌}
 use Rattle.std.specs.Str.{IsUtf8}
@@ -13,7 +13,7 @@ use Rattle.cedar_c_stores.specs.declared.kept_store.KeptStore.{KeptStore}
 use Rattle.cedar_c_stores.specs.declared.values.Shown.{Shown}
 use Rattle.cedar_c_stores.specs.laws.Shown.{IsShownIf, KeepsShown}
 
--- a value that is written is shown
+-- An encoded value is shown.
 pub shown_of : (p : PartialValue) (w : WrittenParts) (bytes : List ℕ) (answer : List (List ℕ)) (nodes : List Node)
     → IsPartialWritten p w → bytes ≡ w.bytes → answer ≡ bytes ∷ [] → nodes ≡ w.nodes → IsShown p answer nodes
 shown_of p w bytes answer nodes written same one all = record {
@@ -23,7 +23,7 @@ shown_of p w bytes answer nodes written same one all = record {
       (λ i. record { bytes = sym same i; nodes = sym all i }) written;
 }
 
--- what an entity has at a key of some fields is told, and kept where it is something
+-- Whether an entity has a value at a key is returned, and the value is stored if there is one.
 pub gets : {B H : Type 0} (fields : EntityView → Fields) (text key : List ℕ) (i j : KeptStore B H) (e : EntityView)
     (p : Option PartialValue) (s : Option Shown) (b : Bool) → IsHeldAt i.store text e → IsUtf8 key
     → p ≡ field_at key (fields e) → IsShownIf p s → KeepsShown s b i j → GetsAt fields text key (Ok b) i j

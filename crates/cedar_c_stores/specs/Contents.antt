@@ -1,4 +1,4 @@
--- Entities as a caller lists them with their content: attributes, tags and indirect ancestors.
+-- The entities in the lists of a caller with their content: attributes, tags and indirect ancestors.
 use Rattle.std.specs.Prelude.{◌≡◌, ◌⊎◌, ◌<◌, ◌≤◌, ◌==◌, ℕ, ◌+◌, List, [], ◌∷◌, Option, Some, None, Result, filter_map}
 use Rattle.std.specs.Prelude.{if◌then◌else◌, length, slice_get, slice_range, take}
 use Rattle.std.specs.List.{AllByRecursion, AllZip}
@@ -25,8 +25,9 @@ use Rattle.cedar_c_stores.specs.declared.content.Term.{Term}
 use Rattle.cedar_c_stores.specs.declared.kept_store.KeptStore.{KeptStore}
 use Rattle.cedar_c_stores.specs.declared.store_calls.EntityLists.{EntityLists}
 
--- what a caller lays out: a text, and uids that are parts of it, of which the first so many are those of entities; edges
--- from these to parents, and to indirect ancestors; attributes and tags, and the nodes of their values
+-- The input of a call that takes entities with content. The spans in `uids` are parts of `text`, and the first `count`
+-- are the uids of the entities. `edges` lead from entities to parents, and `above` from entities to indirect ancestors.
+-- `terms` are the attributes and tags, and `nodes` are the nodes of their values.
 pub record Laid : Type 0 where
   pub text : List ℕ
   pub uids : List Span
@@ -36,7 +37,7 @@ pub record Laid : Type 0 where
   pub terms : List Term
   pub nodes : List Node
 
--- what lists and content lay out
+-- The input that consists of lists and their content.
 abbrev pub laid_by : EntityLists → Content → Laid
 laid_by l c = record {
   text = l.text.now;
@@ -50,35 +51,36 @@ laid_by l c = record {
 
 -- ---- attributes and tags
 
--- an attribute or a tag as it is read: of the entity at which place, in which part, its key and its value
+-- An attribute (`part` 0) or a tag (`part` 1) of the entity at position `of`, with its key and its value.
 pub record Field : Type 0 where
   pub of : ℕ
   pub part : ℕ
   pub key : List ℕ
   pub value : PartialValue
 
--- the nodes of a term
+-- The nodes of a term.
 abbrev pub nodes_of : List Node → Term → List Node
 nodes_of ns t = slice_range ns t.from t.to
 
--- a field is read of a term: its key is the text where the term says, and its value is what the nodes are read as
+-- Holds if f is the attribute or tag of the term t: the key is the text in the span of the term, and the nodes of the
+-- term encode the value.
 pub record IsFieldOf (text : List ℕ) (ns : List Node) (t : Term) (f : Field) : Type 0 where
   pub of : f.of ≡ t.of
   pub part : f.part ≡ t.part
   pub key : IsTextAt text t.key f.key
   pub value : IsPartialReadAs text (nodes_of ns t) f.value
 
--- the key and the value of a field, if it stands in this part of the entity at this place
+-- The key and the value of a field, if it is in part p of the entity at position i.
 abbrev pub field_by : ℕ → ℕ → Field → Option (List ℕ × PartialValue)
 field_by p i f = if f.of == i then (if f.part == p then Some (f.key, f.value) else None) else None
 
--- what stands in a part of the entity at a place, in the order of the fields
+-- The attributes (p is 0) or the tags (p is 1) of the entity at position i, in the order of the fields.
 abbrev pub fields_at : List Field → ℕ → ℕ → Fields
 fields_at fs p i = filter_map (field_by p i) fs
 
 -- ---- entities
 
--- what is said of an entity: its uid, its parents, further ancestors, its attributes and its tags
+-- The parts of an entity in the input: its uid, its parents, its indirect ancestors, its attributes and its tags.
 pub record Said : Type 0 where
   pub uid : EntityUID
   pub parents : List EntityUID
@@ -86,7 +88,8 @@ pub record Said : Type 0 where
   pub attrs : Fields
   pub tags : Fields
 
--- what edges to parents, edges to further ancestors and fields say of the entity at a place, with a uid
+-- The parts of the entity at position i with uid u: the parents from the edges es, the indirect ancestors from the
+-- edges far, and the attributes and tags from the fields.
 abbrev pub said_at : List EntityUID → List Edge → List Edge → List Field → ℕ → EntityUID → Said
 said_at us es far fs i u = record {
   uid = u;
@@ -96,13 +99,14 @@ said_at us es far fs i u = record {
   tags = fields_at fs 1 i;
 }
 
--- what F makes of some things that stand from a place on
+-- The results of F for each item and its position, if the first item is at position i. For example, placed F 3 (x ∷ y ∷
+-- []) is F 3 x ∷ F 4 y ∷ [].
 abbrev pub placed : {A B : Type 0} → (ℕ → A → B) → ℕ → List A → List B
 placed F i [] = []
 placed F i (x ∷ xs) = F i x ∷ placed F (i + 1) xs
 
--- e is the entity of which this is said: of several fields with one key the last counts, and what is a parent is no
--- indirect ancestor
+-- Holds if e is the entity with these parts. Of several fields with the same key the last one counts. A parent is not
+-- an indirect ancestor.
 pub record IsEntityOf (s : Said) (e : EntityView) : Type 0 where
   pub uid : e.uid ≡ s.uid
   pub attrs : AreFieldsOf s.attrs e.attrs
@@ -112,8 +116,8 @@ pub record IsEntityOf (s : Said) (e : EntityView) : Type 0 where
 
 -- ---- lists
 
--- a term is of one of n entities, and of a part that there is; its key lies within the text, and its nodes among the
--- nodes
+-- Holds if a term is in range: its entity is one of n, its part is 0 or 1, its key is within the text, and its nodes
+-- are among the nodes.
 pub record IsTermIn (text : List ℕ) (ns : List Node) (n : ℕ) (t : Term) : Type 0 where
   pub of : t.of < n
   pub part : t.part ≤ 1
@@ -121,13 +125,14 @@ pub record IsTermIn (text : List ℕ) (ns : List Node) (n : ℕ) (t : Term) : Ty
   pub from : t.from ≤ t.to
   pub to : t.to ≤ length ns
 
--- all that is laid out is in range
+-- Holds if all spans, edges and terms of an input are in range.
 pub record IsLaidInRange (L : Laid) : Type 0 where
   pub lists : AreInRange L.text L.uids L.count L.edges
   pub above : AreEdgesOf L.count (length L.uids) L.above
   pub terms : AllByRecursion (IsTermIn L.text L.nodes L.count) L.terms
 
--- all is in range, and the list has the entities of which the edges and the fields, read of the terms, say this
+-- Holds if an input is in range, and the list has exactly its entities, in order. The uids and the fields are parsed
+-- from the input.
 pub record AreLaid (L : Laid) (list : List EntityView) : Type 0 where
   pub in_range : IsLaidInRange L
   pub uids : List EntityUID
@@ -136,13 +141,14 @@ pub record AreLaid (L : Laid) (list : List EntityView) : Type 0 where
   pub terms : AllZip (IsFieldOf L.text L.nodes) L.terms fields
   pub entities : AllZip IsEntityOf (placed (said_at uids L.edges L.above fields) 0 (take L.count uids)) list
 
--- why a term is not read: its key is not UTF-8, or its nodes are refused as a partial value
+-- Holds if w is a reason why a term cannot be read: its key is not UTF-8, or its nodes do not encode a partial value.
 abbrev pub IsTermUnread : List ℕ → List Node → Term → Reason → Type 0
 IsTermUnread text ns t w =
     ((w ≡ NotUtf8) × IsNotUtf8At text t.key)
     ⊎ ((t.from ≤ t.to) × (t.to ≤ length ns) × IsPartialRefused text (nodes_of ns t) w)
 
--- why no such list is made
+-- Holds if w is a reason why the entities of an input cannot be created: a uid cannot be parsed, something is out of
+-- range, or a term cannot be read.
 abbrev pub IsUnlaid : Laid → Reason → Type 0
 IsUnlaid L w =
     IsOneUnread L.text L.uids w ⊎ (((w ≡ BadArgument) × (IsLaidInRange L → ⊥))
@@ -150,21 +156,22 @@ IsUnlaid L w =
 
 -- ---- calls
 
--- entities that are laid out become the store, in the mode of a number; or that is not read
+-- Holds for a call that replaces the store by the entities of an input, in the mode of a number. If the mode or the
+-- input cannot be read, the call fails and changes nothing.
 abbrev pub BuildsLaid : {A B H : Type 0} → Laid → ℕ → Result A Reason → KeptStore B H → KeptStore B H → Type 0
 BuildsLaid L mode r i j =
     IsStopped (λ w. IsNoMode mode w ⊎ IsUnlaid L w) r i j
     ⊎ ((m : TCComputation) × (list : List EntityView) × IsMode mode m × AreLaid L list × Builds m list i.store r j
     × KeepsTexts r i j)
 
--- they are added to the store
+-- Holds for a call that adds the entities of an input to the store, in the same way.
 abbrev pub AddsLaid : {A B H : Type 0} → Laid → ℕ → Result A Reason → KeptStore B H → KeptStore B H → Type 0
 AddsLaid L mode r i j =
     IsStopped (λ w. IsNoMode mode w ⊎ IsUnlaid L w) r i j
     ⊎ ((m : TCComputation) × (list : List EntityView) × IsMode mode m × AreLaid L list × Adds m list i.store r j
     × KeepsTexts r i j)
 
--- they are put over what the store holds
+-- Holds for a call that upserts the entities of an input, in the same way.
 abbrev pub UpsertsLaid : {A B H : Type 0} → Laid → ℕ → Result A Reason → KeptStore B H → KeptStore B H → Type 0
 UpsertsLaid L mode r i j =
     IsStopped (λ w. IsNoMode mode w ⊎ IsUnlaid L w) r i j

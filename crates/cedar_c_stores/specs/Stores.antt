@@ -1,6 +1,6 @@
--- What the calls on a store give, and what is kept of it, whatever builds its hashers: B is that builder, and H what it
--- builds. Each `Gives` has the public clauses of the call of `cedar_entities` that is behind a call here, but for
--- `strips` of overwriting; `IsSlice` has those of the call of `cedar_slice`.
+-- The results of the calls on a store, and the state after them. B is the hasher builder of the store, and H is its
+-- hasher. Each definition with `Gives` in its name has the public clauses of the call in `cedar_entities` with that
+-- purpose. The clause `strips` of upserting is left out. `IsSlice` has the clauses of the call in `cedar_slice`.
 use Rattle.std.specs.Prelude.{◌≡◌, ◌↔◌, ◌⊎◌, ℕ, List, [], ◌∷◌, ◌++◌, Bool, true, false, IfOk, map, Some, None, Result}
 use Rattle.std.specs.Prelude.{Ok, Err}
 use Rattle.std.specs.FinMap as finmap
@@ -35,21 +35,21 @@ use Rattle.cedar_c_lists.specs.declared.reason.Reason.{Reason}
 use Rattle.cedar_c_lists.specs.declared.reason.Reason.TheVariants as reasons
 use Rattle.cedar_c_stores.specs.declared.kept_store.KeptStore.{KeptStore}
 
--- ---- refusals
+-- ---- errors
 
--- the reason that an error of the closure is, and the uids that it names
+-- The reason of an error of the closure.
 abbrev pub closure_reason : TcError EntityUID → Reason
 closure_reason (tc.MissingTcEdge e) = reasons.NotClosed
 closure_reason (tc.HasCycle e) = reasons.Cycle
 closure_reason tc.Memory = reasons.NoMemory
 
--- the uids that an error of the closure names
+-- The uids in an error of the closure.
 abbrev pub closure_names : TcError EntityUID → List EntityUID
 closure_names (tc.MissingTcEdge e) = e.child ∷ e.parent ∷ e.grandparent ∷ []
 closure_names (tc.HasCycle e) = vertex_of e ∷ []
 closure_names tc.Memory = []
 
--- the reason that an error of a store is, and the uids that it names
+-- The reason of an error of a store.
 abbrev pub reason_of : EntitiesError → Reason
 reason_of (errors.Duplicate u) = reasons.Duplicate
 reason_of (errors.TransitiveClosureError t) = closure_reason t
@@ -59,7 +59,7 @@ reason_of (errors.ActionParentIsNotAction u p) = reasons.ActionParentIsNotAction
 reason_of (errors.ReservedKey k) = reasons.ReservedKey
 reason_of errors.Memory = reasons.NoMemory
 
--- the uids that an error of a store names
+-- The uids in an error of a store.
 abbrev pub uids_named : EntitiesError → List EntityUID
 uids_named (errors.Duplicate u) = u ∷ []
 uids_named (errors.TransitiveClosureError t) = closure_names t
@@ -69,94 +69,102 @@ uids_named (errors.ActionParentIsNotAction u p) = u ∷ p ∷ []
 uids_named (errors.ReservedKey k) = []
 uids_named errors.Memory = []
 
--- the key that it names, behind a blank
+-- The key in an error of a store, after a space.
 abbrev pub key_named : EntitiesError → List ℕ
 key_named (errors.ReservedKey k) = 32 ∷ string_bytes k
 key_named e = []
 
--- the text of an error: the words of its reason, and what it names. Of uids past ASCII nothing is said
+-- Holds if `text` is the text of an error: the words of its reason, then its uids, each after a space, then its key.
+-- Allows any text if a uid is not ASCII.
 abbrev pub IsRefusalText : EntitiesError → List ℕ → Type 0
 IsRefusalText e text = AllByRecursion IsAsciiUid (uids_named e)
     → text ≡ words_of (reason_of e) ++ (flat_map spaced (uids_named e) ++ key_named e)
 
--- a reason and a text tell an error. Where memory is wanted for the text, that is told
+-- Holds if w is the reason of an error and `text` is its text, or if w is `NoMemory`. A call returns `NoMemory` also if
+-- the allocation of the text fails.
 abbrev pub IsToldBy : EntitiesError → Reason → List ℕ → Type 0
 IsToldBy e w text = (w ≡ reasons.NoMemory) ⊎ ((w ≡ reason_of e) × IsRefusalText e text)
 
 -- ---- changing a store
 
--- the store without entities
+-- The empty store.
 abbrev pub empty_store : StoreView
 empty_store = record { held = no_entities; partial = false }
 
--- a call that lists nothing keeps the texts of the last answer, the nodes of the last value, the numbers of uids, and the
--- text of the last refusal where it is made or memory is refused
+-- The empty store that is partial exactly if S is.
+abbrev pub emptied : StoreView → StoreView
+emptied S = record { held = no_entities; partial = S.partial }
+
+-- Holds if `answer`, the nodes and the numbers are unchanged. The text of the last error may change only if the call
+-- returned an error other than `NoMemory`.
 abbrev pub KeepsTexts : {A B H : Type 0} → Result A Reason → KeptStore B H → KeptStore B H → Type 0
 KeepsTexts r i j = (j.answer ≡ i.answer) × (j.nodes.items ≡ i.nodes.items) × (j.numbers ≡ i.numbers)
     × KeepsRefusal r i.refusal.items j.refusal.items
 
--- a store is as it was; or memory was wanted, and no entity is left
+-- Holds if the store is unchanged, or if an allocation failed and the store is empty. It is then partial exactly if it
+-- was before.
 abbrev pub StaysOrEmpties : StoreView → Reason → StoreView → Type 0
-StaysOrEmpties O w N = (N ≡ O) ⊎ ((w ≡ reasons.NoMemory) × (N ≡ empty_store))
+StaysOrEmpties O w N = (N ≡ O) ⊎ ((w ≡ reasons.NoMemory) × (N ≡ emptied O))
 
--- what an edit of O gave is kept: the store; or the error is told, and O is as it was, but that want of memory may leave
--- it without entities
+-- Holds if k has the store that an edit of O returned. After an error k has the reason and the text of the error, and
+-- the store O. After an allocation failure k can have an empty store instead.
 abbrev pub KeepsGiven : {A B H : Type 0} → Result StoreView EntitiesError → StoreView → Result A Reason → KeptStore B H
     → Type 0
 KeepsGiven (Ok S) O (Ok a) k = k.store ≡ S
 KeepsGiven (Err e) O (Err w) k = StaysOrEmpties O w k.store × IsToldBy e w k.refusal.items
 KeepsGiven given O answer k = ⊥
 
--- what building gave takes the place of O; or the error is told, and O is as it was
+-- Holds if k has the store that was built instead of O. After an error k has the reason and the text of the error, and
+-- the store O.
 abbrev pub KeepsBuilt : {A B H : Type 0} → Result StoreView EntitiesError → StoreView → Result A Reason → KeptStore B H
     → Type 0
 KeepsBuilt (Ok S) O (Ok a) k = k.store ≡ S
 KeepsBuilt (Err e) O (Err w) k = (k.store ≡ O) × IsToldBy e w k.refusal.items
 KeepsBuilt given O answer k = ⊥
 
--- what adding a list to a store gives
+-- Holds if `given` is the result of adding the entities L to the store S in mode m.
 pub record AddGives (m : TCComputation) (L : List EntityView) (S : StoreView)
     (given : Result StoreView EntitiesError) : Type 0 where
   pub partial : IfOk given (λ N. N.partial ≡ S.partial)
   pub adds : AddsEntities m S.held L given (λ N. N.held)
   pub plain : (W : World) → IsPlainStore W S → AreBare L → AddsPlain m W (map given_of L) given
 
--- what putting a list over a store gives
+-- Holds if `given` is the result of upserting the entities L into the store S in mode m.
 pub record UpsertGives (m : TCComputation) (L : List EntityView) (S : StoreView)
     (given : Result StoreView EntitiesError) : Type 0 where
   pub partial : IfOk given (λ N. N.partial ≡ S.partial)
   pub upserts : UpsertsEntities m S.held L given
   pub plain : (W : World) → IsPlainStore W S → AreBare L → UpsertsPlain m W (map given_of L) given
 
--- what taking uids out of a store gives
+-- Holds if `given` is the result of removing the uids U from the store S in mode m.
 pub record RemoveGives (m : TCComputation) (U : List EntityUID) (S : StoreView)
     (given : Result StoreView EntitiesError) : Type 0 where
   pub partial : IfOk given (λ N. N.partial ≡ S.partial)
   pub removes : RemovesEntities m S.held U given
   pub plain : (W : World) → IsPlainStore W S → RemovesPlain W U given
 
--- a list is added to a store, and what that gives is kept
+-- Holds for a call that adds the entities L to the store S.
 abbrev pub Adds : {A B H : Type 0} → TCComputation → List EntityView → StoreView → Result A Reason → KeptStore B H
     → Type 0
 Adds m L S r k = (given : Result StoreView EntitiesError) × AddGives m L S given × KeepsGiven given S r k
 
--- a list is added to the store without entities, and what that gives takes the place of O
+-- Holds for a call that replaces the store O by the result of adding the entities L to an empty store.
 abbrev pub Builds : {A B H : Type 0} → TCComputation → List EntityView → StoreView → Result A Reason → KeptStore B H
     → Type 0
 Builds m L O r k = (given : Result StoreView EntitiesError) × AddGives m L empty_store given × KeepsBuilt given O r k
 
--- a list is put over a store, and what that gives is kept
+-- Holds for a call that upserts the entities L into the store S.
 abbrev pub Upserts : {A B H : Type 0} → TCComputation → List EntityView → StoreView → Result A Reason → KeptStore B H
     → Type 0
 Upserts m L S r k = (given : Result StoreView EntitiesError) × UpsertGives m L S given × KeepsGiven given S r k
 
--- uids are taken out of a store, and what that gives is kept
+-- Holds for a call that removes the uids U from the store S.
 abbrev pub Removes : {A B H : Type 0} → TCComputation → List EntityUID → StoreView → Result A Reason → KeptStore B H
     → Type 0
 Removes m U S r k = (given : Result StoreView EntitiesError) × RemoveGives m U S given × KeepsGiven given S r k
 
--- entities that lists say become the store, are added to it or put over it, in the mode of a number; or that is not
--- read
+-- Holds for a call that replaces the store by the entities of lists, in the mode of a number. If the mode or the lists
+-- cannot be read, the call fails and changes nothing.
 abbrev pub BuildsListed : {A B H : Type 0} → List ℕ → List Span → ℕ → List Edge → ℕ → Result A Reason → KeptStore B H
     → KeptStore B H → Type 0
 BuildsListed text spans n es mode r i j =
@@ -164,7 +172,7 @@ BuildsListed text spans n es mode r i j =
     ⊎ ((m : TCComputation) × (L : List EntityView) × IsMode mode m × AreListed text spans n es L
     × Builds m L i.store r j × KeepsTexts r i j)
 
--- entities that lists say are added, or that is not read
+-- Holds for a call that adds the entities of lists to the store, in the same way.
 abbrev pub AddsListed : {A B H : Type 0} → List ℕ → List Span → ℕ → List Edge → ℕ → Result A Reason → KeptStore B H
     → KeptStore B H → Type 0
 AddsListed text spans n es mode r i j =
@@ -172,7 +180,7 @@ AddsListed text spans n es mode r i j =
     ⊎ ((m : TCComputation) × (L : List EntityView) × IsMode mode m × AreListed text spans n es L × Adds m L i.store r j
     × KeepsTexts r i j)
 
--- entities that lists say are put over the store, or that is not read
+-- Holds for a call that upserts the entities of lists, in the same way.
 abbrev pub UpsertsListed : {A B H : Type 0} → List ℕ → List Span → ℕ → List Edge → ℕ → Result A Reason → KeptStore B H
     → KeptStore B H → Type 0
 UpsertsListed text spans n es mode r i j =
@@ -180,7 +188,8 @@ UpsertsListed text spans n es mode r i j =
     ⊎ ((m : TCComputation) × (L : List EntityView) × IsMode mode m × AreListed text spans n es L
     × Upserts m L i.store r j × KeepsTexts r i j)
 
--- the uids that parts of a text are are taken out, in the mode of a number; or that is not read
+-- Holds for a call that removes the entities with the uids in parts of a text, in the mode of a number. If the mode or
+-- a uid cannot be read, the call fails and changes nothing.
 abbrev pub RemovesListed : {A B H : Type 0} → List ℕ → List Span → ℕ → Result A Reason → KeptStore B H → KeptStore B H
     → Type 0
 RemovesListed text spans mode r i j =
@@ -188,17 +197,18 @@ RemovesListed text spans mode r i j =
     ⊎ ((m : TCComputation) × (U : List EntityUID) × IsMode mode m × AreReadAt text U spans × Removes m U i.store r j
     × KeepsTexts r i j)
 
--- ---- asking a store
+-- ---- queries
 
--- whether v is an ancestor of the entity with u: as the store holds it, and over its parents where it is the plain
--- store of a world
+-- Holds if the store S has an entity with the uid u, and `answer` is whether v is one of its ancestors. In a plain
+-- store of W that is whether u reaches v over the parents in W.
 pub record TellsWhether (S : StoreView) (u v : EntityUID) (answer : Bool) : Type 0 where
   pub entity : EntityView
   pub held : finmap.get S.held u ≡ Some entity
   pub told : answer ≡ has_ancestor entity v
   pub plain : (W : World) → IsPlainStore W S → (answer ≡ true) ↔ Reach (graph W) u v
 
--- whether the uid of one text is a descendant of that of another; or why that is not told
+-- Holds for a call that returns whether the entity with the uid in the text `child` is a descendant of the uid in the
+-- text `ancestor`. It returns an error if a uid cannot be parsed, or if the store has no such entity.
 abbrev pub Asks : StoreView → List ℕ → List ℕ → Result Bool Reason → Type 0
 Asks S child ancestor (Ok b) =
     (u : EntityUID) × (v : EntityUID) × IsReadOf u child × IsReadOf v ancestor × TellsWhether S u v b
@@ -206,13 +216,15 @@ Asks S child ancestor (Err w) =
     IsUnread child w ⊎ (IsUnread ancestor w ⊎ ((w ≡ reasons.NoEntity)
     × ((u : EntityUID) × IsReadOf u child × (finmap.get S.held u ≡ None))))
 
--- whether a store has an entity with the uid of a text
+-- Holds for a call that returns whether the store has an entity with the uid in a text, or an error if the uid cannot
+-- be parsed.
 abbrev pub AsksFor : StoreView → List ℕ → Result Bool Reason → Type 0
 AsksFor S text (Ok b) = (u : EntityUID) × IsReadOf u text × (b ≡ finmap.contains_key S.held u)
 AsksFor S text (Err w) = IsUnread text w
 
--- the uids ascend, and are those that pass a test of the entity: over the plain store of a world those in a relation;
--- the texts are theirs
+-- Holds if the texts are the texts of the uids for which `test` is true of the entity with the uid u, in ascending
+-- order. In a plain store of W they are the uids that are related to u in W. With has_ancestor and IsAbove, for
+-- example, they are the ancestors of the entity.
 pub record ListsThose (test : EntityView → EntityUID → Bool) (Related : World → EntityUID → EntityUID
     → Type 0) (S : StoreView) (u : EntityUID) (texts : List (List ℕ)) : Type 0 where
   pub entity : EntityView
@@ -223,7 +235,8 @@ pub record ListsThose (test : EntityView → EntityUID → Bool) (Related : Worl
   pub plain : (W : World) → IsPlainStore W S → (q : EntityUID) → (is_member same_uid uids q ≡ true) ↔ Related W u q
   pub are_texts : AreTextsOf uids texts
 
--- those of the entity with the uid of a text become the answer; or why they do not, and all is as it was
+-- Holds for a call that stores these texts for the entity with the uid in a text in `answer`, and changes nothing else.
+-- After an error nothing has changed.
 abbrev pub Listing : {A B H : Type 0} → (EntityView → EntityUID → Bool) → (World → EntityUID → EntityUID → Type 0)
     → List ℕ → Result A Reason → KeptStore B H → KeptStore B H → Type 0
 Listing test Related text (Ok a) i j =
@@ -233,20 +246,20 @@ Listing test Related text (Err w) i j =
     (j ≡ i) × ((w ≡ reasons.NoMemory) ⊎ (IsUnread text w
     ⊎ ((w ≡ reasons.NoEntity) × ((u : EntityUID) × IsReadOf u text × (finmap.get i.store.held u ≡ None)))))
 
--- whether a uid is a parent of an entity
+-- Whether a uid is a parent of an entity.
 abbrev pub has_parent : EntityView → EntityUID → Bool
 has_parent e q = set.contains e.parents q
 
--- a uid is reached from another over the parents of a world; or it is a parent there
+-- Holds if u reaches q over the parents in the input store W. Parents are reached too.
 abbrev pub IsAbove : World → EntityUID → EntityUID → Type 0
 IsAbove W u q = Reach (graph W) u q
 
--- the one uid is a parent of the other in a world
+-- Holds if q is a parent of u in the input store W.
 abbrev pub IsParent : World → EntityUID → EntityUID → Type 0
 IsParent W u q = graph W u q ≡ true
 
--- the store is valid, and all is as it was; or its first fault is told, and the store, the answer, the nodes and the
--- numbers are as they were, as the text of the last refusal is where memory was refused
+-- Holds for a call that validates the store. If the store is valid, nothing has changed. Otherwise the call returns the
+-- reason of a fault and stores its text, and changes nothing else. After `NoMemory` the text is unchanged too.
 abbrev pub Validates : {A B H : Type 0} → Result A Reason → KeptStore B H → KeptStore B H → Type 0
 Validates (Ok a) i j = IsValidStore i.store.held × (j ≡ i)
 Validates (Err w) i j =
@@ -254,21 +267,22 @@ Validates (Err w) i j =
     × (w ≡ reasons.NoMemory → j.refusal.items ≡ i.refusal.items)
     × ((w ≡ reasons.NoMemory) ⊎ ((e : EntitiesError) × IsStoreFault i.store.held e × IsToldBy e w j.refusal.items))
 
--- no call has answered anything of what is kept, none was refused, and no uid has a number
+-- Holds if `answer`, the nodes, the numbers and the text of the last error are empty.
 abbrev pub IsUntold : {B H : Type 0} → KeptStore B H → Type 0
 IsUntold k = (k.answer ≡ []) × (k.refusal.items ≡ []) × (k.nodes.items ≡ []) × (k.numbers ≡ [])
 
--- the slice of a store at uids
+-- Holds if N is the slice of the store S at the uids U. The slice of a plain store is plain.
 pub record IsSlice (U : List EntityUID) (S N : StoreView) : Type 0 where
   pub held : N ≡ record { held = sliced S.held U; partial = false }
   pub plain : (W : World) → IsPlainStore W S → IsPlainSlice W U N
 
--- the slice of a store at the uids that parts of a text are; or why it is not made
+-- Holds for a call that returns the slice of the store S at the uids in parts of a text, with an empty state. It returns
+-- an error if a uid cannot be parsed, or if an allocation fails.
 abbrev pub SlicesAt : {B H : Type 0} → List ℕ → List Span → StoreView → Result (KeptStore B H) Reason → Type 0
 SlicesAt text spans S (Ok k) = (U : List EntityUID) × AreReadAt text U spans × IsSlice U S k.store × IsUntold k
 SlicesAt text spans S (Err w) = IsOneUnread text spans w
 
--- a copy of a store; or why it is not made
+-- Holds for a call that returns a copy of the store S with an empty state, or `NoMemory` if an allocation fails.
 abbrev pub Copies : {B H : Type 0} → StoreView → Result (KeptStore B H) Reason → Type 0
 Copies S (Ok k) = (k.store ≡ S) × IsUntold k
 Copies S (Err w) = w ≡ reasons.NoMemory

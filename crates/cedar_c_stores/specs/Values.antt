@@ -1,4 +1,4 @@
--- What reading an attribute or a tag of an entity tells, and what is kept of it.
+-- The result of reading an attribute or a tag of an entity.
 use Rattle.std.specs.Prelude.{◌≡◌, ◌⊎◌, ℕ, List, [], ◌∷◌, Bool, true, false, Some, None, Result, Ok, Err}
 use Rattle.std.specs.Str.{IsUtf8}
 use Rattle.cedar_terms.specs.declared.partial_value.PartialValue.{PartialValue}
@@ -11,14 +11,14 @@ use Rattle.cedar_c_trees.specs.declared.node.Node.{Node}
 use Rattle.cedar_c_stores.specs.Reads.{IsHeldAt, IsUntoldOf}
 use Rattle.cedar_c_stores.specs.declared.kept_store.KeptStore.{KeptStore}
 
--- a partial value is written as nodes over one text, which is the answer
+-- Holds if the nodes encode a partial value over a text, and `answer` has exactly this text.
 pub record IsShown (value : PartialValue) (answer : List (List ℕ)) (nodes : List Node) : Type 0 where
   pub bytes : List ℕ
   pub one : answer ≡ bytes ∷ []
   pub written : IsPartialWritten value (record { bytes = bytes; nodes = nodes })
 
--- the entity with the uid of a text has a value at a key of some fields, which is shown; the store, the numbers and the
--- last refusal are as they were
+-- Holds if the entity with the uid in a text has a value at a key of some fields, and `nodes` and `answer` encode the
+-- value. Everything else is unchanged.
 pub record Shows {B H : Type 0} (fields : EntityView → Fields) (text key : List ℕ) (i j : KeptStore B H)
     : Type 0 where
   pub store : j.store ≡ i.store
@@ -31,8 +31,8 @@ pub record Shows {B H : Type 0} (fields : EntityView → Fields) (text key : Lis
   pub found : field_at key (fields entity) ≡ Some value
   pub shown : IsShown value j.answer j.nodes.items
 
--- whether the entity with the uid of a text has a value at a key of some fields: then it is shown; where it has none,
--- and where that is not told, all is as it was
+-- Holds for a call that returns whether the entity with the uid in a text has a value at a key of some fields. If it
+-- has, the call stores the encoded value. Otherwise, and after an error, nothing has changed.
 abbrev pub GetsAt : {B H : Type 0} → (EntityView → Fields) → List ℕ → List ℕ → Result Bool Reason → KeptStore B H
     → KeptStore B H → Type 0
 GetsAt fields text key (Ok true) i j = Shows fields text key i j

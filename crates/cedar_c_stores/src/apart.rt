@@ -1,4 +1,4 @@
-//! Copies and slices of a store that share nothing with it, for another thread.
+//! Deep copies of stores and of their slices, which can be sent to another thread.
 ghost use Rattle.std.specs.Prelude.{◌≡◌};
 ghost use Rattle.cedar_c_stores.specs.Stores.{Copies, SlicesAt};
 
@@ -8,8 +8,12 @@ use std::alloc::Global;
 use std::hash::BuildHasher;
 
 impl<S: BuildHasher + Copy> KeptStore<S> {
-    /// A copy that shares nothing with the store, so that it may go to another thread; of it nothing was answered and
-    /// nothing refused. Takes memory, for all that the store holds. That nothing is shared is tested, not proved.
+    /// Returns a deep copy, which shares nothing with the store and can be sent to another thread. The copy has an
+    /// empty `answer`, no numbers and no last error. That the copy shares nothing is tested. It is not proved.
+    ///
+    /// # Errors
+    ///
+    /// Returns `NoMemory` if an allocation fails.
     pub fn copy_apart(&self, alloc: Global) -> Result<KeptStore<S>, Reason>
         ensures { Copies self.now.store result }
     {
@@ -17,8 +21,14 @@ impl<S: BuildHasher + Copy> KeptStore<S> {
         Ok(KeptStore::watched(alloc, self.hasher, store))
     }
 
-    /// The slice of the store at the uids that parts of a text are, which shares nothing with the store: made as
-    /// `slice` makes it, and then copied as `copy_apart` copies. Takes memory.
+    /// Returns a deep copy of the slice at the uids in parts of a text. Creates the slice as `slice` does, and copies
+    /// it as `copy_apart` does.
+    ///
+    /// # Errors
+    ///
+    /// - `BadArgument`: a part is not within the text.
+    /// - `NotAUid`: a part is not the text of a uid.
+    /// - `NoMemory`: an allocation failed.
     pub fn slice_apart(
         &mut self,
         alloc: Global,

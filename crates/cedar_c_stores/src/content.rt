@@ -1,31 +1,31 @@
-//! What entities have besides their parents, as a caller lays it out.
+//! The content of entities as a caller passes it: indirect ancestors, attributes and tags.
 use cedar_c_lists::{Edge, Span};
 use cedar_c_trees::Node;
 
-/// One attribute or tag of an entity. Its value is what the nodes from `from` up to `to` are read as.
+/// An attribute or tag of an entity. The nodes from `from` up to `to` encode its value.
 #[repr(C)]
 #[derive(Clone, Copy, Debug)]
 pub struct Term {
-    /// The place of the entity in the list.
+    /// The position of the entity in the list.
     pub of: usize,
-    /// What it is: 0 an attribute, 1 a tag.
+    /// Whether it is an attribute (0) or a tag (1).
     pub part: u32,
-    /// Where its key stands in the text.
+    /// The part of the text that is the key.
     pub key: Span,
-    /// The place of the first of its nodes.
+    /// The position of the first node.
     pub from: usize,
-    /// The place behind the last.
+    /// The position after the last node.
     pub to: usize,
 }
 
-/// The content by which a caller says more of the entities of its lists, over the text of these.
+/// The content of the entities of some `EntityLists`. Keys and nodes refer to the text of the lists.
 #[derive(Clone, Copy)]
 pub struct Content<'a> {
-    /// The edges from entities to indirect ancestors, by the places of both among the uids. A uid that is a parent of
-    /// the entity is no indirect ancestor.
+    /// The edges from entities to indirect ancestors, by the positions of both among the uids. An edge to a parent of
+    /// the entity is ignored.
     pub above: &'a [Edge],
-    /// The attributes and tags; of several with one key, of one entity and one part, the last counts.
+    /// The attributes and tags. If several terms have the same entity, kind and key, the last one counts.
     pub terms: &'a [Term],
-    /// The nodes of their values, each behind all that stands below it.
+    /// The nodes of the values, in postorder.
     pub nodes: &'a [Node],
 }

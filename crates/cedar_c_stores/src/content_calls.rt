@@ -1,4 +1,4 @@
-//! The calls on a store that take lists of a caller with content.
+//! The calls on a store that take entities with content.
 ghost use Rattle.cedar_c_stores.specs.Contents.{AddsLaid, BuildsLaid, laid_by, UpsertsLaid};
 
 use crate::content::Content;
@@ -11,12 +11,19 @@ use std::alloc::Global;
 use std::hash::BuildHasher;
 
 impl<S: BuildHasher + Copy> KeptStore<S> {
-    /// The entities that lists and content say become the store, in the mode of a number: it is what adding them to the
-    /// store without entities gives.
+    /// Replaces the store by the entities in `lists` with their `content`, with the mode of this number. The new store
+    /// is the result of adding these entities to an empty store.
     ///
-    /// Refused as `build` is, and for what is read wrong of the content, which leaves all as it was too: `BadArgument`
-    /// for an edge, a term or nodes out of range, `NotUtf8` for a key, and what `partial_value_of` refuses. Takes
-    /// memory.
+    /// # Errors
+    ///
+    /// The errors of `build`, and:
+    ///
+    /// - `BadArgument`: an edge, a term, or the nodes of a term are out of range.
+    /// - `NotUtf8`: a key is not UTF-8.
+    /// - The errors of `partial_value_of` for the nodes of a term.
+    /// - `NoMemory`: an allocation failed.
+    ///
+    /// After an error the store is unchanged.
     pub fn build_with(
         &mut self,
         alloc: Global,
@@ -34,8 +41,12 @@ impl<S: BuildHasher + Copy> KeptStore<S> {
         self.build_list(alloc, list, mode)
     }
 
-    /// The entities that lists and content say are added, as `Entities::add_entities` does, in the mode of a number.
-    /// Refused as `build_with` is.
+    /// Adds the entities in `lists` with their `content`, as `Entities::add_entities` does, with the mode of this
+    /// number.
+    ///
+    /// # Errors
+    ///
+    /// The errors of `build_with`. After an error the store is as after an error of `add`.
     pub fn add_with(
         &mut self,
         alloc: Global,
@@ -53,8 +64,12 @@ impl<S: BuildHasher + Copy> KeptStore<S> {
         self.add_list(alloc, list, mode)
     }
 
-    /// The entities that lists and content say are put over what the store holds, as `Entities::upsert_entities` does,
-    /// in the mode of a number. Refused as `build_with` is.
+    /// Upserts the entities in `lists` with their `content`, as `Entities::upsert_entities` does, with the mode of this
+    /// number.
+    ///
+    /// # Errors
+    ///
+    /// The errors of `build_with`, except `Duplicate`. After an error the store is as after an error of `add`.
     pub fn upsert_with(
         &mut self,
         alloc: Global,

@@ -1,15 +1,16 @@
-//! Edits of a store that leave it as it was where they are refused, and the calls that make them.
+//! Edits that leave a store unchanged if they fail, and the calls that make them.
 //!
-//! The edits of `cedar_entities` take a store by value, and give none back where they refuse. So, where it is known that
-//! the store is plain and that the edit keeps it so, a trial of the edit goes first, which costs what is edited: after it
-//! only want of memory refuses the edit. Elsewhere the store is copied first, and a refusal puts the copy back.
+//! The edits in `cedar_entities` consume the store, and return none after an error. If the store is known to be plain
+//! and the edit keeps it plain, a trial of the edit comes first. The trial costs as much as the edited entities. After
+//! the trial only an allocation failure can make the edit fail. Otherwise the store is copied first, and the copy is
+//! restored after an error.
 ghost use Rattle.std.specs.Prelude.{◌≡◌, IfErr, IfOk, IsTrue, OnOk, Result, Err};
 ghost use Rattle.cedar_entity.specs.declared.err.EntitiesError.{EntitiesError};
 ghost use Rattle.cedar_entity_maps.specs.Plain.{StoreView, entities_in};
 ghost use Rattle.cedar_entity_maps.specs.declared.modes.TCComputation.TheVariants.{ComputeNow};
 ghost use Rattle.cedar_c_stores.specs.Edits.{EditGives, Edits, EditsKept, IsSure, KeepsPlain, StandsOrEmpties};
 ghost use Rattle.cedar_c_stores.specs.SomePlain.{IsSomePlain};
-ghost use Rattle.cedar_c_stores.specs.Stores.{Adds, Builds, KeepsTexts, Removes, Upserts};
+ghost use Rattle.cedar_c_stores.specs.Stores.{Adds, Builds, KeepsTexts, Removes, Upserts, emptied};
 
 use crate::kept_store::KeptStore;
 use crate::watched::Watched;
@@ -25,15 +26,15 @@ use std::rc::Rc;
 // An edit of a store.
 #[derive(Drop)]
 pub(crate) enum Edit {
-    // Entities are added.
+    // Adds entities.
     Add(Vec<Rc<Entity>>),
-    // Entities are put over what the store holds.
+    // Upserts entities.
     Upsert(Vec<Rc<Entity>>),
-    // Entities with these uids are taken out.
+    // Removes the entities with these uids.
     Remove(Vec<EntityUID>),
 }
 
-// Whether an edit in this mode gives what is edited all that it reaches.
+// Returns whether the mode computes the ancestors.
 fn computes(mode: TCComputation) -> bool
     ensures { IsTrue result → mode ≡ ComputeNow }
 {
@@ -43,7 +44,7 @@ fn computes(mode: TCComputation) -> bool
     }
 }
 
-// Whether a store that may be known to be plain is so, and stays so over an edit.
+// Returns whether the store is known to be plain and stays plain after the edit.
 pub(crate) fn keeps_plain(plain: bool, edit: &Edit, mode: TCComputation) -> bool
     ensures plain { IsTrue result → IsTrue plain }
     ensures keeps { IsTrue result → KeepsPlain mode edit.now }
@@ -58,7 +59,7 @@ pub(crate) fn keeps_plain(plain: bool, edit: &Edit, mode: TCComputation) -> bool
     }
 }
 
-// What an edit gives.
+// Makes an edit.
 pub(crate) fn made<S: BuildHasher + Clone>(
     alloc: Global,
     store: Entities<S>,
@@ -74,7 +75,19 @@ pub(crate) fn made<S: BuildHasher + Clone>(
     }
 }
 
-// Makes an edit, whose refusal leaves no entity.
+// Returns an empty store that is partial exactly if `store` is.
+fn emptied<S: BuildHasher + Copy>(alloc: Global, hasher: S, store: &Entities<S>) -> Entities<S>
+    ensures { result ≡ emptied store.now }
+{
+    let empty = Entities::with_hasher(alloc, hasher);
+    if store.is_partial() {
+        empty.partial()
+    } else {
+        empty
+    }
+}
+
+// Makes an edit. After an error the store is empty, and partial exactly if it was before.
 fn make<S: BuildHasher + Copy>(
     alloc: Global,
     store: &mut Entities<S>,
@@ -83,9 +96,10 @@ fn make<S: BuildHasher + Copy>(
     mode: TCComputation,
 ) -> Result<(), EntitiesError>
     ensures { (given : Result StoreView EntitiesError) × EditGives mode edit store.old given
-        × StandsOrEmpties given result store.new }
+        × StandsOrEmpties store.old given result store.new }
 {
-    let old = mem::replace(store, Entities::with_hasher(alloc, hasher));
+    let empty = emptied(alloc, hasher, store);
+    let old = mem::replace(store, empty);
     match made(alloc, old, edit, mode) {
         Ok(new) => {
             *store = new;
@@ -95,8 +109,8 @@ fn make<S: BuildHasher + Copy>(
     }
 }
 
-// Tries an edit that keeps a plain store plain: it is refused so, or only want of memory refuses it. A removal needs no
-// trial.
+// Tries an edit that keeps a plain store plain. If the trial succeeds, only an allocation failure can make the edit
+// fail. A removal needs no trial.
 fn try_edit<S: BuildHasher + Clone>(
     alloc: Global,
     store: &Entities<S>,
@@ -115,7 +129,7 @@ fn try_edit<S: BuildHasher + Clone>(
     }
 }
 
-// Makes an edit of a plain store that keeps it plain, behind a trial.
+// Makes an edit that keeps a plain store plain, after a trial.
 fn edit_plain<S: BuildHasher + Copy>(
     alloc: Global,
     store: &mut Entities<S>,
@@ -133,7 +147,7 @@ fn edit_plain<S: BuildHasher + Copy>(
     }
 }
 
-// Makes an edit, whose refusal puts a copy back.
+// Makes an edit. Restores a copy of the store after an error.
 fn edit_copied<S: BuildHasher + Copy>(
     alloc: Global,
     store: &mut Entities<S>,
@@ -153,7 +167,7 @@ fn edit_copied<S: BuildHasher + Copy>(
     }
 }
 
-// Makes an edit of a store, of which may be known that it is plain and that the edit keeps it so.
+// Makes an edit. `plain` states that the store is plain and that the edit keeps it plain.
 pub(crate) fn edit_store<S: BuildHasher + Copy>(
     alloc: Global,
     store: &mut Entities<S>,
@@ -174,7 +188,8 @@ pub(crate) fn edit_store<S: BuildHasher + Copy>(
 }
 
 impl<S: BuildHasher + Copy> KeptStore<S> {
-    // Makes an edit. A refusal leaves the store as it was, but that want of memory may leave it without entities.
+    // Makes an edit. After an error the store is unchanged, except that an allocation failure can leave it empty. It is
+    // then partial exactly if it was before.
     fn edit(&mut self, alloc: Global, edit: Edit, mode: TCComputation) -> Result<(), Reason>
         ensures edits { EditsKept mode edit self.old.store result self.new }
         ensures texts { KeepsTexts result self.old self.new }
@@ -185,12 +200,11 @@ impl<S: BuildHasher + Copy> KeptStore<S> {
         }
     }
 
-    // Adds entities, as `Entities::add_entities` does. A refusal leaves the store as it was, but that want of memory
-    // may leave it without entities. Takes memory.
+    // Adds entities, as `Entities::add_entities` does. After an error the store is as after an error of `edit`.
     //
-    // Over a store that is known to be plain, under `ComputeNow`, with entities that have no indirect ancestors, it
-    // costs a trial more, as `would_add` says; elsewhere a copy of the store more, and a copy of each entity that is
-    // closed anew.
+    // If the store is known to be plain, the mode is `ComputeNow` and no entity has indirect ancestors, the extra cost
+    // is a trial, as `would_add` describes. Otherwise the extra cost is a copy of the store, and a copy of each entity
+    // whose ancestors are recomputed.
     pub(crate) fn add_list(
         &mut self,
         alloc: Global,
@@ -203,8 +217,8 @@ impl<S: BuildHasher + Copy> KeptStore<S> {
         self.edit(alloc, Edit::Add(list), mode)
     }
 
-    // Entities become the store: it is what adding them to the store without entities gives. A refusal leaves the store
-    // as it was, want of memory too: it is let go of once the new one is made. Takes memory.
+    // Replaces the store by the result of adding the entities to an empty store. After an error the store is unchanged.
+    // The old store is dropped after the new one is created.
     pub(crate) fn build_list(
         &mut self,
         alloc: Global,
@@ -223,8 +237,8 @@ impl<S: BuildHasher + Copy> KeptStore<S> {
         }
     }
 
-    // Puts entities over what the store holds, as `Entities::upsert_entities` does. A refusal leaves, and the call
-    // costs, what it does in `add_list`. Takes memory.
+    // Upserts entities, as `Entities::upsert_entities` does. The extra cost, and the state after an error, are those of
+    // `add_list`.
     pub(crate) fn upsert_list(
         &mut self,
         alloc: Global,
@@ -237,8 +251,9 @@ impl<S: BuildHasher + Copy> KeptStore<S> {
         self.edit(alloc, Edit::Upsert(list), mode)
     }
 
-    // Takes entities out, as `Entities::remove_entities` does. A refusal leaves what it does in `add_list`. It costs a
-    // copy of the store more where that is not known to be plain: a plain one refuses no removal. Takes memory.
+    // Removes entities, as `Entities::remove_entities` does. After an error the store is as after an error of
+    // `add_list`. If the store is not known to be plain, the extra cost is a copy of the store. In a plain store a
+    // removal fails only if an allocation fails.
     pub(crate) fn remove_uids(
         &mut self,
         alloc: Global,

@@ -1,4 +1,4 @@
-//! A store of entities with what its caller was answered last, and the calls on it.
+//! A store of entities with the last results for its caller, and its calls.
 ghost use Rattle.std.specs.Prelude.{◌≡◌, [], ◌∷◌, ◌++◌, ◌↔◌, IfOk, MatchResult, IsTrue, List, ℕ, true};
 ghost use Rattle.cedar_entities.specs.Answers.{AreDeepEqual};
 ghost use Rattle.cedar_entity_maps.specs.Plain.{IsPlainStore};
@@ -23,31 +23,30 @@ use std::alloc::{AllocError, Global};
 use std::hash::BuildHasher;
 use std::mem;
 
-/// A store of entities, the texts of the last answer, the nodes of the last value, the text of the last refusal, and the
-/// uids that have numbers.
+/// A store of entities with the last results for its caller: the texts, the nodes of the last value, the text of the
+/// last error, and the numbered uids.
 ///
-/// The store hashes uids by what `S` builds, and so do the stores that its calls make. No contract sees which builder a
-/// store has; but code that is generic in it makes none of its own, so each store here has the one that the caller
-/// gave.
+/// The store, and the stores of its calls, hash uids with hashers of `S`. Contracts do not mention the builder. Generic
+/// code cannot create a builder, so every store uses the builder of the caller.
 #[derive(Drop)]
 pub struct KeptStore<S: BuildHasher> {
     /// The store, and whether it is known to be plain.
     pub store: Watched<S>,
-    /// The texts that the last call that lists gave.
+    /// The texts of the last call that returned texts.
     pub answer: Answer,
-    /// The nodes of the last attribute or tag that was read, over the text that was the answer then.
+    /// The nodes of the last attribute or tag, over the text that was stored in `answer`.
     pub nodes: Vec<Node>,
-    /// The text of the last refusal of a call on the store.
+    /// The text of the last error of a call on the store.
     pub refusal: Vec<u8>,
-    /// The uids that the caller gave once, in the order of their numbers.
+    /// The numbered uids, in the order of their numbers.
     pub numbers: Numbers<S>,
-    // The types that texts before have named.
+    // The types in earlier texts of uids.
     pub(crate) known: Known,
-    // What builds the hashers of the next store.
+    // The hasher builder of the next store.
     pub(crate) hasher: S,
 }
 
-// The texts of ancestors.
+// Returns the ancestors as texts.
 fn texts_of_union(alloc: Global, uids: Union<'_>) -> Result<Answer, AllocError>
     ensures { IfOk result (AreTextsOf uids.entry) }
 {
@@ -58,7 +57,7 @@ fn texts_of_union(alloc: Global, uids: Union<'_>) -> Result<Answer, AllocError>
     Ok(answer)
 }
 
-// The texts of parents.
+// Returns uids as texts.
 pub(crate) fn texts_of_set(alloc: Global, uids: Uids<'_>) -> Result<Answer, AllocError>
     ensures { IfOk result (AreTextsOf uids.entry) }
 {
@@ -70,7 +69,7 @@ pub(crate) fn texts_of_set(alloc: Global, uids: Uids<'_>) -> Result<Answer, Allo
 }
 
 impl<S: BuildHasher + Copy> KeptStore<S> {
-    // A store of which nothing was answered and nothing refused, and whether it is known to be plain.
+    // Creates the state for a store, with an empty `answer`, no numbers and no last error.
     pub(crate) fn watched(alloc: Global, hasher: S, store: Watched<S>) -> KeptStore<S>
         ensures store { result.store ≡ store }
         ensures answer { result.answer ≡ [] }
@@ -89,7 +88,7 @@ impl<S: BuildHasher + Copy> KeptStore<S> {
         }
     }
 
-    /// The store without entities, which hashes uids by what `hasher` builds. Takes no memory.
+    /// Creates an empty store that hashes uids with hashers of `hasher`. Does not allocate.
     pub fn new(alloc: Global, hasher: S) -> KeptStore<S>
         ensures store { result.store ≡ empty_store }
         ensures plain { IsPlainStore empty_world result.store }
@@ -101,7 +100,8 @@ impl<S: BuildHasher + Copy> KeptStore<S> {
         KeptStore::watched(alloc, hasher, Watched::with_hasher(alloc, hasher))
     }
 
-    // The text of an error is kept, and its reason told. Want of memory, for the text too, leaves the one before.
+    // Stores the text of an error and returns its reason. If an allocation failed, for the text or before, the old text
+    // is kept.
     pub(crate) fn refuse(&mut self, alloc: Global, error: EntitiesError) -> Reason
         ensures store { self.new.store ≡ self.old.store }
         ensures answer { self.new.answer ≡ self.old.answer }
@@ -121,7 +121,12 @@ impl<S: BuildHasher + Copy> KeptStore<S> {
         }
     }
 
-    /// Whether the store has an entity with the uid that a text is. Takes memory for the uid.
+    /// Returns whether the store has an entity with the uid in a text. Allocates the uid.
+    ///
+    /// # Errors
+    ///
+    /// - `NotAUid`: the text is not the text of a uid.
+    /// - `NoMemory`: an allocation failed.
     pub fn has(&mut self, alloc: Global, text: &[u8]) -> Result<bool, Reason>
         ensures same { self.new ≡ self.old }
         ensures asks { AsksFor self.old.store text.now result }
@@ -130,13 +135,22 @@ impl<S: BuildHasher + Copy> KeptStore<S> {
         Ok(self.store.stored(&uid).is_some())
     }
 
-    /// Whether the entity with the uid that one text is is a descendant of the uid that another is. `NoEntity` comes
-    /// where the store has no such entity. Takes memory for the two uids.
+    /// Returns whether the entity with the uid in `child` is a descendant of the uid in `ancestor`.
     ///
-    /// After as many questions as the store has entities, since the last edit, it takes memory for notes too: by the text
-    /// of an entity the numbers of its ancestors, where these are at most 32, and by the text of the other uid its number,
-    /// of at most 65,536 texts each. A question between two texts that are noted costs two looks, takes no memory and
-    /// reads no uid. Want of memory for notes refuses nothing.
+    /// # Errors
+    ///
+    /// - `NotAUid`: a text is not the text of a uid.
+    /// - `NoEntity`: the store has no entity with the uid in `child`.
+    /// - `NoMemory`: an allocation failed.
+    ///
+    /// # Complexity
+    ///
+    /// Allocates both uids, unless the query is cached. The call caches queries once there were as many queries since
+    /// the last edit as the store has entities. For the text `child` it caches the numbers of the ancestors, if there
+    /// are at most 32. For the text `ancestor` it caches the number of the uid. The cache has at most 65,536 texts of
+    /// each kind and at most 4 MiB of text. A full cache is cleared. A text of more than 1,024 bytes is not cached. A
+    /// cached query takes two lookups and parses no uid. A cached query does not allocate. A failed allocation for the
+    /// cache is not an error.
     pub fn is_descendant_of(
         &mut self,
         alloc: Global,
@@ -162,8 +176,15 @@ impl<S: BuildHasher + Copy> KeptStore<S> {
         Ok(below)
     }
 
-    /// The ancestors of an entity become the answer, in the order of uids. `NoEntity` comes where the store has no
-    /// entity with the uid that a text is. Takes memory for the texts; a refusal leaves the answer as it was.
+    /// Stores the ancestors of the entity with the uid in a text in `answer`, in ascending order of uid.
+    ///
+    /// # Errors
+    ///
+    /// - `NotAUid`: the text is not the text of a uid.
+    /// - `NoEntity`: the store has no entity with the uid.
+    /// - `NoMemory`: an allocation failed.
+    ///
+    /// After an error nothing has changed.
     pub fn ancestors(&mut self, alloc: Global, text: &[u8]) -> Result<(), Reason>
         ensures { Listing has_ancestor IsAbove text.now result self.old self.new }
     {
@@ -176,7 +197,11 @@ impl<S: BuildHasher + Copy> KeptStore<S> {
         Ok(())
     }
 
-    /// The parents of an entity become the answer, in the order of uids, as its ancestors do.
+    /// Stores the parents of the entity with the uid in a text in `answer`, in ascending order of uid.
+    ///
+    /// # Errors
+    ///
+    /// The errors of `ancestors`. After an error nothing has changed.
     pub fn parents(&mut self, alloc: Global, text: &[u8]) -> Result<(), Reason>
         ensures { Listing has_parent IsParent text.now result self.old self.new }
     {
@@ -189,7 +214,19 @@ impl<S: BuildHasher + Copy> KeptStore<S> {
         Ok(())
     }
 
-    /// Looks for what is wrong with the store, as `Entities::try_validate` does, over a copy. Takes memory.
+    /// Validates a copy of the store, as `Entities::try_validate` does.
+    ///
+    /// # Errors
+    ///
+    /// - `NotClosed`: an ancestor of an ancestor is missing.
+    /// - `Cycle`: a uid is one of its own ancestors.
+    /// - `SelfAncestor`: an entity is one of its own ancestors.
+    /// - `DuplicateAncestor`: a uid is both a parent and an indirect ancestor.
+    /// - `ActionParentIsNotAction`: an action has an ancestor that is not an action.
+    /// - `ReservedKey`: a record has a reserved key.
+    /// - `NoMemory`: an allocation failed.
+    ///
+    /// Stores the text of the error in `refusal`. After `NoMemory` the old text is kept.
     pub fn validate(&mut self, alloc: Global) -> Result<(), Reason>
         ensures { Validates result self.old self.new }
     {
@@ -200,7 +237,7 @@ impl<S: BuildHasher + Copy> KeptStore<S> {
         }
     }
 
-    /// The store becomes partial; its entities, the answer, the nodes and the last refusal stay. Takes no memory.
+    /// Makes the store partial. Its entities and all results are unchanged. Does not allocate.
     pub fn make_partial(&mut self, alloc: Global)
         ensures partial { MakesPartial self.old self.new }
         ensures plain { (W : World) → IsPlainStore W self.old.store →
@@ -210,14 +247,14 @@ impl<S: BuildHasher + Copy> KeptStore<S> {
         self.store = store.partial();
     }
 
-    /// Whether the store is partial. Takes no memory.
+    /// Returns whether the store is partial. Does not allocate.
     pub fn is_partial(&self) -> bool
         ensures { result ≡ self.now.store.partial }
     {
         self.store.is_partial()
     }
 
-    // The slice of the store at some uids.
+    // Returns the slice of the store at uids.
     fn slice_of(&self, alloc: Global, uids: Vec<EntityUID>) -> Result<KeptStore<S>, Reason>
         ensures { MatchResult result (λ k. IsSlice uids.items self.now.store k.store
             × IsUntold k) (λ w. w ≡ reasons.NoMemory) }
@@ -228,8 +265,14 @@ impl<S: BuildHasher + Copy> KeptStore<S> {
         }
     }
 
-    /// The slice of the store at the uids that parts of a text are, of which nothing was answered and nothing refused.
-    /// Takes memory.
+    /// Returns the slice of the store at the uids in parts of a text. The slice has an empty `answer`, no numbers and
+    /// no last error.
+    ///
+    /// # Errors
+    ///
+    /// - `BadArgument`: a part is not within the text.
+    /// - `NotAUid`: a part is not the text of a uid.
+    /// - `NoMemory`: an allocation failed.
     pub fn slice(
         &mut self,
         alloc: Global,
@@ -243,7 +286,11 @@ impl<S: BuildHasher + Copy> KeptStore<S> {
         self.slice_of(alloc, uids)
     }
 
-    /// A copy, of which nothing was answered and nothing refused. Takes memory.
+    /// Returns a copy, with an empty `answer`, no numbers and no last error.
+    ///
+    /// # Errors
+    ///
+    /// Returns `NoMemory` if an allocation fails.
     pub fn copy(&self, alloc: Global) -> Result<KeptStore<S>, Reason>
         ensures { Copies self.now.store result }
     {
@@ -251,7 +298,7 @@ impl<S: BuildHasher + Copy> KeptStore<S> {
         Ok(KeptStore::watched(alloc, self.hasher, store))
     }
 
-    /// Whether both stores have deeply equal entities. Takes no memory.
+    /// Returns whether both stores have deeply equal entities. Does not allocate.
     pub fn is_equal(&self, other: &KeptStore<S>) -> bool
         ensures { IsTrue result ↔ AreDeepEqual self.now.store other.now.store }
     {

@@ -1,4 +1,4 @@
-//! Keys of attributes and tags, as a caller gives them.
+//! Keys of attributes and tags.
 ghost use Rattle.std.specs.Prelude.{◌≡◌, MatchResult, string_bytes};
 ghost use Rattle.std.specs.Str.{IsUtf8};
 ghost use Rattle.cedar_c_trees.specs.Reads.{IsTextAt};
@@ -9,7 +9,7 @@ use cedar_c_lists::{Reason, Span, text_at};
 use std::alloc::Global;
 use std::str;
 
-// The key that bytes are. `NotUtf8` comes where they are no text. Takes no memory.
+// Returns bytes as a key, or `NotUtf8` if they are not UTF-8.
 pub(crate) fn key_of(bytes: &[u8]) -> Result<&str, Reason>
     ensures { MatchResult result (λ k. IsUtf8 bytes.now × (k.now ≡ bytes.now))
         (λ w. (w ≡ NotUtf8) × (IsUtf8 bytes.now → ⊥)) }
@@ -20,7 +20,7 @@ pub(crate) fn key_of(bytes: &[u8]) -> Result<&str, Reason>
     }
 }
 
-// A copy of the key in a part of a text.
+// Copies the key in a part of a text.
 pub(crate) fn key_at(alloc: Global, text: &[u8], at: Span) -> Result<String, Reason>
     ensures { MatchResult result (λ k. IsTextAt text.now at (string_bytes k)) (IsNoKeyAt text.now at) }
 {

@@ -1,4 +1,4 @@
-//! The types that texts before have named, so that uids of them are read at less cost.
+//! The types in earlier texts of uids. Uids of these types are parsed faster.
 ghost use Rattle.std.specs.Prelude.{MatchResult};
 ghost use Rattle.cedar_c_lists.specs.Texts.{AreReadAt, IsOneUnread, ReadsUid, ReadsUidAt};
 
@@ -9,7 +9,7 @@ use std::alloc::Global;
 use std::marker::Model;
 use std::str;
 
-/// What is known of the texts of types. Contracts see nothing of it, since no answer depends on it.
+/// The types in earlier texts of uids. No result depends on them. Contracts do not mention them.
 #[derive(Drop)]
 pub struct Known {
     types: KnownTypes,
@@ -22,16 +22,15 @@ impl Model for Known {
 }
 
 impl Known {
-    // Nothing is known. Takes no memory.
+    // Creates a value without known types. Does not allocate.
     pub(crate) fn new(alloc: Global) -> Known {
         Known {
             types: KnownTypes::new(alloc),
         }
     }
 
-    // The uid that a text is, as `uid_of` reads it. Where the text is ASCII and has no escape, and its type is one of
-    // the first 16 that were read so, the type is not read again. Takes memory for the uid, and for a type that is known
-    // from then on.
+    // Parses the uid in a text, as `uid_of` does. Skips parsing the type if the text is ASCII without escapes and the
+    // type is known. The first 16 types are stored.
     pub(crate) fn uid_of(&mut self, alloc: Global, text: &[u8]) -> Result<EntityUID, Reason>
         ensures { ReadsUid result text.now }
     {
@@ -47,8 +46,7 @@ impl Known {
         uid_of(alloc, text)
     }
 
-    // The uid that a part of a text is, read so. `BadArgument` comes where the part does not lie within the text. Takes
-    // memory for it, and for a type that is known from then on.
+    // Parses the uid in a part of a text. Returns `BadArgument` if the part is not within the text.
     fn uid_at(&mut self, alloc: Global, text: &[u8], at: Span) -> Result<EntityUID, Reason>
         ensures { ReadsUidAt result text.now at }
     {
@@ -58,8 +56,7 @@ impl Known {
         }
     }
 
-    // The uids that parts of a text are, one of each, read so. Takes memory for them, and for types that are known from
-    // then on.
+    // Parses the uids in parts of a text.
     pub(crate) fn uids_of(
         &mut self,
         alloc: Global,

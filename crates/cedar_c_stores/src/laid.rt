@@ -15,7 +15,7 @@ use cedar_uid_sets::SharedUid;
 use std::alloc::Global;
 use std::rc::Rc;
 
-// What lists and content say of the entities with the first of some uids.
+// Collects the parts of the first `lists.count` entities.
 fn rows_laid(
     alloc: Global,
     uids: &[SharedUid],
@@ -31,12 +31,12 @@ fn rows_laid(
     Ok(rows)
 }
 
-// The entities that lists and content say.
+// Creates the entities in lists with their content. Parses each uid, edge, term and node once, and sorts the parents,
+// ancestors and keys of each entity.
 //
-// Beside what `entities_of` refuses, `BadArgument` comes where an edge to an indirect ancestor leads from no entity or
-// to no uid, and where a term is of no entity or no part, or its key or its nodes are out of range; `NotUtf8` where a
-// key is no text; and what `partial_value_of` refuses where nodes are no value. Takes memory. It reads each uid, each
-// edge, each term and each node once, and sorts the parents, the ancestors and the keys of each entity.
+// Returns the errors of `entities_of`, and: `BadArgument` if an edge to an indirect ancestor, the entity or the kind of
+// a term, its key, or its nodes are out of range; `NotUtf8` if a key is not UTF-8; and the errors of `partial_value_of`
+// for the nodes of a term.
 pub(crate) fn entities_laid(
     alloc: Global,
     known: &mut Known,

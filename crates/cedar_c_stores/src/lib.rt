@@ -1,5 +1,5 @@
-//! The calls of the library for C on a store: the store with its last answer and its last refusal, and lists of
-//! entities as a caller lays them out, with content or without. No handle is known here.
+//! The calls on a store in the library for C: a store with its last results, and lists of entities with or without
+//! content. Handles are in `cedar_c`.
 #![tactic(auto, using(cedar_ids::specs::laws::UidOfLaws::same_uid_decides))]
 
 mod apart;

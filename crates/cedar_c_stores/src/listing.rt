@@ -16,7 +16,7 @@ use std::alloc::{AllocError, Global};
 use std::marker::Model;
 use std::rc::Rc;
 
-// The mode of a number. `BadArgument` comes where it is none's. Takes no memory.
+// Returns the mode of a number, or `BadArgument` if there is none.
 pub(crate) fn mode_of(number: u32) -> Result<TCComputation, Reason>
     ensures { MatchResult result (IsMode number) (IsNoMode number) }
 {
@@ -28,7 +28,7 @@ pub(crate) fn mode_of(number: u32) -> Result<TCComputation, Reason>
     }
 }
 
-// The uids, to be shared.
+// Wraps uids for sharing.
 pub(crate) fn shared_all(alloc: Global, uids: Vec<EntityUID>) -> Result<Vec<SharedUid>, AllocError>
     ensures { IfOk result (λ v. v.items ≡ uids.items) }
 {
@@ -39,7 +39,7 @@ pub(crate) fn shared_all(alloc: Global, uids: Vec<EntityUID>) -> Result<Vec<Shar
     Ok(shared)
 }
 
-// A uid, to be that of an entity, and the parents that were gathered for it. Contracts see the two.
+// The uid of an entity, and the parents that were collected for it. Contracts see the pair.
 #[derive(Drop)]
 pub(crate) struct Listed {
     uid: SharedUid,
@@ -60,7 +60,7 @@ impl Model for Listed {
 }
 
 impl Listed {
-    // A uid without parents.
+    // Creates the pair of a uid and no parents.
     fn new(alloc: Global, uid: &SharedUid) -> Result<Listed, AllocError>
         ensures { IfOk result (λ l. l ≡ (uid.now, [])) }
     {
@@ -70,7 +70,7 @@ impl Listed {
         })
     }
 
-    // One more parent.
+    // Appends a parent.
     fn add(&mut self, parent: SharedUid) -> Result<(), AllocError>
         ensures { OnOk result (self.new ≡ (self.old.0, self.old.1 ++ parent ∷ [])) }
     {
@@ -78,7 +78,7 @@ impl Listed {
         Ok(())
     }
 
-    // The uid and the parents. Takes no memory.
+    // Returns the uid and the parents.
     pub(crate) fn into_parts(self) -> (SharedUid, Vec<SharedUid>)
         ensures uid { result.0 ≡ self.0 }
         ensures parents { result.1.items ≡ self.1 }
@@ -87,7 +87,7 @@ impl Listed {
         (uid, parents)
     }
 
-    // The entity with this uid and these parents.
+    // Creates the entity with this uid and these parents.
     fn into_entity(self, alloc: Global) -> Result<Rc<Entity>, AllocError>
         ensures { IfOk result (λ e. e.value ≡ with_parents self.0 self.1) }
     {
@@ -97,7 +97,7 @@ impl Listed {
     }
 }
 
-// The uids, each without parents.
+// Returns the uids, each without parents.
 pub(crate) fn without_parents(alloc: Global, uids: &[SharedUid]) -> Result<Vec<Listed>, AllocError>
     ensures { IfOk result (λ v. v.items ≡ map (λ u. (u, [])) uids.now) }
 {
@@ -108,7 +108,7 @@ pub(crate) fn without_parents(alloc: Global, uids: &[SharedUid]) -> Result<Vec<L
     Ok(listed)
 }
 
-// The one at a place has one more parent, where there is one.
+// Appends a parent to the item at a position. Returns `BadArgument` if there is none.
 fn put_at(listed: &mut Vec<Listed>, place: usize, parent: SharedUid) -> Result<(), Reason>
     ensures ok { OnOk result ((place < length listed.old.items)
         × (listed.new.items ≡ with_edge place parent listed.old.items)) }
@@ -121,7 +121,7 @@ fn put_at(listed: &mut Vec<Listed>, place: usize, parent: SharedUid) -> Result<(
     Ok(())
 }
 
-// The uid at a place, shared once more.
+// Returns the shared uid at a position, or `BadArgument` if there is none.
 pub(crate) fn uid_in(uids: &[SharedUid], place: usize) -> Result<SharedUid, Reason>
     ensures { MatchResult result (λ u. slice_get uids.now place ≡ Some u)
         (λ w. (w ≡ NoMemory) ⊎ ((w ≡ BadArgument) × (length uids.now ≤ place))) }
@@ -132,7 +132,7 @@ pub(crate) fn uid_in(uids: &[SharedUid], place: usize) -> Result<SharedUid, Reas
     Ok(uid.clone()?)
 }
 
-// The parents that the edges lead to go to the uids from which they come.
+// Appends the target of each edge to the parents of its source.
 pub(crate) fn put_edges(
     listed: &mut Vec<Listed>,
     uids: &[SharedUid],
@@ -150,7 +150,7 @@ pub(crate) fn put_edges(
     Ok(())
 }
 
-// The entities that uids and their parents make.
+// Creates an entity from each item.
 fn entities_with(alloc: Global, listed: Vec<Listed>) -> Result<Vec<Rc<Entity>>, AllocError>
     ensures { IfOk result (λ v. entities_in v.items ≡ map (λ p. with_parents p.0 p.1) listed.items) }
 {
@@ -161,7 +161,7 @@ fn entities_with(alloc: Global, listed: Vec<Listed>) -> Result<Vec<Rc<Entity>>, 
     Ok(list)
 }
 
-// So many uids from the front.
+// Returns the first `count` uids, or `BadArgument` if there are fewer.
 pub(crate) fn first_of(uids: &[SharedUid], count: usize) -> Result<&[SharedUid], Reason>
     ensures { MatchResult result (λ f. (count ≤ length uids.now) × (f.now ≡ take count uids.now))
         (λ w. (w ≡ BadArgument) × (length uids.now < count)) }
@@ -172,7 +172,7 @@ pub(crate) fn first_of(uids: &[SharedUid], count: usize) -> Result<&[SharedUid],
     }
 }
 
-// The entities with the first `count` of some uids, and the parents that edges give them.
+// Creates entities with the first `count` uids, and with the parents in the edges.
 fn gathered(
     alloc: Global,
     uids: &[SharedUid],
@@ -190,13 +190,12 @@ fn gathered(
     }
 }
 
-// The entities with the first `count` of the uids that parts of a text are; the parents of the one at a place are the
-// uids that the edges from there lead to.
+// Creates entities with the first `count` of the uids in parts of a text. The parents of an entity are the targets of
+// the edges from its position.
 //
-// `BadArgument` comes where a part does not lie within the text, where there are fewer parts than entities, or where an
-// edge leads from no entity or to no uid; `NotAUid` where a part is no uid's text. Takes memory. It reads each part
-// once, and the name of a type that is known not again; it passes over the edges once, and sorts the parents of each
-// entity.
+// Returns `BadArgument` if a part is not within the text, if there are fewer parts than entities, or if an edge is out
+// of range, and `NotAUid` if a part is not the text of a uid. Parses each part once, and does not parse known types
+// again. Reads the edges once, and sorts the parents of each entity.
 pub(crate) fn entities_of(
     alloc: Global,
     known: &mut Known,

@@ -1,4 +1,4 @@
-//! What questions on a store have found before, so that it need not be looked for again.
+//! Cached results of earlier queries on a store, by the texts of the queries.
 ghost use Rattle.std.specs.Prelude.{◌≡◌, IfOk, IfSome, Ok, Some};
 ghost use Rattle.std.specs.FinMap as finmap;
 ghost use Rattle.cedar_ids.specs.declared.entity.EntityUID.{EntityUID};
@@ -15,13 +15,19 @@ use std::alloc::{AllocError, Global};
 use std::collections::HashMap;
 use std::hash::BuildHasher;
 
-// So many ancestors of an entity are noted at the most: they are gone through one by one.
+// The maximum number of ancestors of a cached entity. A lookup scans them.
 const FEW: usize = 32;
 
-// So many texts are noted at the most, of entities and of uids that are looked for among their ancestors.
+// The maximum number of texts in each of the two maps.
 const MOST: usize = 65_536;
 
-// The numbers of the ancestors of an entity, where they are few. Takes memory, for uids that have no number too.
+// The maximum length of a cached text, in bytes.
+const LONGEST: usize = 1024;
+
+// The maximum number of bytes of all texts: 32 for each possible text of both maps.
+const MOST_BYTES: usize = 4_194_304;
+
+// Returns the numbers of the ancestors of an entity, or `None` if there are more than `FEW`. Numbers new uids.
 fn row_of<S: BuildHasher + Copy>(
     alloc: Global,
     numbers: &mut Numbers<S>,
@@ -41,18 +47,25 @@ fn row_of<S: BuildHasher + Copy>(
     Ok(Some(row))
 }
 
-/// What was found before: by the text of the uid of an entity that was asked about the numbers of its ancestors, where
-/// they are few, and by a text that was looked for among them the number of its uid. A number is a place among the uids
-/// that have one, so it is told without a look at a uid.
+/// A cache of earlier queries. For the text of an entity's uid it has the numbers of the ancestors, if there are at
+/// most `FEW`. For a text that was looked up among ancestors it has the number of its uid. A number is a position among
+/// the cached uids, so a lookup compares numbers and parses no uid.
+///
+/// The cache has at most `MOST` texts in each map, and at most `MOST_BYTES` bytes of texts. A text longer than
+/// `LONGEST` is not cached. A full cache is cleared before the next text is cached.
 #[derive(Drop)]
 pub(crate) struct Noted<S: BuildHasher> {
     numbers: Numbers<S>,
     above: HashMap<Vec<u8>, Option<Vec<usize>>, S>,
     names: HashMap<Vec<u8>, usize, S>,
+    // The number of bytes of all texts of both maps.
+    bytes: usize,
+    // The hasher builder of a cleared cache.
+    hasher: S,
 }
 
 impl<S: BuildHasher + Copy> Noted<S> {
-    // Nothing is noted. Takes no memory.
+    // Creates an empty cache. Does not allocate.
     pub(crate) fn new(alloc: Global, hasher: S) -> Noted<S>
         ensures { (S : StoreView) → AreNoted S result }
     {
@@ -60,11 +73,29 @@ impl<S: BuildHasher + Copy> Noted<S> {
             numbers: Numbers::new(alloc, hasher),
             above: HashMap::with_hasher(alloc, hasher),
             names: HashMap::with_hasher(alloc, hasher),
+            bytes: 0,
+            hasher,
         }
     }
 
-    // Whether the uid of one text is an ancestor of the entity with that of another, where both are noted. Takes no
-    // memory.
+    // Returns whether the cache may have no room for two more texts.
+    fn is_full(&self) -> bool {
+        self.above.len() >= MOST
+            || self.names.len() >= MOST
+            || self.bytes > MOST_BYTES - 2 * LONGEST
+    }
+
+    // Clears a full cache. Does not allocate.
+    fn make_room(&mut self, alloc: Global)
+        ensures { (S : StoreView) → AreNoted S self.old → AreNoted S self.new }
+    {
+        if self.is_full() {
+            *self = Noted::new(alloc, self.hasher);
+        }
+    }
+
+    // Returns whether the uid in `ancestor` is an ancestor of the entity with the uid in `child`, or `None` if a text
+    // is not cached. Does not allocate.
     pub(crate) fn is_below(&self, child: &[u8], ancestor: &[u8]) -> Option<bool>
         ensures { (S : StoreView) → AreNoted S self.now → IfSome result (λ b.
             AsksAbove has_ancestor S child.now ancestor.now (Ok b)) }
@@ -78,37 +109,39 @@ impl<S: BuildHasher + Copy> Noted<S> {
         }
     }
 
-    // Notes the ancestors of the entity with the uid of a text, unless that is done, while there is room. Takes memory; a
-    // refusal leaves what was noted.
+    // Caches the ancestors of the entity with the uid in a text, unless they are cached. After an error the cache is
+    // unchanged, except that more uids may have numbers.
     fn note_above(&mut self, alloc: Global, text: &[u8], entity: &Entity) -> Result<(), AllocError>
         ensures { (S : StoreView) → (u : EntityUID) → IsReadOf u text.now
             → finmap.get S.held u ≡ Some entity.now → AreNoted S self.old → AreNoted S self.new }
     {
-        if self.above.len() >= MOST || self.above.contains_key(text) {
+        if self.above.contains_key(text) {
             return Ok(());
         }
         let row = row_of(alloc, &mut self.numbers, entity)?;
-        let text = Vec::from_slice(alloc, text)?;
-        self.above.insert(text, row)?;
+        let key = Vec::from_slice(alloc, text)?;
+        self.above.insert(key, row)?;
+        self.bytes = self.bytes.saturating_add(text.len());
         Ok(())
     }
 
-    // Notes the number of the uid of a text, unless that is done, while there is room. Takes memory; a refusal leaves what
-    // was noted.
+    // Caches the number of the uid in a text, unless it is cached. After an error the cache is unchanged, except that
+    // the uid may have a number.
     fn note_name(&mut self, alloc: Global, text: &[u8], uid: EntityUID) -> Result<(), AllocError>
         ensures { (S : StoreView) → IsReadOf uid text.now → AreNoted S self.old → AreNoted S self.new }
     {
-        if self.names.len() >= MOST || self.names.contains_key(text) {
+        if self.names.contains_key(text) {
             return Ok(());
         }
         let number = self.numbers.number_of(alloc, uid)?;
-        let text = Vec::from_slice(alloc, text)?;
-        self.names.insert(text, number)?;
+        let key = Vec::from_slice(alloc, text)?;
+        self.names.insert(key, number)?;
+        self.bytes = self.bytes.saturating_add(text.len());
         Ok(())
     }
 
-    // Notes an entity that was asked about, with the text of its uid, and the uid that was looked for, with its text. Takes
-    // memory; a refusal leaves what was noted.
+    // Caches the queried entity by the text of its uid, and the other uid by its text. Does nothing if a text is too
+    // long. After an allocation failure every cached result is still correct.
     pub(crate) fn note(
         &mut self,
         alloc: Global,
@@ -121,6 +154,10 @@ impl<S: BuildHasher + Copy> Noted<S> {
             → finmap.get S.held u ≡ Some entity.now → IsReadOf uid ancestor.now → AreNoted S self.old
             → AreNoted S self.new }
     {
+        if child.len() > LONGEST || ancestor.len() > LONGEST {
+            return Ok(());
+        }
+        self.make_room(alloc);
         self.note_name(alloc, ancestor, uid)?;
         self.note_above(alloc, child, entity)
     }

@@ -1,4 +1,4 @@
-//! The calls on a store by the numbers of uids that its caller gave once.
+//! The calls on a store by the numbers of uids.
 ghost use Rattle.cedar_c_stores.specs.Numbers.{AsksForNumber, AsksNumbers, GivesNumber, NamesNumber};
 
 use crate::kept_store::KeptStore;
@@ -7,11 +7,16 @@ use std::alloc::Global;
 use std::hash::BuildHasher;
 
 impl<S: BuildHasher + Copy> KeptStore<S> {
-    /// The number of the uid that a text is, the same each time: the first uid that has none gets 0, the next 1, and so
-    /// on. It says nothing about whether the store has an entity with that uid, and stays good whatever becomes of the
-    /// store; a copy and a slice begin with none.
+    /// Returns the number of the uid in a text. The first uid gets 0, the next new one gets 1, and so on. Later calls
+    /// with the same uid return the same number. The store need not have an entity with the uid. Edits do not change
+    /// numbers. A copy or a slice begins without numbers.
     ///
-    /// Takes memory for the uid, which is kept; a refusal leaves all as it was.
+    /// # Errors
+    ///
+    /// - `NotAUid`: the text is not the text of a uid.
+    /// - `NoMemory`: an allocation failed.
+    ///
+    /// After an error nothing has changed.
     pub fn uid_number(&mut self, alloc: Global, text: &[u8]) -> Result<usize, Reason>
         ensures { GivesNumber text.now result self.old self.new }
     {
@@ -19,8 +24,11 @@ impl<S: BuildHasher + Copy> KeptStore<S> {
         Ok(self.numbers.number_of(alloc, uid)?)
     }
 
-    /// Whether the store has an entity with the uid of a number. `BadArgument` comes where no uid has this number.
-    /// Takes no memory.
+    /// Returns whether the store has an entity with the uid of a number. Does not allocate.
+    ///
+    /// # Errors
+    ///
+    /// - `BadArgument`: no uid has the number.
     pub fn has_number(&self, number: usize) -> Result<bool, Reason>
         ensures { AsksForNumber self.now.store self.now.numbers number result }
     {
@@ -30,8 +38,13 @@ impl<S: BuildHasher + Copy> KeptStore<S> {
         }
     }
 
-    /// Whether the entity with the uid of one number is a descendant of the uid of another. `BadArgument` comes where
-    /// one of both is no uid's number, `NoEntity` where the store has no such entity. Takes no memory.
+    /// Returns whether the entity with the uid of the number `child` is a descendant of the uid of the number
+    /// `ancestor`. Does not allocate.
+    ///
+    /// # Errors
+    ///
+    /// - `BadArgument`: no uid has one of the numbers.
+    /// - `NoEntity`: the store has no entity with the uid of `child`.
     pub fn is_descendant_of_numbers(&self, child: usize, ancestor: usize) -> Result<bool, Reason>
         ensures { AsksNumbers self.now.store self.now.numbers child ancestor result }
     {
@@ -47,8 +60,14 @@ impl<S: BuildHasher + Copy> KeptStore<S> {
         }
     }
 
-    /// The text of the uid of a number becomes the answer. `BadArgument` comes where no uid has this number. Takes memory
-    /// for the text; a refusal leaves all as it was.
+    /// Stores the text of the uid of a number in `answer`.
+    ///
+    /// # Errors
+    ///
+    /// - `BadArgument`: no uid has the number.
+    /// - `NoMemory`: an allocation failed.
+    ///
+    /// After an error nothing has changed.
     pub fn number_uid(&mut self, alloc: Global, number: usize) -> Result<(), Reason>
         ensures { NamesNumber number result self.old self.new }
     {

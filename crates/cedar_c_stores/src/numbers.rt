@@ -1,4 +1,4 @@
-//! Uids that a caller gave once, by their numbers.
+//! Numbered uids.
 ghost use Rattle.std.specs.Prelude.{◌≡◌, [], IfOk, OnErr, OnOk, slice_get};
 ghost use Rattle.std.specs.Option.{option_copied};
 ghost use Rattle.cedar_c_stores.specs.Numbers.{IsNumberOf, uids_with};
@@ -10,7 +10,8 @@ use std::alloc::{AllocError, Global};
 use std::hash::BuildHasher;
 use std::marker::Model;
 
-/// Uids, each once, in the order in which they came: the place of a uid is its number. Contracts see the list of them.
+/// A list of uids without duplicates, in the order in which they were added. The position of a uid is its number.
+/// Contracts see the list.
 #[derive(Drop)]
 pub struct Numbers<S: BuildHasher> {
     uids: IndexSet<SharedUid, S>,
@@ -26,7 +27,7 @@ impl<S: BuildHasher> Model for Numbers<S> {
 }
 
 impl<S: BuildHasher + Copy> Numbers<S> {
-    // No uid has a number. Takes no memory.
+    // Creates an empty list. Does not allocate.
     pub(crate) fn new(alloc: Global, hasher: S) -> Numbers<S>
         ensures { result ≡ [] }
     {
@@ -35,8 +36,7 @@ impl<S: BuildHasher + Copy> Numbers<S> {
         }
     }
 
-    // The number of a uid that is shared: the one that it has, or the next. Takes memory, and is refused only where that
-    // is; then all is as it was.
+    // Returns the number of a shared uid. Appends the uid if it has none. After an error nothing has changed.
     pub(crate) fn number_of_shared(&mut self, shared: SharedUid) -> Result<usize, AllocError>
         ensures uids { OnOk result (self.new ≡ uids_with self.old shared) }
         ensures number { IfOk result (IsNumberOf self.new shared) }
@@ -46,8 +46,7 @@ impl<S: BuildHasher + Copy> Numbers<S> {
         Ok(number)
     }
 
-    // The number of a uid: the one that it has, or the next. Takes memory for the uid, and is refused only where that
-    // is; then all is as it was.
+    // Returns the number of a uid. Appends the uid if it has none. After an error nothing has changed.
     pub(crate) fn number_of(&mut self, alloc: Global, uid: EntityUID) -> Result<usize, AllocError>
         ensures uids { OnOk result (self.new ≡ uids_with self.old uid) }
         ensures number { IfOk result (IsNumberOf self.new uid) }
@@ -57,7 +56,7 @@ impl<S: BuildHasher + Copy> Numbers<S> {
         self.number_of_shared(shared)
     }
 
-    // The uid with a number, if it is one's. Takes no memory.
+    // Returns the uid of a number. Does not allocate.
     pub(crate) fn uid_at(&self, number: usize) -> Option<&EntityUID>
         ensures { option_copied result ≡ slice_get self.now number }
     {

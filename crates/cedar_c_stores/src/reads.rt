@@ -1,4 +1,4 @@
-//! The calls that read a store: what it has with a uid, one of its entities, and the texts of both.
+//! The calls that read a store or one of its entities.
 ghost use Rattle.std.specs.Prelude.{◌≡◌, [], ◌∷◌, ◌++◌, IfOk, List, map, ℕ};
 ghost use Rattle.cedar_c_stores.specs.Stores.{Listing, has_parent};
 ghost use Rattle.cedar_c_stores.specs.Reads.{AnswersAt, AnswersOf, AreAllUids, AreKeysOf, AsksAbove, AsksOne};
@@ -12,7 +12,7 @@ use cedar_entities::{Dereference, Iter, Keys};
 use std::alloc::{AllocError, Global};
 use std::hash::BuildHasher;
 
-// The texts of the uids of entities.
+// Returns the uids of entities as texts.
 fn texts_of_entities(alloc: Global, entities: Iter<'_>) -> Result<Answer, AllocError>
     ensures { IfOk result (AreTextsOf (map uid_held entities.entry)) }
 {
@@ -23,7 +23,7 @@ fn texts_of_entities(alloc: Global, entities: Iter<'_>) -> Result<Answer, AllocE
     Ok(answer)
 }
 
-// Keys, as texts.
+// Returns keys as texts.
 fn texts_of_keys(alloc: Global, keys: Keys<'_>) -> Result<Answer, AllocError>
     ensures { IfOk result (λ a. a ≡ keys.entry) }
 {
@@ -34,7 +34,7 @@ fn texts_of_keys(alloc: Global, keys: Keys<'_>) -> Result<Answer, AllocError>
     Ok(answer)
 }
 
-// One text.
+// Returns the list of one text.
 fn one_text(alloc: Global, text: &str) -> Result<Answer, AllocError>
     ensures { IfOk result (λ a. a ≡ text.now ∷ []) }
 {
@@ -42,8 +42,13 @@ fn one_text(alloc: Global, text: &str) -> Result<Answer, AllocError>
 }
 
 impl<S: BuildHasher + Copy> KeptStore<S> {
-    /// What the store has with the uid that a text is: 2 where it has an entity; else 1 in a partial store, where it is
-    /// not known, and 0 in another. Takes memory.
+    /// Returns 2 if the store has an entity with the uid in a text. Otherwise returns 1 in a partial store, where it is
+    /// unknown whether the entity exists, and 0 in another store.
+    ///
+    /// # Errors
+    ///
+    /// - `NotAUid`: the text is not the text of a uid.
+    /// - `NoMemory`: an allocation failed.
     pub fn entity(&mut self, alloc: Global, text: &[u8]) -> Result<u32, Reason>
         ensures same { self.new ≡ self.old }
         ensures tells { FindsAt self.old.store text.now result }
@@ -56,8 +61,13 @@ impl<S: BuildHasher + Copy> KeptStore<S> {
         }
     }
 
-    /// How many attributes the entity with the uid that a text is has. `NoEntity` comes where the store has no such
-    /// entity. Takes memory for the uid.
+    /// Returns the number of attributes of the entity with the uid in a text. Allocates the uid.
+    ///
+    /// # Errors
+    ///
+    /// - `NotAUid`: the text is not the text of a uid.
+    /// - `NoEntity`: the store has no entity with the uid.
+    /// - `NoMemory`: an allocation failed.
     pub fn attrs_len(&mut self, alloc: Global, text: &[u8]) -> Result<usize, Reason>
         ensures same { self.new ≡ self.old }
         ensures tells { AsksOne attrs_count self.old.store text.now result }
@@ -69,7 +79,11 @@ impl<S: BuildHasher + Copy> KeptStore<S> {
         }
     }
 
-    /// How many tags it has, told as its attributes are.
+    /// Returns the number of tags of the entity with the uid in a text. Allocates the uid.
+    ///
+    /// # Errors
+    ///
+    /// The errors of `attrs_len`.
     pub fn tags_len(&mut self, alloc: Global, text: &[u8]) -> Result<usize, Reason>
         ensures same { self.new ≡ self.old }
         ensures tells { AsksOne tags_count self.old.store text.now result }
@@ -81,8 +95,13 @@ impl<S: BuildHasher + Copy> KeptStore<S> {
         }
     }
 
-    /// Whether the uid that the second text is is a parent of the entity with that of the first. `NoEntity` comes where
-    /// the store has no such entity. Takes memory for the two uids.
+    /// Returns whether the uid in `parent` is a parent of the entity with the uid in `child`. Allocates both uids.
+    ///
+    /// # Errors
+    ///
+    /// - `NotAUid`: a text is not the text of a uid.
+    /// - `NoEntity`: the store has no entity with the uid in `child`.
+    /// - `NoMemory`: an allocation failed.
     pub fn is_child_of(
         &mut self,
         alloc: Global,
@@ -103,7 +122,12 @@ impl<S: BuildHasher + Copy> KeptStore<S> {
         }
     }
 
-    /// Whether it is an indirect ancestor of it, told as a parent is.
+    /// Returns whether the uid in `ancestor` is an indirect ancestor of the entity with the uid in `child`. Allocates
+    /// both uids.
+    ///
+    /// # Errors
+    ///
+    /// The errors of `is_child_of`.
     pub fn is_indirect_descendant_of(
         &mut self,
         alloc: Global,
@@ -124,8 +148,14 @@ impl<S: BuildHasher + Copy> KeptStore<S> {
         }
     }
 
-    /// Whether this store and another have deeply equal entities with the uid that a text is. `NoEntity` comes where
-    /// one of the two has no such entity. Takes memory for the uid.
+    /// Returns whether the entities with the uid in a text are deeply equal in this store and in `other`. Allocates the
+    /// uid.
+    ///
+    /// # Errors
+    ///
+    /// - `NotAUid`: the text is not the text of a uid.
+    /// - `NoEntity`: one of the stores has no entity with the uid.
+    /// - `NoMemory`: an allocation failed.
     pub fn entity_is_equal(
         &mut self,
         alloc: Global,
@@ -145,8 +175,11 @@ impl<S: BuildHasher + Copy> KeptStore<S> {
         }
     }
 
-    /// The uids of all entities become the answer, each once, in an order of the store's own. Takes memory for the
-    /// texts; a refusal leaves the answer as it was, as it does in each call here.
+    /// Stores the uids of all entities in `answer`, in an unspecified order.
+    ///
+    /// # Errors
+    ///
+    /// Returns `NoMemory` if an allocation fails. After an error nothing has changed.
     pub fn uids(&mut self, alloc: Global) -> Result<(), Reason>
         ensures { AnswersOf AreAllUids result self.old self.new }
     {
@@ -154,8 +187,15 @@ impl<S: BuildHasher + Copy> KeptStore<S> {
         Ok(())
     }
 
-    /// The indirect ancestors of an entity become the answer, in the order of uids. `NoEntity` comes where the store
-    /// has no entity with the uid that a text is. Takes memory for the texts.
+    /// Stores the indirect ancestors of the entity with the uid in a text in `answer`, in ascending order of uid.
+    ///
+    /// # Errors
+    ///
+    /// - `NotAUid`: the text is not the text of a uid.
+    /// - `NoEntity`: the store has no entity with the uid.
+    /// - `NoMemory`: an allocation failed.
+    ///
+    /// After an error nothing has changed.
     pub fn indirect_ancestors(&mut self, alloc: Global, text: &[u8]) -> Result<(), Reason>
         ensures { Listing has_indirect IsFarAbove text.now result self.old self.new }
     {
@@ -168,7 +208,11 @@ impl<S: BuildHasher + Copy> KeptStore<S> {
         Ok(())
     }
 
-    /// The keys of the attributes of an entity become the answer, in byte order, as its indirect ancestors do.
+    /// Stores the keys of the attributes of the entity with the uid in a text in `answer`, in byte order.
+    ///
+    /// # Errors
+    ///
+    /// The errors of `indirect_ancestors`. After an error nothing has changed.
     pub fn keys(&mut self, alloc: Global, text: &[u8]) -> Result<(), Reason>
         ensures { AnswersAt (AreKeysOf attrs_of) text.now result self.old self.new }
     {
@@ -181,7 +225,11 @@ impl<S: BuildHasher + Copy> KeptStore<S> {
         Ok(())
     }
 
-    /// The keys of its tags become the answer, as those of the attributes do.
+    /// Stores the keys of the tags of the entity with the uid in a text in `answer`, in byte order.
+    ///
+    /// # Errors
+    ///
+    /// The errors of `indirect_ancestors`. After an error nothing has changed.
     pub fn tag_keys(&mut self, alloc: Global, text: &[u8]) -> Result<(), Reason>
         ensures { AnswersAt (AreKeysOf tags_of) text.now result self.old self.new }
     {
@@ -194,8 +242,11 @@ impl<S: BuildHasher + Copy> KeptStore<S> {
         Ok(())
     }
 
-    /// The text of the store becomes the answer, as its `Display` writes it. Takes memory for the text, and looks
-    /// through all entities for each.
+    /// Stores the text of the store, as its `Display` writes it, in `answer`. Scans all entities once for each entity.
+    ///
+    /// # Errors
+    ///
+    /// Returns `NoMemory` if an allocation fails. After an error nothing has changed.
     pub fn text(&mut self, alloc: Global) -> Result<(), Reason>
         ensures { AnswersOf (λ _ texts. IsOneText texts) result self.old self.new }
     {
@@ -204,8 +255,11 @@ impl<S: BuildHasher + Copy> KeptStore<S> {
         Ok(())
     }
 
-    /// The text of an entity becomes the answer, as its `Display` writes it. `NoEntity` comes where the store has no
-    /// entity with the uid that a text is. Takes memory for the text.
+    /// Stores the text of the entity with the uid in a text, as its `Display` writes it, in `answer`.
+    ///
+    /// # Errors
+    ///
+    /// The errors of `indirect_ancestors`. After an error nothing has changed.
     pub fn entity_text(&mut self, alloc: Global, text: &[u8]) -> Result<(), Reason>
         ensures { AnswersAt (λ _ texts. IsOneText texts) text.now result self.old self.new }
     {

@@ -1,4 +1,4 @@
-//! The reasons and the texts of what a store refuses.
+//! The reasons and the texts of the errors of a store.
 ghost use Rattle.std.specs.Prelude.{◌≡◌, ◌≢◌, ◌++◌, IfOk, OnOk};
 ghost use Rattle.std.specs.List.{AllByRecursion, flat_map};
 ghost use Rattle.cedar_c_stores.specs.Stores.{IsRefusalText, closure_names, closure_reason, key_named, reason_of};
@@ -12,7 +12,7 @@ use cedar_graph::TcError;
 use cedar_ids::entity::EntityUID;
 use std::alloc::{AllocError, Global};
 
-// The reason that an error of the closure is.
+// Returns the reason of an error of the closure.
 fn closure_reason(error: &TcError<EntityUID>) -> Reason
     ensures { result ≡ closure_reason error.now }
 {
@@ -23,7 +23,7 @@ fn closure_reason(error: &TcError<EntityUID>) -> Reason
     }
 }
 
-// The reason that an error is.
+// Returns the reason of an error.
 pub(crate) fn reason_of(error: &EntitiesError) -> Reason
     ensures { result ≡ reason_of error.now }
 {
@@ -38,7 +38,7 @@ pub(crate) fn reason_of(error: &EntitiesError) -> Reason
     }
 }
 
-// Adds the uids that an error of the closure names.
+// Appends the uids in an error of the closure.
 fn push_closure(
     alloc: Global,
     out: &mut Vec<u8>,
@@ -58,7 +58,7 @@ fn push_closure(
     }
 }
 
-// Adds what an error names.
+// Appends the uids or the key in an error.
 fn push_named(alloc: Global, out: &mut Vec<u8>, error: &EntitiesError) -> Result<(), AllocError>
     ensures { OnOk result (AllByRecursion IsAsciiUid (uids_named error.now) →
         out.new.items ≡ out.old.items ++ (flat_map spaced (uids_named error.now) ++ key_named error.now)) }
@@ -83,14 +83,14 @@ fn push_named(alloc: Global, out: &mut Vec<u8>, error: &EntitiesError) -> Result
     }
 }
 
-// A reason that is not want of memory, and the text of a refusal for it.
+// The reason of an error other than an allocation failure, and the text of the error.
 #[derive(Drop)]
 pub(crate) struct Told {
     pub(crate) reason: Reason,
     pub(crate) text: Vec<u8>,
 }
 
-// What a store refuses for a reason: its words, and what the error names.
+// Returns a reason with the text of the error: the words of the reason, then the uids or the key in the error.
 fn told_for(alloc: Global, reason: Reason, error: &EntitiesError) -> Result<Told, AllocError>
     requires { reason ≡ reason_of error.now }
     ensures { IfOk result (λ t. (t.reason ≡ reason_of error.now) × IsRefusalText error.now t.text.items) }
@@ -101,7 +101,7 @@ fn told_for(alloc: Global, reason: Reason, error: &EntitiesError) -> Result<Told
     Ok(Told { reason, text })
 }
 
-// What a store refuses, and want of memory where that is what it wants.
+// Returns the reason and the text of an error, or `AllocError` if the error is an allocation failure.
 pub(crate) fn told_by(alloc: Global, error: &EntitiesError) -> Result<Told, AllocError>
     ensures { IfOk result (λ t. (t.reason ≡ reason_of error.now) × (t.reason ≢ reasons.NoMemory)
         × IsRefusalText error.now t.text.items) }

@@ -1,4 +1,4 @@
-//! What a caller says of entities, gathered: parents, indirect ancestors, attributes and tags.
+//! The parts of entities as they are collected: parents, indirect ancestors, attributes and tags.
 ghost use Rattle.std.specs.Prelude.{◌≡◌, ◌<◌, ◌≤◌, ◌⊎◌, IfErr, IfOk, length, map, MatchResult, OnOk, string_bytes};
 ghost use Rattle.std.specs.FinSet as set;
 ghost use Rattle.std.specs.List.{AllZip};
@@ -25,7 +25,7 @@ use std::collections::HashSet;
 use std::marker::Model;
 use std::rc::Rc;
 
-// What is said of an entity. Contracts see it.
+// The parts of an entity. Contracts see them as `Said`.
 #[derive(Drop)]
 pub(crate) struct Row {
     uid: SharedUid,
@@ -53,7 +53,7 @@ impl Model for Row {
     } };
 }
 
-// An entity with a uid, these attributes and tags, and nothing else.
+// Creates an entity with a uid, attributes and tags, and without ancestors.
 fn with_fields(
     alloc: Global,
     uid: EntityUID,
@@ -68,7 +68,7 @@ fn with_fields(
     Ok(entity)
 }
 
-// An entity without ancestors gets parents, which stay shared. They are put in ascending, each behind the one before.
+// Adds shared parents to an entity without ancestors. Adds them in ascending order, so each is appended.
 fn add_parents(entity: &mut Entity, parents: Vec<SharedUid>) -> Result<(), AllocError>
     requires parents { entity.old.parents ≡ set.empty }
     requires indirect { entity.old.indirect ≡ set.empty }
@@ -81,7 +81,7 @@ fn add_parents(entity: &mut Entity, parents: Vec<SharedUid>) -> Result<(), Alloc
     Ok(())
 }
 
-// An entity without indirect ancestors gets these, which stay shared, but for its parents.
+// Adds shared indirect ancestors to an entity without indirect ancestors. Parents are skipped.
 fn add_above(entity: &mut Entity, above: Vec<SharedUid>) -> Result<(), AllocError>
     requires { entity.old.indirect ≡ set.empty }
     ensures { OnOk result (entity.new ≡ record entity.old {
@@ -93,7 +93,7 @@ fn add_above(entity: &mut Entity, above: Vec<SharedUid>) -> Result<(), AllocErro
 }
 
 impl Row {
-    // What is said of a uid and its parents, and nothing else.
+    // Creates the parts of an entity that has only a uid and parents.
     fn of(alloc: Global, listed: Listed) -> Row
         ensures { result ≡ said_of listed }
     {
@@ -107,7 +107,7 @@ impl Row {
         }
     }
 
-    // One more ancestor.
+    // Appends an indirect ancestor.
     fn add_above(&mut self, uid: SharedUid) -> Result<(), AllocError>
         ensures { OnOk result (self.new ≡ with_above uid self.old) }
     {
@@ -115,7 +115,7 @@ impl Row {
         Ok(())
     }
 
-    // One more attribute or tag.
+    // Appends an attribute (`part` 0) or a tag (`part` 1).
     fn add_field(&mut self, part: u32, key: String, value: PartialValue) -> Result<(), Reason>
         ensures ok { OnOk result ((part ≤ 1) × (self.new ≡ with_field part (string_bytes key) value self.old)) }
         ensures err { IfErr result (λ w. (w ≡ NoMemory) ⊎ ((w ≡ BadArgument) × (1 < part))) }
@@ -133,7 +133,7 @@ impl Row {
         }
     }
 
-    // The entity of which this is said.
+    // Creates the entity with these parts.
     fn into_entity(self, alloc: Global) -> Result<Rc<Entity>, AllocError>
         ensures { IfOk result (λ e. IsEntityOf self e.value) }
     {
@@ -151,7 +151,7 @@ impl Row {
     }
 }
 
-// What is said of uids and their parents.
+// Creates the parts of entities that have only uids and parents.
 fn rows_of(alloc: Global, listed: Vec<Listed>) -> Result<Vec<Row>, AllocError>
     ensures { IfOk result (λ v. v.items ≡ map said_of listed.items) }
 {
@@ -162,7 +162,7 @@ fn rows_of(alloc: Global, listed: Vec<Listed>) -> Result<Vec<Row>, AllocError>
     Ok(rows)
 }
 
-// What is said of the first `count` of some uids by edges to parents.
+// Creates the parts of entities with the first `count` uids, and with the parents in the edges.
 pub(crate) fn first_rows(
     alloc: Global,
     uids: &[SharedUid],
@@ -180,7 +180,7 @@ pub(crate) fn first_rows(
     }
 }
 
-// The one at a place has one more ancestor, where there is one.
+// Appends an indirect ancestor to the row at a position. Returns `BadArgument` if there is none.
 fn put_above_at(rows: &mut Vec<Row>, place: usize, uid: SharedUid) -> Result<(), Reason>
     ensures ok { OnOk result ((place < length rows.old.items)
         × (rows.new.items ≡ changed_at place (with_above uid) rows.old.items)) }
@@ -193,7 +193,7 @@ fn put_above_at(rows: &mut Vec<Row>, place: usize, uid: SharedUid) -> Result<(),
     Ok(())
 }
 
-// The ancestors that edges lead to go to the rows from which they come.
+// Appends the target of each edge to the indirect ancestors of its source.
 pub(crate) fn put_above(
     rows: &mut Vec<Row>,
     uids: &[SharedUid],
@@ -209,7 +209,7 @@ pub(crate) fn put_above(
     Ok(())
 }
 
-// The one at a place has one more attribute or tag, where there is one.
+// Appends an attribute or tag to the row of a term. Returns `BadArgument` if there is no such row or part.
 fn put_field_at(
     rows: &mut Vec<Row>,
     term: &Term,
@@ -231,7 +231,7 @@ fn put_field_at(
     }
 }
 
-// The nodes of a term.
+// Returns the nodes of a term, or `BadArgument` if they are out of range.
 fn nodes_at<'a>(nodes: &'a [Node], term: &Term) -> Result<&'a [Node], Reason>
     ensures { MatchResult result (λ found. HasNodes nodes.now term.now × (found.now ≡ nodes_of nodes.now term.now))
         (λ w. (w ≡ BadArgument) × (HasNodes nodes.now term.now → ⊥)) }
@@ -242,7 +242,7 @@ fn nodes_at<'a>(nodes: &'a [Node], term: &Term) -> Result<&'a [Node], Reason>
     }
 }
 
-// The value of a term.
+// Decodes the value of a term.
 fn value_at(alloc: Global, text: &[u8], nodes: &[Node], term: &Term) -> Result<PartialValue, Reason>
     ensures { MatchResult result (IsValueOf text.now nodes.now term.now) (IsNoValueOf text.now nodes.now term.now) }
 {
@@ -252,7 +252,7 @@ fn value_at(alloc: Global, text: &[u8], nodes: &[Node], term: &Term) -> Result<P
     }
 }
 
-// The field of a term goes to the row at its place.
+// Adds the attribute or tag of a term to its row.
 fn put_term(
     alloc: Global,
     rows: &mut Vec<Row>,
@@ -271,7 +271,7 @@ fn put_term(
     }
 }
 
-// The fields of terms go to the rows at their places.
+// Adds the attributes and tags of terms to their rows.
 pub(crate) fn put_terms(
     alloc: Global,
     rows: &mut Vec<Row>,
@@ -288,7 +288,7 @@ pub(crate) fn put_terms(
     Ok(())
 }
 
-// The entities of which this is said.
+// Creates an entity from each row.
 pub(crate) fn entities_said(alloc: Global, rows: Vec<Row>) -> Result<Vec<Rc<Entity>>, AllocError>
     ensures { IfOk result (λ v. AllZip IsEntityOf rows.items (entities_in v.items)) }
 {

@@ -1,4 +1,4 @@
-//! The calls on a store that take lists of a caller.
+//! The calls on a store that take lists of entities.
 ghost use Rattle.std.specs.Prelude.{◌≡◌, MatchResult};
 ghost use Rattle.cedar_entity_maps.specs.Plain.{entities_in};
 ghost use Rattle.cedar_c_stores.specs.Lists.{AreListed, IsUnlisted};
@@ -13,22 +13,22 @@ use std::alloc::Global;
 use std::hash::BuildHasher;
 use std::rc::Rc;
 
-/// The lists by which a caller says entities: uids, which are parts of a text, of which the first `count` are those of
-/// the entities, and edges from these to their parents, by the places of both among the uids.
+/// A list of entities as a caller passes it: uids in parts of a text, and edges between positions among the uids. The
+/// first `count` uids are the uids of the entities. The edges lead from entities to parents.
 #[derive(Clone, Copy)]
 pub struct EntityLists<'a> {
-    /// The text that the uids are parts of.
+    /// The text with the uids.
     pub text: &'a [u8],
-    /// The uids of the entities, and behind them those of further parents.
+    /// The parts of the text that are uids: the uids of the entities, then the uids of other parents.
     pub uids: &'a [Span],
-    /// How many entities there are.
+    /// The number of entities.
     pub count: usize,
     /// The edges from entities to parents.
     pub edges: &'a [Edge],
 }
 
 impl EntityLists<'_> {
-    // The entities that the lists say.
+    // Creates the entities in the lists.
     fn entities(&self, alloc: Global, known: &mut Known) -> Result<Vec<Rc<Entity>>, Reason>
         ensures { MatchResult result
             (λ v. AreListed self.now.text.now self.now.uids.now self.now.count self.now.edges.now
@@ -40,12 +40,21 @@ impl EntityLists<'_> {
 }
 
 impl<S: BuildHasher + Copy> KeptStore<S> {
-    /// The entities that lists say become the store, in the mode of a number: it is what adding them to the store
-    /// without entities gives.
+    /// Replaces the store by the entities in `lists`, with the mode of this number. The new store is the result of
+    /// adding these entities to an empty store. The old store is dropped after the new one is created.
     ///
-    /// What is read wrong, as by `entities_of` and `mode_of`, leaves all as it was; so does want of memory while that
-    /// is read. A refusal of the call on the store, for memory too, leaves the store without entities; want of memory
-    /// leaves the text of the last refusal, as it does in each call here. Takes memory.
+    /// # Errors
+    ///
+    /// - `BadArgument`: there is no mode with this number, there are fewer uids than entities, or a part or an edge is
+    ///   out of range.
+    /// - `NotAUid`: a part is not the text of a uid.
+    /// - `Duplicate`: two entities have the same uid, but are not deeply equal.
+    /// - `Cycle`: an entity reaches itself.
+    /// - `NotClosed`: an ancestor of an ancestor is missing, in the mode `EnforceAlreadyComputed`.
+    /// - `NoMemory`: an allocation failed.
+    ///
+    /// After an error the store is unchanged. The text of an error of the store becomes the text of the last error.
+    /// After `BadArgument` and `NotAUid` the old text is kept. After `NoMemory` it is kept too.
     pub fn build(&mut self, alloc: Global, lists: EntityLists<'_>, mode: u32) -> Result<(), Reason>
         ensures { BuildsListed lists.entry.text.now lists.entry.uids.now lists.entry.count
             lists.entry.edges.now mode result self.old self.new }
@@ -58,8 +67,12 @@ impl<S: BuildHasher + Copy> KeptStore<S> {
         self.build_list(alloc, list, mode)
     }
 
-    /// The entities that lists say are added, as `Entities::add_entities` does, in the mode of a number. Refused as
-    /// `build` is.
+    /// Adds the entities in `lists`, as `Entities::add_entities` does, with the mode of this number.
+    ///
+    /// # Errors
+    ///
+    /// The errors of `build`. After an error the store is unchanged. Only an allocation failure can instead leave it
+    /// empty, and partial exactly if it was partial before.
     pub fn add(&mut self, alloc: Global, lists: EntityLists<'_>, mode: u32) -> Result<(), Reason>
         ensures { AddsListed lists.entry.text.now lists.entry.uids.now lists.entry.count
             lists.entry.edges.now mode result self.old self.new }
@@ -72,8 +85,11 @@ impl<S: BuildHasher + Copy> KeptStore<S> {
         self.add_list(alloc, list, mode)
     }
 
-    /// The entities that lists say are put over what the store holds, as `Entities::upsert_entities` does, in the mode
-    /// of a number. Refused as `build` is.
+    /// Upserts the entities in `lists`, as `Entities::upsert_entities` does, with the mode of this number.
+    ///
+    /// # Errors
+    ///
+    /// The errors of `add`, except `Duplicate`. After an error the store is as after an error of `add`.
     pub fn upsert(&mut self, alloc: Global, lists: EntityLists<'_>, mode: u32) -> Result<(), Reason>
         ensures { UpsertsListed lists.entry.text.now lists.entry.uids.now lists.entry.count
             lists.entry.edges.now mode result self.old self.new }
@@ -86,8 +102,18 @@ impl<S: BuildHasher + Copy> KeptStore<S> {
         self.upsert_list(alloc, list, mode)
     }
 
-    /// The entities with the uids that parts of a text are are taken out, as `Entities::remove_entities` does, in the
-    /// mode of a number. Refused as `build` is.
+    /// Removes the entities with the uids in parts of a text, as `Entities::remove_entities` does, with the mode of
+    /// this number.
+    ///
+    /// # Errors
+    ///
+    /// - `BadArgument`: there is no mode with this number, or a part is not within the text.
+    /// - `NotAUid`: a part is not the text of a uid.
+    /// - `Cycle`: an entity reaches itself.
+    /// - `NotClosed`: an ancestor of an ancestor is missing, in the mode `EnforceAlreadyComputed`.
+    /// - `NoMemory`: an allocation failed.
+    ///
+    /// After an error the store is as after an error of `add`.
     pub fn remove(
         &mut self,
         alloc: Global,

@@ -1,4 +1,4 @@
-//! The calls that read one attribute or tag of an entity.
+//! The calls that read an attribute or a tag of an entity.
 ghost use Rattle.std.specs.Prelude.{IfOk};
 ghost use Rattle.std.specs.Option.{option_map};
 ghost use Rattle.cedar_c_stores.specs.Reads.{attrs_of, tags_of};
@@ -13,14 +13,14 @@ use cedar_terms::PartialValue;
 use std::alloc::{AllocError, Global};
 use std::hash::BuildHasher;
 
-// The text that the nodes of a value stand over, as an answer, and the nodes.
+// The nodes of a value, and the text to which they refer, as an answer.
 #[derive(Drop)]
 struct Shown {
     answer: Answer,
     nodes: Vec<Node>,
 }
 
-// A partial value as nodes over one text.
+// Encodes a partial value as nodes over a text.
 fn shown_value(alloc: Global, value: &PartialValue) -> Result<Shown, AllocError>
     ensures { IfOk result (λ s. IsShown value.now s.answer s.nodes.items) }
 {
@@ -30,7 +30,7 @@ fn shown_value(alloc: Global, value: &PartialValue) -> Result<Shown, AllocError>
     Ok(Shown { answer, nodes })
 }
 
-// A partial value as nodes, if there is one.
+// Encodes a partial value, if there is one.
 fn shown_if(alloc: Global, value: Option<&PartialValue>) -> Result<Option<Shown>, AllocError>
     ensures { IfOk result (IsShownIf (option_map (λ v. v.now) value.entry)) }
 {
@@ -44,7 +44,7 @@ fn shown_if(alloc: Global, value: Option<&PartialValue>) -> Result<Option<Shown>
 }
 
 impl<S: BuildHasher + Copy> KeptStore<S> {
-    // Keeps what is shown, if something is, and tells whether it is. Takes no memory.
+    // Stores an encoded value, if there is one, and returns whether there is one. Does not allocate.
     fn keep_shown(&mut self, shown: Option<Shown>) -> bool
         ensures { KeepsShown shown result self.old self.new }
     {
@@ -59,11 +59,17 @@ impl<S: BuildHasher + Copy> KeptStore<S> {
         }
     }
 
-    /// Whether the entity with the uid that a text is has an attribute at a key. Where it has, its partial value as
-    /// nodes becomes the nodes that are kept, and the text that they stand over the answer, as one text.
+    /// Returns whether the entity with the uid in a text has an attribute at a key. If it has, stores the nodes of its
+    /// partial value in `nodes`, and their text as the only text in `answer`. Otherwise nothing changes.
     ///
-    /// `NoEntity` comes where the store has no such entity, `NotUtf8` where the key is no text. A refusal leaves all as
-    /// it was, and so does a key that is not there. Takes memory for the uid, and for the nodes and their text.
+    /// # Errors
+    ///
+    /// - `NotAUid`: the text is not the text of a uid.
+    /// - `NoEntity`: the store has no entity with the uid.
+    /// - `NotUtf8`: the key is not UTF-8.
+    /// - `NoMemory`: an allocation failed.
+    ///
+    /// After an error nothing has changed.
     pub fn get(&mut self, alloc: Global, text: &[u8], key: &[u8]) -> Result<bool, Reason>
         ensures { GetsAt attrs_of text.now key.now result self.old self.new }
     {
@@ -76,7 +82,12 @@ impl<S: BuildHasher + Copy> KeptStore<S> {
         Ok(self.keep_shown(found))
     }
 
-    /// Whether it has a tag at a key, told and kept as an attribute is.
+    /// Returns whether the entity with the uid in a text has a tag at a key. Stores the nodes and their text as `get`
+    /// does.
+    ///
+    /// # Errors
+    ///
+    /// The errors of `get`. After an error nothing has changed.
     pub fn get_tag(&mut self, alloc: Global, text: &[u8], key: &[u8]) -> Result<bool, Reason>
         ensures { GetsAt tags_of text.now key.now result self.old self.new }
     {

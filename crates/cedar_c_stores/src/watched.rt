@@ -1,4 +1,4 @@
-//! A store that is kept, with what is known of it: whether it is plain, so that an edit may be tried before it is made.
+//! A store, with the knowledge whether it is plain. An edit of a plain store can be tried before it is made.
 ghost use Rattle.std.specs.Prelude.{◌≡◌, ◌↔◌, IfErr, IfOk, IfSome, IsTrue, None, Ok, OnErr, false, true};
 ghost use Rattle.std.specs.FinMap as finmap;
 ghost use Rattle.std.specs.Option.{option_map};
@@ -26,14 +26,14 @@ use std::hash::BuildHasher;
 use std::marker::Model;
 use std::rc::Rc;
 
-/// A store, whether it is known to be the plain store of a world, and what questions on it have found. Contracts see the
-/// store. Each call that stands here under the name of one of `Entities` is that one.
+/// A store, whether it is known to be plain, and cached query results. A method with the name of a method of `Entities`
+/// does the same. Contracts see the store.
 #[derive(Drop)]
 pub struct Watched<S: BuildHasher> {
     entities: Entities<S>,
     plain: bool,
     noted: Noted<S>,
-    // How many questions went by that were not noted, up to as many as there are entities.
+    // The number of queries before the cache is used. It is at most the number of entities.
     asked: usize,
 }
 
@@ -54,7 +54,7 @@ impl<S: BuildHasher> Model for Watched<S> {
 }
 
 impl<S: BuildHasher + Copy> Watched<S> {
-    // A store of which nothing is noted, and whether it is known to be plain.
+    // Creates the value for a store without cached results. `plain` states that the store is known to be plain.
     fn of(alloc: Global, hasher: S, entities: Entities<S>, plain: bool) -> Watched<S>
         requires { IsTrue plain → IsSomePlain entities }
         ensures { result ≡ entities }
@@ -67,7 +67,7 @@ impl<S: BuildHasher + Copy> Watched<S> {
         }
     }
 
-    // The store without entities, which is plain.
+    // Creates an empty store, which is plain.
     pub(crate) fn with_hasher(alloc: Global, hasher: S) -> Watched<S>
         ensures value { result ≡ empty_store }
         ensures plain { IsPlainStore empty_world result }
@@ -80,7 +80,7 @@ impl<S: BuildHasher + Copy> Watched<S> {
         }
     }
 
-    // The store with the same entities, now partial: a plain one stays plain.
+    // Returns the store with the same entities, now partial. A plain store stays plain.
     pub(crate) fn partial(self) -> Watched<S>
         ensures value { result ≡ record { held = self.held; partial = true } }
         ensures plain { (W : World) → IsPlainStore W self →
@@ -100,7 +100,7 @@ impl<S: BuildHasher + Copy> Watched<S> {
         }
     }
 
-    // The store of these entities: what adding them to the store without entities gives.
+    // Creates a store by adding the entities to an empty store.
     pub(crate) fn built(
         alloc: Global,
         hasher: S,
@@ -117,7 +117,8 @@ impl<S: BuildHasher + Copy> Watched<S> {
         }
     }
 
-    // Makes an edit; nothing is noted then. A refusal leaves the store as it was, but that want of memory may leave it without entities.
+    // Makes an edit, and clears the cache. After an error the store is unchanged, except that an allocation failure can
+    // leave it empty. It is then partial exactly if it was before.
     pub(crate) fn edit(
         &mut self,
         alloc: Global,
@@ -139,7 +140,7 @@ impl<S: BuildHasher + Copy> Watched<S> {
         }
     }
 
-    // A copy that shares nothing with the store: that of a plain one is plain.
+    // Returns a deep copy, which shares nothing with the store. The copy of a plain store is plain.
     pub(crate) fn store_apart(&self, alloc: Global, hasher: S) -> Result<Watched<S>, AllocError>
         ensures { IfOk result (λ w. w ≡ self.now) }
     {
@@ -147,7 +148,7 @@ impl<S: BuildHasher + Copy> Watched<S> {
         Ok(Watched::of(alloc, hasher, entities, self.plain))
     }
 
-    // A copy of the store, which shares its entities: that of a plain one is plain.
+    // Returns a copy, which shares the entities. The copy of a plain store is plain.
     pub(crate) fn store_copy(&self, alloc: Global, hasher: S) -> Result<Watched<S>, AllocError>
         ensures { IfOk result (λ w. w ≡ self.now) }
     {
@@ -155,7 +156,7 @@ impl<S: BuildHasher + Copy> Watched<S> {
         Ok(Watched::of(alloc, hasher, entities, self.plain))
     }
 
-    // The slice at some uids: that of a plain store is plain.
+    // Returns the slice at uids. The slice of a plain store is plain.
     pub(crate) fn slice(
         &self,
         alloc: Global,
@@ -176,21 +177,21 @@ impl<S: BuildHasher + Copy> Watched<S> {
         }
     }
 
-    /// The store alone. Takes no memory.
+    /// Returns the store without the cache. Does not allocate.
     pub fn entities(&self) -> &Entities<S>
         ensures { result.now ≡ self.now }
     {
         &self.entities
     }
 
-    /// Whether the store is partial. Takes no memory.
+    /// Returns whether the store is partial. Does not allocate.
     pub fn is_partial(&self) -> bool
         ensures { result ≡ self.now.partial }
     {
         self.entities.is_partial()
     }
 
-    /// How many entities there are. Takes no memory.
+    /// Returns the number of entities. Does not allocate.
     pub fn len(&self) -> usize
         ensures value { result ≡ finmap.len self.now.held }
         ensures plain { (W : World) → IsPlainStore W self.now → result ≡ finmap.len W.entities }
@@ -198,7 +199,7 @@ impl<S: BuildHasher + Copy> Watched<S> {
         self.entities.len()
     }
 
-    /// The entity that the store has with a uid, if there is one. Takes no memory.
+    /// Returns the entity with a uid, if the store has one. Does not allocate.
     pub fn stored(&self, uid: &EntityUID) -> Option<&Entity>
         ensures value { option_map (λ e. e.now) result ≡ finmap.get self.now.held uid.now }
         ensures keyed { IsKeyed self.now.held }
@@ -206,7 +207,11 @@ impl<S: BuildHasher + Copy> Watched<S> {
         self.entities.stored(uid)
     }
 
-    /// What the store has with a uid. Takes memory for an unknown alone.
+    /// Looks up a uid, as `Entities::entity` does. Allocates only if the result is an unknown.
+    ///
+    /// # Errors
+    ///
+    /// Returns `AllocError` if an allocation fails.
     pub fn entity(
         &self,
         alloc: Global,
@@ -220,7 +225,7 @@ impl<S: BuildHasher + Copy> Watched<S> {
         self.entities.entity(alloc, uid)
     }
 
-    /// The entities, each once, in an order of their own. Takes no memory.
+    /// Iterates over the entities, in an unspecified order. Does not allocate.
     pub fn iter(&self) -> Iter<'_>
         ensures lists { ListsHeld self.now.held result }
         ensures keyed { IsKeyed self.now.held }
@@ -228,24 +233,24 @@ impl<S: BuildHasher + Copy> Watched<S> {
         self.entities.iter()
     }
 
-    /// Whether both stores have deeply equal entities. Takes no memory.
+    /// Returns whether both stores have deeply equal entities. Does not allocate.
     pub fn deep_eq(&self, other: &Watched<S>) -> bool
         ensures { IsTrue result ↔ AreDeepEqual self.now other.now }
     {
         self.entities.deep_eq(&other.entities)
     }
 
-    // Whether the uid of one text is an ancestor of the entity with that of another, where questions before have found it.
-    // Takes no memory.
+    // Returns whether the uid in `ancestor` is an ancestor of the entity with the uid in `child`, or `None` if a text
+    // is not cached. Does not allocate.
     pub(crate) fn is_noted_below(&self, child: &[u8], ancestor: &[u8]) -> Option<bool>
         ensures { IfSome result (λ b. AsksAbove has_ancestor self.now child.now ancestor.now (Ok b)) }
     {
         self.noted.is_below(child, ancestor)
     }
 
-    // Notes the entity with a uid, if there is one, for questions to come, by the text of its uid, and a uid that is looked
-    // for by its text, once as many questions went by as there are entities: who asks of each entity once pays for no note.
-    // Takes memory; where it is refused, what was noted stays, and is looked for again.
+    // Caches the entity with a uid, if there is one, by the text of its uid, and the uid that was looked up by its
+    // text. Does nothing for the first queries, as many as there are entities, so that querying each entity once costs
+    // no cache. An allocation failure is ignored, because every cached result is still correct.
     pub(crate) fn note(
         &mut self,
         alloc: Global,
@@ -267,7 +272,7 @@ impl<S: BuildHasher + Copy> Watched<S> {
         }
     }
 
-    // The store, where nothing is wrong with it.
+    // Returns the store if it is valid.
     pub(crate) fn try_validate(self, alloc: Global) -> Result<Entities<S>, EntitiesError>
         ensures ok { IfOk result (λ s. (s ≡ self) × IsValidStore self.held) }
         ensures err { IfErr result (IsStoreFault self.held) }

@@ -1,6 +1,7 @@
--- Nodes are put before others, while what is still to be written stands on a stack.
+-- Nodes are written before others, and the remaining values are on a stack.
 use Rattle.std.proofs.Common.{◌≡◌, ◌∙◌, ap, sym, refl, subst, ℕ, ◌+◌, ◌-◌, ◌<◌, length, take, List, [], ◌∷◌, ◌++◌}
 use Rattle.std.proofs.Common.{append_assoc, arith, length-append, String, string_bytes}
+use Rattle.std.specs.Prelude.{pos}
 use Rattle.std.proofs.Math.ListN.{get_or}
 use Rattle.std.proofs.Math.Seq.{drop-append_seam}
 use Rattle.std.proofs.lemmas.List.{reverse-append, take_all, take_more}
@@ -24,26 +25,26 @@ use Rattle.cedar_c_trees.specs.Items.{Item, text_item, uid_item, call_item, unkn
 use Rattle.cedar_c_trees.specs.Items.{Tree, node, Trees, no_trees, tree_then, flat, flats}
 use Rattle.cedar_c_trees.specs.Plans.{expr_plan, exprs_count, exprs_plan, fields_count, fields_plan, value_plan}
 use Rattle.cedar_c_trees.specs.Plans.{values_count, values_plan, text_leaf, HasNames, HaveNames}
-use Rattle.cedar_c_trees.specs.Writes.{AllNote, IsWrittenAs, Notes, WrittenParts}
+use Rattle.cedar_c_trees.specs.Writes.{AllNote, IsBlankBeside, IsNodeFor, IsWrittenAs, Notes, WrittenParts}
 use Rattle.cedar_c_trees.specs.declared.node.Node.{Node}
 use Rattle.cedar_c_trees.specs.declared.pending.Pending.{Pending}
 use Rattle.cedar_c_trees.specs.declared.pending.Pending.TheVariants as pendings
 use Rattle.cedar_c_trees.proofs.Kept.{all_kept, printed_text, read_of_printed, zip_append}
 
--- the text behind some bytes
+-- The text after some bytes.
 part_behind : (bytes text : List ℕ)
     → part (bytes ++ text) (record { start = length bytes; end = length (bytes ++ text) }) ≡ text
 part_behind bytes text =
     ap (take (length (bytes ++ text) - length bytes)) (drop-append_seam bytes text)
     ∙ take_all (length (bytes ++ text) - length bytes) text (omega (arith, length-append bytes text))
 
--- a node is written with its text
+-- A node is written with its text.
 pub text_put : (text bytes bytes' : List ℕ) (nodes nodes' : List Node) (start end : ℕ) (n : Node) (old : WrittenParts)
     → record { bytes = bytes; nodes = reverse nodes } ≡ old → IsUtf8 text → start ≡ length bytes
     → bytes' ≡ bytes ++ text → end ≡ length bytes' → nodes' ≡ nodes ++ n ∷ []
-    → n.at ≡ record { start = start; end = end }
+    → n.at ≡ record { start = start; end = end } → n.number ≡ pos 0
     → HasText n.kind n.len text old (record { bytes = bytes'; nodes = reverse nodes' })
-text_put text bytes bytes' nodes nodes' start end n old o u s b e f a =
+text_put text bytes bytes' nodes nodes' start end n old o u s b e f a z =
     let q : part bytes' n.at ≡ text =
     ap (part bytes') (a ∙ ap (λ k. record { start = k; end = end }) s
     ∙ ap (λ k. record { start = length bytes; end = k }) (e ∙ ap length b))
@@ -61,16 +62,22 @@ text_put text bytes bytes' nodes nodes' start end n old o u s b e f a =
       };
       kind_is = refl;
       len_is = refl;
+      number_is = z;
       at = (subst (IsInside bytes') (sym a) i, subst IsUtf8 (sym q) u, sym q);
     }
 
--- one node that says an item
+-- A node that was written for an item.
 pub adds_one : (n : Node) (i : Item) (old new : WrittenParts) → HasNode n old new → Notes new.bytes n i
-    → Adds (i ∷ []) old new
-adds_one n i old new h w =
-    record { more = h.more; added = n ∷ []; bytes = h.bytes; nodes = h.nodes; notes = (w, tt) }
+    → IsBlankBeside n i → Adds (i ∷ []) old new
+adds_one n i old new h w z = record {
+  more = h.more;
+  added = n ∷ [];
+  bytes = h.bytes;
+  nodes = h.nodes;
+  notes = (record { notes = w; blank = z }, tt);
+}
 
--- more nodes before those
+-- More nodes before the existing ones.
 pub adds_more : (is js : List Item) (a b c : WrittenParts) → Adds js a b → Adds is b c → Adds (is ++ js) a c
 adds_more is js a b c h g = record {
   more = h.more ++ g.more;
@@ -78,18 +85,20 @@ adds_more is js a b c h g = record {
   bytes = g.bytes ∙ ap (λ l. l ++ g.more) h.bytes ∙ append_assoc a.bytes h.more g.more;
   nodes = g.nodes ∙ ap (λ l. g.added ++ l) h.nodes ∙ sym (append_assoc g.added h.added a.nodes);
   notes =
-      zip_append (Notes c.bytes) g.added is h.added js g.notes
+      zip_append (IsNodeFor c.bytes) g.added is h.added js g.notes
       (subst (λ bs. AllNote bs h.added js) (sym g.bytes) (all_kept b.bytes g.more h.added js h.notes));
 }
 
 pub text_added : (s : List ℕ) (old new : WrittenParts) → HasText 2 0 s old new → Adds (text_item s ∷ []) old new
-text_added s old new h = adds_one h.node (text_item s) old new h.has (h.kind_is, h.at)
+text_added s old new h =
+    adds_one h.node (text_item s) old new h.has (h.kind_is, h.at) (h.len_is, h.number_is)
 
 pub unknown_added : (s : List ℕ) (k : ℕ) (old new : WrittenParts) → HasText 9 k s old new
     → Adds (unknown_item s k ∷ []) old new
-unknown_added s k old new h = adds_one h.node (unknown_item s k) old new h.has (h.kind_is, h.len_is, h.at)
+unknown_added s k old new h =
+    adds_one h.node (unknown_item s k) old new h.has (h.kind_is, h.len_is, h.at) h.number_is
 
--- an unknown behind the name of its type
+-- An unknown after the name of its type.
 pub typed_added : (name s : List ℕ) (t : NameParts) (old mid new : WrittenParts) → s ≡ printed_name t
     → HasText 9 1 name old mid → HasText 2 0 s mid new
     → Adds (text_item (printed_name t) ∷ unknown_item name 1 ∷ []) old new
@@ -102,12 +111,13 @@ pub call_added : (f : NameParts) (k : ℕ) (s : List ℕ) (old new : WrittenPart
     → HasText 6 k s old new → Adds (call_item f k ∷ []) old new
 call_added f k s old new g h =
     adds_one h.node (call_item f k) old new h.has
-    (h.kind_is, h.len_is, (h.at.0, subst (IsNameText f) h.at.2 g))
+    (h.kind_is, h.len_is, (h.at.0, subst (IsNameText f) h.at.2 g)) h.number_is
 
 pub is_added : (f : NameParts) (s : List ℕ) (old new : WrittenParts) → IsNameText f s → HasText 14 0 s old new
     → Adds (is_item f ∷ []) old new
 is_added f s old new g h =
     adds_one h.node (is_item f) old new h.has (h.kind_is, (h.at.0, subst (IsNameText f) h.at.2 g))
+    (h.len_is, h.number_is)
 
 pub uid_added : (u : EntityUID) (s : List ℕ) (old new : WrittenParts) → IsName (uid_parts u).name → IsTextOf u s
     → HasText 3 0 s old new → Adds (uid_item (uid_parts u) ∷ []) old new
@@ -116,9 +126,9 @@ uid_added u s old new n t h =
       h.kind_is,
       h.at.0,
       λ a. (h.kind_is, (u, (h.at.0, subst (IsReadOf u) h.at.2 (read_of_printed u s (printed_text u s n t a))), refl)),
-    )
+    ) (h.len_is, h.number_is)
 
--- a node and all below it are written
+-- A node and all of its operands are written.
 pub writes_all : (t : Tree) (N : Type 0) (i : Item) (is : List Item) (old new : WrittenParts) (before : List Pending)
     → N → Adds (i ∷ is) old new → flat t ≡ i ∷ is → Writes t N old new before before
 writes_all t N i is old new before n a e = record {
@@ -129,7 +139,7 @@ writes_all t N i is old new before n a e = record {
   named = λ h. (h, n);
 }
 
--- a node is written, and what stands below it is put on the stack
+-- A node is written, and its operands are pushed.
 pub writes_node : (i : Item) (ts : Trees) (N : Type 0) (old new : WrittenParts) (before after : List Pending)
     → Adds (i ∷ []) old new → Pushes (flats ts) N before after → Writes (node i ts) N old new before after
 writes_node i ts N old new before after a p = record {
@@ -140,7 +150,7 @@ writes_node i ts N old new before after a p = record {
   named = p.named;
 }
 
--- the same where one tree stands below, and where two do
+-- The same for one operand and for two.
 pub writes_one : (i : Item) (t : Tree) (N : Type 0) (old new : WrittenParts) (before after : List Pending)
     → Adds (i ∷ []) old new → Pushes (flat t) N before after
     → Writes (node i (tree_then t no_trees)) N old new before after
@@ -155,7 +165,7 @@ writes_two i t u N old new before after a p =
     writes_node i (tree_then t (tree_then u no_trees)) N old new before after a
     (subst (λ is. Pushes (flat t ++ is) N before after) (sym (append-nil (flat u))) p)
 
--- one more on the stack
+-- One more element on the stack.
 pub pending_more : (ps : List Pending) (p : Pending)
     → pending_items (ps ++ p ∷ []) ≡ pending_items ps ++ flat (pending_tree p)
 pending_more [] p = append-nil (flat (pending_tree p))
@@ -171,11 +181,11 @@ named_less : (ps : List Pending) (p : Pending) → AreNamed (ps ++ p ∷ []) →
 named_less [] p h = (tt, h.0)
 named_less (q ∷ ps) p h = let r : AreNamed ps × IsNamed p = named_less ps p h.1 in ((h.0, r.0), r.1)
 
--- nothing is put on the stack
+-- Nothing is pushed.
 pub pushes_none : (N : Type 0) (ps : List Pending) → N → Pushes [] N ps ps
 pushes_none N ps n = record { items = sym (append-nil (pending_items ps)); named = λ h. (h, n) }
 
--- one more behind what was put on the stack
+-- One more element is pushed.
 pub pushed_more : (is : List Item) (N M : Type 0) (start ps ps' : List Pending) (p : Pending) → ps' ≡ ps ++ p ∷ []
     → (N → IsNamed p → M) → Pushes is N start ps → Pushes (is ++ flat (pending_tree p)) M start ps'
 pushed_more is N M start ps ps' p e f h = record {
@@ -188,13 +198,13 @@ pushed_more is N M start ps ps' p e f h = record {
       (k.0, f k.1 b.1);
 }
 
--- one alone
+-- A single element is pushed.
 pub pushed_one : (start ps : List Pending) (p : Pending) → ps ≡ start ++ p ∷ []
     → Pushes (flat (pending_tree p)) (IsNamed p) start ps
 pushed_one start ps p e =
     pushed_more [] (Unit {0}) (IsNamed p) start start ps p e (λ _ n. n) (pushes_none (Unit {0}) start tt)
 
--- two lists, one behind the other
+-- Two lists are pushed, one after the other.
 pub pushed_both : (is js : List Item) (N M : Type 0) (start ps ps' : List Pending) → Pushes is N start ps
     → Pushes js M ps ps' → Pushes (is ++ js) (N × M) start ps'
 pushed_both is js N M start ps ps' h g = record {
@@ -240,7 +250,7 @@ fields_more (g ∷ fs) f =
     (sym (append_assoc (flat (value_plan g.1)) (flats (fields_plan (field_trees fs)))
     (flat (text_leaf (string_bytes f.0))))))
 
--- the next of some values is put on the stack
+-- The next of some values is pushed.
 pub value_pushed : (start : List Pending) (vs : List ValueTree) (k : ℕ) (d : ValueTree) (v : Bor ValueTree)
     (ps ps' : List Pending) → k < length vs → v.now ≡ get_or vs k d → ps' ≡ ps ++ pendings.Value v ∷ []
     → Pushes (flats (values_plan (value_trees (take k vs)))) (Unit {0}) start ps
@@ -253,7 +263,7 @@ value_pushed start vs k d v ps ps' l is e h =
     (pushed_more (flats (values_plan (value_trees (take k vs)))) (Unit {0}) (Unit {0}) start ps ps' (pendings.Value v) e
     (λ _ _. tt) h)
 
--- the next of some expressions is put on the stack
+-- The next of some expressions is pushed.
 pub expr_pushed : (start : List Pending) (es : List ExprTree) (k : ℕ) (d : ExprTree) (e : Bor ExprTree)
     (ps ps' : List Pending) → k < length es → e.now ≡ get_or es k d → ps' ≡ ps ++ pendings.Expr e ∷ []
     → Pushes (flats (exprs_plan (expr_trees (take k es)))) (HaveNames (expr_trees (take k es))) start ps
@@ -268,7 +278,7 @@ expr_pushed start es k d e ps ps' l is q h =
     (λ a b. subst (λ (x : List ExprTree). HaveNames (expr_trees x)) (sym (take_more es k d l))
     (have_more (take k es) (get_or es k d) a (subst HasNames is b))) h)
 
--- the key and the value of the next pair of a record are put on the stack
+-- The key and the value of the next pair of a record are pushed.
 pub field_pushed : (start : List Pending) (fs : List Entry) (key : Bor (String Global))
     (v : Bor ValueTree) (ps ps' ps'' : List Pending) → ps' ≡ ps ++ pendings.Text key ∷ []
     → ps'' ≡ ps' ++ pendings.Value v ∷ [] → Pushes (flats (fields_plan (field_trees fs))) (Unit {0}) start ps
@@ -292,14 +302,14 @@ pub exprs_counted : (es : List ExprTree) → exprs_count (expr_trees es) ≡ len
 exprs_counted [] = refl
 exprs_counted (e ∷ es) = omega (arith, exprs_counted es)
 
--- what is written so far, and what is still to be
+-- The encoded nodes so far, and the remaining values.
 pub record Drafted (whole : Pending) (w : WrittenParts) (ps : List Pending) : Type 0 where
   pub items : List Item
   pub notes : AllNote w.bytes w.nodes items
   pub all : pending_items ps ++ items ≡ flat (pending_tree whole)
   pub named : AreNamed ps → IsNamed whole
 
--- nothing is written
+-- Nothing is encoded.
 pub drafted_first : (p : Pending) (w : WrittenParts) (ps : List Pending) → w ≡ record { bytes = []; nodes = [] }
     → ps ≡ p ∷ [] → Drafted p w ps
 drafted_first p w ps e f = record {
@@ -309,7 +319,7 @@ drafted_first p w ps e f = record {
   named = λ h. (named_less [] p (subst AreNamed f h)).1;
 }
 
--- what is on top is written
+-- The element on top is encoded.
 pub drafted_next : (whole : Pending) (w w' : WrittenParts) (ps less after : List Pending) (p : Pending)
     → ps ≡ less ++ p ∷ [] → Drafted whole w ps → Writes (pending_tree p) (IsNamed p) w w' less after
     → Drafted whole w' after
@@ -317,7 +327,7 @@ drafted_next whole w w' ps less after p e d s = record {
   items = s.first ∷ s.others ++ d.items;
   notes =
       subst (λ ns. AllNote w'.bytes ns (s.first ∷ s.others ++ d.items)) (sym s.adds.nodes)
-      (zip_append (Notes w'.bytes) s.adds.added (s.first ∷ s.others) w.nodes d.items s.adds.notes
+      (zip_append (IsNodeFor w'.bytes) s.adds.added (s.first ∷ s.others) w.nodes d.items s.adds.notes
       (subst (λ bs. AllNote bs w.nodes d.items) (sym s.adds.bytes)
       (all_kept w.bytes s.adds.more w.nodes d.items d.notes)));
   all =
@@ -327,7 +337,7 @@ drafted_next whole w w' ps less after p e d s = record {
   named = λ h. d.named (subst AreNamed (sym e) (named_more less p (s.named h)));
 }
 
--- and less is left
+-- Fewer items remain.
 pub less_left : (w w' : WrittenParts) (ps less after : List Pending) (p : Pending) → ps ≡ less ++ p ∷ []
     → Writes (pending_tree p) (IsNamed p) w w' less after → length (pending_items after) < length (pending_items ps)
 less_left w w' ps less after p e s =
@@ -335,7 +345,7 @@ less_left w w' ps less after p e s =
     ap length (s.whole ∙ sym (pending_more less p) ∙ ap pending_items (sym e)) in
     omega (arith, left, length-append (pending_items after) (s.first ∷ s.others))
 
--- all is written
+-- Everything is encoded.
 pub drafted_last : (whole : Pending) (w : WrittenParts) (ps : List Pending) → ps ≡ [] → Drafted whole w ps
     → IsWrittenAs (flat (pending_tree whole)) w × IsNamed whole
 drafted_last whole w ps e d = (

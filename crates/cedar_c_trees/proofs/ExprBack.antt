@@ -1,4 +1,4 @@
--- An expression that is written as nodes is read back, and nothing else is.
+-- An encoded expression is decoded as itself, and as nothing else.
 use Rattle.std.proofs.Common.{◌≡◌, ◌∙◌, ap, sym, refl, subst, ℕ, length, List, [], ◌∷◌, Option, Some, None, arith}
 use Rattle.cedar_ids.specs.Name.{NameParts}
 use Rattle.cedar_ids.specs.Printed.{printed_name}
@@ -61,7 +61,7 @@ same_type (Some t) None n es h g = absurd (none_or_one n g.0 h.1)
 same_type (Some t) (Some u) n es h g =
     ap Some (printed_name_injective t u h.0 h.3 (subst (IsNameText u) (one_text g.0 h.0 (sym g.2 ∙ h.2)) g.3))
 
--- a node makes one expression of what stands below it
+-- A node builds one expression from its operands.
 joins_one : (i : Item) (es : List ExprTree) (d e : ExprTree) → Joins i es d → Joins i es e → d ≡ e
 joins_one (bool_item b) es d e h g = h.1 ∙ sym g.1
 joins_one (long_item n) es d e h g = h.1 ∙ sym g.1
@@ -100,7 +100,7 @@ unknown_planned name (Some t) h = (
 )
 
 mutual
-  -- an expression is made of the tree that it is written as
+  -- An expression is built from its tree.
   pub planned : (e : ExprTree) → HasNames e → IsMadeOf Joins (expr_plan e) e
   planned (val_node (bool_literal b)) h = ([], tt, (refl, refl))
   planned (val_node (long_literal n)) h = ([], tt, (refl, refl))
@@ -119,7 +119,7 @@ mutual
   all_planned no_exprs h = tt
   all_planned (expr_then e es) h = (planned e h.0, all_planned es h.1)
 
--- what is written is read back
+-- An encoded expression is decoded as itself.
 pub read_back : (e : ExprTree) → HasNames e → IsReadBack e
 read_back e h = record {
   planned = planned e h;

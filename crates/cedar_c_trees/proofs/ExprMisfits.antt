@@ -1,4 +1,4 @@
--- Why nodes make no expression on top of a stack.
+-- The reasons why nodes do not build an expression on top of a stack.
 use Rattle.std.proofs.Common.{◌≡◌, ◌∙◌, ap, sym, refl, subst, ℕ, ◌+◌, ◌<◌, length, List, [], ◌∷◌, ◌++◌, arith}
 use Rattle.std.proofs.Common.{take, Bool, append_assoc, inl, inr, Some, slice_get}
 use mathlib.Core.List.{append-nil}
@@ -56,11 +56,11 @@ joins_marked not_item es e h = ap is_text_expr h.2
 joins_marked (binary_item o) es e h = ap is_text_expr h.3
 joins_marked (is_item t) es e h = ap is_text_expr h.2
 
--- expressions are such a language
+-- Expressions satisfy the conditions of `IsLanguage`.
 pub exprs : IsLanguage Joins is_text_expr StandsInExpr
 exprs = record { made_arity = joins_arity; plan_arity = expr_arity; marked = joins_marked }
 
--- what makes a text is a text
+-- Only a node of a text builds a text.
 makes_text : (i : Item) (es : List ExprTree) (s : List ℕ) → Joins i es (val_node (string_literal s))
     → (i ≡ text_item s) × (es ≡ [])
 makes_text (bool_item b) es s h = absurd (cc h.1)
@@ -82,7 +82,7 @@ no_more no_trees es h e = refl
 no_more (tree_then t us) [] h e = absurd h
 no_more (tree_then t us) (x ∷ es) h e = cc
 
--- the last of some nodes says a text
+-- The last of some nodes is a text.
 record LastText (text : List ℕ) (ns : List Node) (s : List ℕ) : Type 0 where
   before : List Node
   last : Node
@@ -119,7 +119,7 @@ last_text text ns (tree_then t ts) (x ∷ less) s a h =
       says = r.says;
     }
 
--- the name of a type is none, and stands right below the unknown
+-- The name of the type of an unknown is invalid.
 no_type : (text : List ℕ) (ns : List Node) (k : ℕ) (d : Node) (es : List ExprTree) → k < length ns
     → Stacked Joins text (take k ns) es → IsNoType (get_or ns k d) es → IsRefused StandsInExpr text ns NotAName
 no_type text ns k d es lt r h =
@@ -148,7 +148,7 @@ no_type text ns k d es lt r h =
       ),
     )
 
--- where a node makes no expression the nodes are refused
+-- If a node builds no expression, the nodes are not decoded.
 pub unjoined : (text : List ℕ) (ns : List Node) (k : ℕ) (d : Node) (es : List ExprTree) (w : Reason) → k < length ns
     → Reading Joins is_text_expr StandsInExpr text ns k es → IsUnjoined StandsInExpr text (get_or ns k d) es w
     → IsRefused StandsInExpr text ns w

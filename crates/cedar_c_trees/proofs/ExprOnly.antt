@@ -1,4 +1,4 @@
--- An expression that nodes say is read of them, and nothing else is.
+-- The nodes of an expression are decoded as it, and as nothing else.
 use Rattle.std.proofs.Common.{◌≤◌, ℕ, List, sym}
 use Rattle.cedar_terms.specs.ExprTree.{ExprTree}
 use Rattle.cedar_c_trees.specs.Items.{Joins, flat, tree_levels}
@@ -6,14 +6,14 @@ use Rattle.cedar_c_trees.specs.Ordered.{IsOnlyRead}
 use Rattle.cedar_c_trees.specs.Plans.{HasNames, expr_items, expr_plan}
 use Rattle.cedar_c_trees.specs.Reads.{AllSay}
 use Rattle.cedar_c_trees.specs.Writes.{AreAscii}
-use Rattle.cedar_c_trees.specs.declared.levels.TheConstants.{CEDAR_LEVELS}
+use Rattle.cedar_c_trees.specs.Items.{level_limit}
 use Rattle.cedar_c_trees.specs.declared.node.Node.{Node}
 use Rattle.cedar_c_trees.proofs.ExprBack.{read_back}
 use Rattle.cedar_c_trees.proofs.SameItem.{same_items}
 
--- of nodes that say what an expression is written as, that expression is read and no other
+-- The nodes of an encoded expression are decoded as that expression and as nothing else.
 pub expr_back : (e : ExprTree) (text : List ℕ) (ns : List Node) → HasNames e → AreAscii (expr_items e)
-    → tree_levels (expr_plan e) ≤ CEDAR_LEVELS → AllSay text ns (expr_items e) → IsOnlyRead Joins text ns e
+    → tree_levels (expr_plan e) ≤ level_limit → AllSay text ns (expr_items e) → IsOnlyRead Joins text ns e
 expr_back e text ns n a l s = record {
   read = record { tree = expr_plan e; says = s; levels = l; value = (read_back e n).planned };
   only =

@@ -1,4 +1,4 @@
--- What nodes say of a text they say of a longer one; and uids that are read of their texts.
+-- Nodes mean the same over a longer text, and uids are parsed from their texts.
 use Rattle.std.proofs.Common.{◌≡◌, ◌∙◌, ap, sym, refl, subst, ℕ, ◌-◌, take, drop, List, [], ◌∷◌, ◌++◌}
 use Rattle.std.proofs.Common.{Bool, cond, Some, None, arith, length-append}
 use Rattle.std.proofs.lemmas.List.{drop-append-le, length-drop, take-append-le}
@@ -26,7 +26,7 @@ use Rattle.cedar_c_trees.specs.Reads.{IsNameAt, IsTextAt, Says}
 use Rattle.cedar_c_trees.specs.Writes.{AllNote, Notes}
 use Rattle.cedar_c_trees.specs.declared.node.Node.{Node}
 
--- a part of a text stays what it is when bytes are added behind
+-- A part of a text does not change when bytes are appended.
 pub part_kept : (text more : List ℕ) (at : Span) → IsInside text at → part (text ++ more) at ≡ part text at
 part_kept text more at h =
     ap (take (at.end - at.start)) (drop-append-le at.start text more (omega arith))
@@ -81,15 +81,16 @@ notes_kept text more n not_item h = says_kept text more n not_item h
 notes_kept text more n (binary_item o) h = says_kept text more n (binary_item o) h
 notes_kept text more n (is_item t) h = says_kept text more n (is_item t) h
 
--- and so do the notes of some nodes
+-- The encoded items of nodes do not change when bytes are appended.
 pub all_kept : (text more : List ℕ) (ns : List Node) (is : List Item) → AllNote text ns is
     → AllNote (text ++ more) ns is
 all_kept text more [] [] h = tt
 all_kept text more [] (i ∷ is) h = absurd h
 all_kept text more (n ∷ ns) [] h = absurd h
-all_kept text more (n ∷ ns) (i ∷ is) h = (notes_kept text more n i h.0, all_kept text more ns is h.1)
+all_kept text more (n ∷ ns) (i ∷ is) h =
+    (record { notes = notes_kept text more n i h.0.notes; blank = h.0.blank }, all_kept text more ns is h.1)
 
--- lists that are related item by item, one behind the other
+-- Two pairs of related lists, appended.
 pub zip_append : {A B : Type 0} (R : A → B → Type 0) (xs : List A) (ys : List B) (xs' : List A) (ys' : List B)
     → AllZip R xs ys → AllZip R xs' ys' → AllZip R (xs ++ xs') (ys ++ ys')
 zip_append R [] [] xs' ys' h g = g
@@ -105,7 +106,7 @@ starts_printed u text p =
     subst (StartsWithName u.name) (sym p.2)
     (starts_named (printed_uid u) (printed_name u.name) (escaped u.eid) u.name (halves-printed u p.0) (p.0, refl))
 
--- the text that a uid is written as is read as that uid
+-- The printed text of a uid is parsed as that uid.
 pub read_of_printed : (u : EntityUID) (text : List ℕ) → IsPrinted (uid_parts u) text → IsReadOf u text
 read_of_printed u text p = record {
   printed = λ a. p;
@@ -113,7 +114,7 @@ read_of_printed u text p = record {
   starts = starts_printed (uid_parts u) text p;
 }
 
--- the text of a uid with an ASCII eid
+-- The text of a uid with an ASCII eid.
 pub printed_text : (u : EntityUID) (text : List ℕ) → IsName (uid_parts u).name → IsTextOf u text
     → IsTrue (is_ascii (uid_parts u).eid) → IsPrinted (uid_parts u) text
 printed_text u text n h a = (

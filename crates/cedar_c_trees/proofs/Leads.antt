@@ -1,4 +1,4 @@
--- What the nodes of a tree lead to, one after another, where a stack has what each finished tree is seen as.
+-- The effect of the nodes of a tree on a stack of abstract values.
 use Rattle.std.proofs.Common.{◌≡◌, ◌∙◌, ap, sym, refl, subst, ℕ, List, [], ◌∷◌, ◌++◌, append_assoc}
 use mathlib.Core.List.{append-nil}
 use Rattle.std.specs.List.{AllZip}
@@ -6,7 +6,7 @@ use Rattle.cedar_c_trees.specs.Items.{Item, Tree, node, Trees, no_trees, tree_th
 use Rattle.cedar_c_trees.specs.Shapes.{Fits, AllFit}
 use Rattle.cedar_c_trees.specs.declared.node.Node.{Node}
 
--- what a tree is seen as, where m says it of a node by what those right below it are seen as
+-- The abstract value of a tree, where m states the value of a node from the values of its operands.
 abbrev mutual
   pub shape : {X : Type 0} → (Item → List X → X) → Tree → X
   shape m (node i ts) = m i (shapes m ts)
@@ -15,7 +15,7 @@ abbrev mutual
   shapes m no_trees = []
   shapes m (tree_then t ts) = shape m t ∷ shapes m ts
 
--- each node of a tree stands on what S allows
+-- Holds if S allows the operands of each node of a tree.
 abbrev mutual
   pub IsShaped : {X : Type 0} → (Item → List X → Type 0) → (Item → List X → X) → Tree → Type 0
   IsShaped S m (node i ts) = S i (shapes m ts) × AreShaped S m ts
@@ -24,7 +24,7 @@ abbrev mutual
   AreShaped S m no_trees = Unit {0}
   AreShaped S m (tree_then t ts) = IsShaped S m t × AreShaped S m ts
 
--- the nodes lead from a stack to x alone
+-- Holds if the nodes reduce the stack to x only.
 abbrev pub Leads : {X : Type 0} → (Item → List X → Type 0) → (Item → List X → X) → List ℕ → X → List Node → List X
     → Type 0
 Leads S m text x [] ss = ss ≡ x ∷ []
@@ -32,7 +32,7 @@ Leads {X = X} S m text x (n ∷ ns) ss =
     (i : Item) × (front : List X) × (under : List X) × Fits text n i × S i under × (ss ≡ front ++ under)
     × Leads S m text x ns (front ++ m i under ∷ [])
 
--- nodes, cut where the items are
+-- Nodes, split as the items are.
 pub record Parted (R : Node → Item → Type 0) (ns : List Node) (is js : List Item) : Type 0 where
   pub before : List Node
   pub after : List Node
@@ -53,7 +53,7 @@ parted R (n ∷ ns) (i ∷ is) js h =
       after_fit = r.after_fit;
     }
 
--- the node of one item
+-- The node of a single item.
 pub record Alone (R : Node → Item → Type 0) (ns : List Node) (i : Item) : Type 0 where
   pub one : Node
   pub is : ns ≡ one ∷ []
@@ -69,7 +69,7 @@ none text [] h = refl
 none text (n ∷ ns) h = absurd h
 
 mutual
-  -- the nodes of a tree lead to what it is seen as, on top of the stack
+  -- The nodes of a tree push its abstract value onto the stack.
   pub tree_leads : {X : Type 0} (S : Item → List X → Type 0) (m : Item → List X → X) (text : List ℕ) (x : X) (t : Tree)
       (ns rest : List Node) (ss : List X) → IsShaped S m t → AllFit text ns (flat t)
       → Leads S m text x rest (ss ++ shape m t ∷ []) → Leads S m text x (ns ++ rest) ss
@@ -96,7 +96,7 @@ mutual
       (trees_lead S m text x ts p.after rest (ss ++ shape m t ∷ []) h.1 p.after_fit
       (subst (Leads S m text x rest) (sym (append_assoc ss (shape m t ∷ []) (shapes m ts))) g)))
 
--- so do those of a whole tree, from an empty stack
+-- The nodes of a whole tree reduce the empty stack to its abstract value.
 pub leads_from_nothing : {X : Type 0} (S : Item → List X → Type 0) (m : Item → List X → X) (text : List ℕ) (t : Tree)
     (ns : List Node) → IsShaped S m t → AllFit text ns (flat t) → Leads S m text (shape m t) ns []
 leads_from_nothing S m text t ns h f =

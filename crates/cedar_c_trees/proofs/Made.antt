@@ -1,10 +1,10 @@
--- What holds of all that is made of a tree.
+-- Properties of everything built from a tree.
 use Rattle.std.proofs.Common.{◌≡◌, sym, refl, subst, List, [], ◌∷◌}
 use Rattle.std.specs.List.{AllByRecursion}
 use Rattle.cedar_c_trees.specs.Items.{Item, Tree, node, Trees, no_trees, tree_then, IsMadeOf, AreMadeOf}
 
 mutual
-  -- one thing is made of a tree, where each node makes one of what is made below it
+  -- One value is built from a tree, if each node builds one value from its operands.
   pub one_made : {V : Type 0} (C : Item → List V → V → Type 0)
       (f : (i : Item) (vs : List V) (v w : V) → C i vs v → C i vs w → v ≡ w) (t : Tree) (v w : V) → IsMadeOf C t v
       → IsMadeOf C t w → v ≡ w
@@ -23,7 +23,7 @@ mutual
       λ k. one_made C f t v w h.0 g.0 k ∷ all_one C f ts vs ws h.1 g.1 k
 
 mutual
-  -- P holds of what is made of a tree, where it holds of what a node makes of things of which it holds
+  -- P is a property of everything built from a tree, if each node preserves it.
   pub made_has : {V : Type 0} (C : Item → List V → V → Type 0) (P : V → Type 0)
       (f : (i : Item) (vs : List V) (v : V) → AllByRecursion P vs → C i vs v → P v) (t : Tree) (v : V)
       → IsMadeOf C t v → P v

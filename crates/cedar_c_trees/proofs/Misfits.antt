@@ -1,4 +1,4 @@
--- Why a node is no literal, of a value or of an expression.
+-- The reasons why a node is not a literal.
 use Rattle.std.proofs.Common.{ℕ, ◌≤◌, List, arith}
 use Rattle.std.proofs.Common.{Bool, inl}
 use Rattle.cedar_terms.specs.LiteralTree.{LiteralTree, bool_literal, long_literal, string_literal, uid_literal}
@@ -10,7 +10,7 @@ use Rattle.cedar_c_trees.specs.Shapes.{Fits}
 use Rattle.cedar_c_trees.specs.laws.Stacks.{IsUnmade, IsNoLiteral}
 use Rattle.cedar_c_trees.specs.declared.node.Node.{Node}
 
--- a node that is read as no literal, though its kind is one's
+-- A node with the kind of a literal that is not decoded as a literal.
 no_literal : (text : List ℕ) (n : Node) (i : Item) → n.kind ≤ 3 → Fits text n i
     → ((l : LiteralTree) → Fits text n (literal_item l) → ⊥) → ⊥
 no_literal text n (bool_item b) k f h = h (bool_literal b) f

@@ -9,7 +9,7 @@ use Rattle.cedar_c_lists.specs.declared.reason.Reason.TheVariants.{BadArgument}
 use Rattle.cedar_c_trees.specs.laws.Stacks.{is_text_value, IsNoTextOn, AreNoPairs, ArePairsOn}
 use Rattle.cedar_c_trees.proofs.Raised.{cut_same}
 
--- the pair on top of more
+-- The pair on top of others.
 record HasPair (j : ℕ) (bs : List Bool) : Type 0 where
   less : List Bool
   last : Bool
@@ -22,7 +22,7 @@ pair_on n k bs lt h =
     let r : ArePairsOn (suc (n - (k + 1))) bs = subst (λ (j : ℕ). ArePairsOn j bs) e h in
     record { less = r.0; last = r.1; whole = r.2; others = r.3 }
 
--- one pair more is taken off
+-- One more pair is popped.
 pub pair_off : (n k : ℕ) (old less new : List ValueTree) (v : ValueTree) (s : List ℕ) → k < n → old ≡ less ++ v ∷ []
     → less ≡ new ++ literal_value (string_literal s) ∷ [] → ArePairsOn (n - k) (map is_text_value old)
     → ArePairsOn (n - (k + 1)) (map is_text_value new)
@@ -40,7 +40,7 @@ nothing_more : (less : List Bool) (b : Bool) → [] ≡ less ++ true ∷ b ∷ [
 nothing_more [] b e = cc
 nothing_more (x ∷ less) b e = cc
 
--- nothing is left to be taken off
+-- There is no value to pop.
 pub no_value_left : (n k : ℕ) (first old : List ValueTree) (w : Reason) → k < n
     → (ArePairsOn n (map is_text_value first) → ArePairsOn (n - k) (map is_text_value old))
     → (w ≡ BadArgument) × (old ≡ []) → AreNoPairs n (map is_text_value first) w
@@ -50,7 +50,7 @@ no_value_left n k first old w lt f h =
     let r : HasPair (n - (k + 1)) (map is_text_value old) = pair_on n k (map is_text_value old) lt (f p) in
     nothing_more r.less r.last (sym (ap (map is_text_value) h.1) ∙ r.whole))
 
--- no key is left to be taken off
+-- There is no key to pop.
 pub no_key_left : (n k : ℕ) (first old less : List ValueTree) (v : ValueTree) (w : Reason) → k < n
     → (ArePairsOn n (map is_text_value first) → ArePairsOn (n - k) (map is_text_value old)) → old ≡ less ++ v ∷ []
     → IsNoTextOn (map is_text_value less) w → AreNoPairs n (map is_text_value first) w
@@ -67,7 +67,7 @@ never : (less : List Bool) → [] ≡ less ++ true ∷ [] → ⊥
 never [] e = cc
 never (x ∷ less) e = cc
 
--- nothing is on top of an empty stack
+-- There is nothing on top of an empty stack.
 pub no_text_on_none : (old : List ValueTree) (w : Reason) → (w ≡ BadArgument) × (old ≡ [])
     → IsNoTextOn (map is_text_value old) w
 no_text_on_none old w h =

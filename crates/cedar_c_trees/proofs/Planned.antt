@@ -1,4 +1,4 @@
--- What is read is read of a plan.
+-- Decoded nodes have a valid shape.
 use Rattle.std.proofs.Common.{◌≡◌, ◌∙◌, ap, refl, subst, ℕ, length, List, [], ◌∷◌, map, Bool, true, inl, inr, Option, Some, None}
 use Rattle.std.proofs.lemmas.List.{length-map}
 use Rattle.cedar_ids.specs.Name.{NameParts}

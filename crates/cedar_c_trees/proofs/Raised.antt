@@ -1,4 +1,4 @@
--- The levels of nodes, told from the first to the last.
+-- The levels of nodes, computed from the first to the last.
 use Rattle.std.proofs.Common.{◌≡◌, ◌∙◌, ap, sym, refl, subst, ℕ, ◌+◌, ◌<◌, ◌≤◌, max, suc, length, List, [], ◌∷◌, ◌++◌, arith}
 use Rattle.std.proofs.Common.{drop, take}
 use Rattle.std.proofs.Math.ListN.{get_or}
@@ -12,11 +12,11 @@ use Rattle.cedar_c_trees.specs.Items.{Tree, node, Trees, no_trees, tree_then, fl
 use Rattle.cedar_c_trees.specs.Shapes.{Fits, AllFit}
 use Rattle.cedar_c_trees.specs.laws.Levels.{arity, count, IsFull, AreFull, below, below_kind, most, IsRaised, IsNotRaised}
 use Rattle.cedar_c_trees.specs.laws.Levels.{HaveFew, HaveMany}
-use Rattle.cedar_c_trees.specs.declared.levels.TheConstants.{CEDAR_LEVELS}
+use Rattle.cedar_c_trees.specs.Items.{level_limit}
 use Rattle.cedar_c_trees.specs.declared.node.Node.{Node}
 use Rattle.cedar_c_trees.proofs.Leads.{shape, shapes, IsShaped, AreShaped, Leads, leads_from_nothing}
 
--- a node has right below it as many as its item says
+-- A node has as many operands as its item.
 pub below_fits : (text : List ℕ) (n : Node) (i : Item) → Fits text n i → below n ≡ arity i
 below_fits text n (bool_item b) f = ap (λ (k : ℕ). below_kind k n.len) f.kind
 below_fits text n (long_item z) f = ap (λ (k : ℕ). below_kind k n.len) f.kind
@@ -35,7 +35,7 @@ below_fits text n (binary_item eq_operator) f = ap (λ (k : ℕ). below_kind k n
 below_fits text n (binary_item in_operator) f = ap (λ (k : ℕ). below_kind k n.len) f.kind
 below_fits text n (is_item t) f = ap (λ (k : ℕ). below_kind k n.len) f.kind
 
--- two ways to cut one list where as many are left behind the cut are one
+-- Two splits of a list with equal lengths are equal.
 pub cut_same : {X : Type 0} (a b c d : List X) → a ++ b ≡ c ++ d → length b ≡ length d → (a ≡ c) × (b ≡ d)
 cut_same a b c d e l =
     let n : length a ≡ length c = omega (arith, length-append a b, length-append c d, ap length e) in (
@@ -43,11 +43,11 @@ cut_same a b c d e l =
       sym (drop_at a b (length a) refl) ∙ ap (drop (length a)) e ∙ drop_at c d (length a) (sym n),
     )
 
--- as many stand right below as the item says
+-- Holds if there are as many operands as the item has.
 abbrev pub HasArity : {X : Type 0} → Item → List X → Type 0
 HasArity i under = length under ≡ arity i
 
--- the levels of a node above some
+-- The levels of a node with operands.
 abbrev pub above : Item → List ℕ → ℕ
 above i under = 1 + most under
 
@@ -75,16 +75,16 @@ most_append : (a b : List ℕ) → most (a ++ b) ≡ max (most a) (most b)
 most_append [] b = omega arith
 most_append (x ∷ a) b = omega (arith, most_append a b)
 
--- nothing on the stack has more levels than what the nodes lead to
+-- No element of the stack has more levels than the result.
 most_led : (text : List ℕ) (x : ℕ) (ns : List Node) (hs : List ℕ) → Leads HasArity above text x ns hs → most hs ≤ x
 most_led text x [] hs h = omega (arith, ap most h)
 most_led text x (n ∷ ns) hs h =
     let r : most (h.1 ++ (1 + most h.2) ∷ []) ≤ x = most_led text x ns (h.1 ++ (1 + most h.2) ∷ []) h.6 in
     omega (arith, r, most_append h.1 ((1 + most h.2) ∷ []), most_append h.1 h.2, ap most h.5)
 
--- how the levels of nodes stand on a stack, when the first k are told
+-- The levels on the stack after the first k nodes.
 pub record Raising (ns : List Node) (k : ℕ) (hs : List ℕ) : Type 0 where
-  pub few : most hs ≤ CEDAR_LEVELS
+  pub few : most hs ≤ level_limit
   pub leads : (text : List ℕ) (t : Tree) → IsFull t → AllFit text ns (flat t)
       → Leads HasArity above text (tree_levels t) (drop k ns) hs
 
@@ -96,7 +96,7 @@ none_raised ns = record {
       (leads_from_nothing HasArity above text t ns (full_shaped t f) a);
 }
 
--- what the next node leads to
+-- The effect of the next node.
 step : (text : List ℕ) (x : ℕ) (n : Node) (ns : List Node) (old new : List ℕ) (h : ℕ)
     → Leads HasArity above text x (n ∷ ns) old → IsRaised n old new h → Leads HasArity above text x ns (new ++ h ∷ [])
 step text x n ns old new h l r =
@@ -117,7 +117,7 @@ next_raised ns k d old new h lt s r = record {
       r;
 }
 
--- where a node is not raised no tree of few levels has the nodes
+-- If a node has no valid levels, no tree with few levels has the nodes.
 pub not_raised : (ns : List Node) (k : ℕ) (d : Node) (old : List ℕ) (w : Reason) → k < length ns → Raising ns k old
     → IsNotRaised (get_or ns k d) old w → HaveMany ns w
 not_raised ns k d old BadArgument lt s r =
@@ -129,7 +129,7 @@ not_raised ns k d old TooDeep lt s r =
     λ text t f a few.
     let l : Leads HasArity above text (tree_levels t) (get_or ns k d ∷ drop (k + 1) ns) old =
     subst (λ (ms : List Node). Leads HasArity above text (tree_levels t) ms old) (drop_more ns k d lt) (s.leads text t f a) in
-    let m : CEDAR_LEVELS ≤ most l.2 =
+    let m : level_limit ≤ most l.2 =
     r l.1 l.2 l.5 (l.4 ∙ sym (below_fits text (get_or ns k d) l.0 l.3)) in
     let u : most (l.1 ++ (1 + most l.2) ∷ []) ≤ tree_levels t =
     most_led text (tree_levels t) (drop (k + 1) ns) (l.1 ++ (1 + most l.2) ∷ []) l.6 in
@@ -143,7 +143,7 @@ all_raised ns k hs le s =
     subst (λ (ms : List Node). Leads HasArity above text (tree_levels t) ms hs) (drop_all k ns le) (s.leads text t f a) in
     omega (arith, s.few, ap most l)
 
--- the most of a list as far as it is read
+-- The greatest of the first i + 1 numbers.
 pub most_more : (xs : List ℕ) (i d : ℕ) → i < length xs → most (take (i + 1) xs) ≡ max (most (take i xs)) (get_or xs i d)
 most_more xs i d lt =
     omega (arith, ap most (take_more xs i d lt), most_append (take i xs) (get_or xs i d ∷ []))

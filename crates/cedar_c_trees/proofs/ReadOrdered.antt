@@ -1,4 +1,4 @@
--- What is read is in order, and the types of its unknowns have names.
+-- A decoded value is ordered, and the types of decoded unknowns are names.
 use Rattle.std.proofs.Common.{◌≡◌, ◌∙◌, ap, sym, refl, subst, ℕ, ◌<◌, zero, suc, length, List, [], ◌∷◌}
 use Rattle.std.proofs.Common.{Option, Some, None, arith, Bool, true, false, cond}
 use Rattle.std.proofs.Math.ListN.{get_or}
@@ -27,7 +27,7 @@ use Rattle.cedar_c_trees.specs.declared.node.Node.{Node}
 use Rattle.cedar_c_trees.proofs.Made.{made_has}
 use Rattle.cedar_c_trees.proofs.ValueBack.{at_own, later, none_below}
 
--- what holds of each value holds of one of them
+-- A property of each value is a property of one of them.
 all_has : (vs : List ValueTree) (k : ℕ) (d : ValueTree) → AllByRecursion IsOrdered vs → k < length vs
     → IsOrdered (get_or vs k d)
 all_has [] k d a l = absurd (omega arith)
@@ -94,7 +94,7 @@ record_ordered ps v a r =
           (λ key. subst (λ (o : Option ValueTree). IfSome o IsOrdered) (sym (r.last key)) (last_has key ps a)),
     )
 
--- what a node makes of values in order is in order
+-- A node builds an ordered value from ordered values.
 combines_ordered : (i : Item) (vs : List ValueTree) (v : ValueTree) → AllByRecursion IsOrdered vs → Combines i vs v
     → IsOrdered v
 combines_ordered (bool_item b) vs v a h = subst IsOrdered (sym h.1) tt
@@ -119,7 +119,7 @@ type_named : (t : Option NameParts) (n : ℕ) (es : List ExprTree) → IsTypeBel
 type_named None n es h = tt
 type_named (Some t) n es h = h.3.0
 
--- what a node makes of expressions whose types have names is such
+-- A node builds an expression with named types from expressions with named types.
 joins_named : (i : Item) (es : List ExprTree) (e : ExprTree) → AllByRecursion HasNames es → Joins i es e → HasNames e
 joins_named (bool_item b) es e a h = subst HasNames (sym h.1) tt
 joins_named (long_item n) es e a h = subst HasNames (sym h.1) tt
@@ -137,10 +137,10 @@ joins_named (binary_item o) es e a h =
     subst HasNames (sym h.3) (b.0, b.1.0)
 joins_named (is_item t) es e a h = subst HasNames (sym h.2) (subst (AllByRecursion HasNames) h.1 a).0
 
--- what is read is in order
+-- A decoded value is ordered.
 pub read_ordered : (text : List ℕ) (ns : List Node) (v : ValueTree) → IsReadAs Combines text ns v → IsOrdered v
 read_ordered text ns v r = made_has Combines IsOrdered combines_ordered r.tree v r.value
 
--- the types of the unknowns that are read have names
+-- The types of decoded unknowns are names.
 pub read_named : (text : List ℕ) (ns : List Node) (e : ExprTree) → IsReadAs Joins text ns e → HasNames e
 read_named text ns e r = made_has Joins HasNames joins_named r.tree e r.value

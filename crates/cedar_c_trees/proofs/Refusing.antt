@@ -1,4 +1,4 @@
--- Why nodes are refused, while what is made of them stands on a stack.
+-- The reasons why nodes are not decoded, while the built values are on a stack.
 use Rattle.std.proofs.Common.{◌≡◌, ◌∙◌, ap, sym, refl, subst, ℕ, ◌+◌, ◌<◌, ◌≤◌, suc, length, List, [], ◌∷◌, ◌++◌, arith}
 use Rattle.std.proofs.Common.{drop, take, map, Bool, true, Result, Ok, Err, MatchResult, inl, inr}
 use Rattle.std.proofs.Math.ListN.{get_or}
@@ -20,7 +20,7 @@ use Rattle.cedar_c_trees.proofs.Raised.{below_fits, cut_same}
 use Rattle.cedar_c_trees.proofs.Stacks.{Stacked, none_stacked, next_node, one_left}
 use Rattle.cedar_c_trees.proofs.Unique.{full}
 
--- what a node says it is one for
+-- A node that means an item has the shape of the item.
 pub says_fits : (text : List ℕ) (n : Node) (i : Item) → Says text n i → Fits text n i
 says_fits text n (bool_item b) h = record { kind = h.0; filled = h.1 }
 says_fits text n (long_item z) h = record { kind = h.0; filled = h.1 }
@@ -42,12 +42,12 @@ all_fit text [] (i ∷ is) h = absurd h
 all_fit text (n ∷ ns) [] h = absurd h
 all_fit text (n ∷ ns) (i ∷ is) h = (says_fits text n i h.0, all_fit text ns is h.1)
 
--- a node is seen as a text or as none
+-- The abstract value of a node: whether it is a text.
 abbrev pub mark : Item → List Bool → Bool
 mark i under = is_text i
 
--- what is known of values, or of expressions: each of the rules C and S asks for as many below an item as the item
--- says, and q tells the texts
+-- The common facts of values and of expressions. The rules C and S require as many operands as the item has, and q
+-- states which values are texts.
 pub record IsLanguage {V : Type 0} (C : Item → List V → V → Type 0) (q : V → Bool) (S : Item → List Bool → Type 0)
     : Type 0 where
   pub made_arity : (i : Item) (vs : List V) (v : V) → C i vs v → length vs ≡ arity i
@@ -81,7 +81,7 @@ mutual
   plans_full S a no_trees h = tt
   plans_full S a (tree_then t ts) h = (plan_full S a t h.0, plans_full S a ts h.1)
 
--- items of one kind are texts or are none
+-- Items of one kind are all texts or all not.
 texts_by_kind : (i : Item) → is_text i ≡ true → kind_number i ≡ 2
 texts_by_kind (text_item s) e = refl
 texts_by_kind i e = cc
@@ -95,7 +95,7 @@ one_sort (text_item s) j e = sym (two_is_text j (sym e))
 one_sort i (text_item s) e = two_is_text i e
 one_sort i j e = refl
 
--- what is made of the first k nodes, and what the others lead to where the nodes are those of a plan
+-- The values built from the first k nodes, and the effect of the other nodes if the nodes have a valid shape.
 pub record Reading {V : Type 0} (C : Item → List V → V → Type 0) (q : V → Bool) (S : Item → List Bool → Type 0)
     (text : List ℕ) (ns : List Node) (k : ℕ) (vs : List V) : Type 0 where
   pub stacked : Stacked C text (take k ns) vs
@@ -109,7 +109,7 @@ nothing_read C q S text ns = record {
   leads = λ t p a. leads_from_nothing S mark text t ns (plan_shaped S t p) a;
 }
 
--- what a node leads to when it is read
+-- The effect of a decoded node.
 step : {V : Type 0} (C : Item → List V → V → Type 0) (q : V → Bool) (S : Item → List Bool → Type 0)
     → IsLanguage C q S → (text : List ℕ) (x : Bool) (n : Node) (ns : List Node) (old new : List V) (v : V)
     → Leads S mark text x (n ∷ ns) (map q old) → Makes C text n old new v
@@ -138,7 +138,7 @@ next_read C q S g text ns k d old new v lt r m = record {
       (subst (λ (ms : List Node). Leads S mark text (shape mark t) ms (map q old)) (drop_more ns k d lt) (r.leads t p a)) m;
 }
 
--- where a node makes nothing the nodes are refused
+-- If a node builds nothing, the nodes are not decoded.
 pub unmade : {V : Type 0} (C : Item → List V → V → Type 0) (q : V → Bool) (S : Item → List Bool → Type 0)
     (text : List ℕ) (ns : List Node) (k : ℕ) (d : Node) (old : List V) (w : Reason) → k < length ns
     → Reading C q S text ns k old → IsUnmade S text (get_or ns k d) (map q old) w → IsRefused S text ns w
@@ -154,7 +154,7 @@ unmade C q S text ns k d old NotAName lt r h =
     (k, get_or ns k d, slice_get-get_or ns k d lt, (elim h.0 [ inl a ↦ inl a | inr b ↦ inr (inl b) ], h.1))
 unmade C q S text ns k d old w lt r h = absurd h
 
--- what is refused for its levels is refused
+-- Nodes that are rejected because of their levels are not decoded.
 pub too_deep : (S : Item → List Bool → Type 0) → ((i : Item) (under : List Bool) → S i under → length under ≡ arity i)
     → (text : List ℕ) (ns : List Node) (w : Reason) → HaveMany ns w → IsRefused S text ns w
 too_deep S a text ns NoMemory h = tt
@@ -167,7 +167,7 @@ one_mark q [] b e = cc
 one_mark q (v ∷ []) b e = (v, refl)
 one_mark q (v ∷ w ∷ vs) b e = cc
 
--- where not one is left the nodes are refused
+-- If there is not exactly one value left, the nodes are not decoded.
 not_one : {V : Type 0} (C : Item → List V → V → Type 0) (q : V → Bool) (S : Item → List Bool → Type 0)
     (text : List ℕ) (ns : List Node) (k : ℕ) (vs : List V) (w : Reason) → length ns ≤ k
     → Reading C q S text ns k vs → IsNotOne vs w → IsRefused S text ns w
@@ -179,7 +179,7 @@ not_one {V = V} C q S text ns k vs BadArgument le r h =
     h o.0 o.1
 not_one C q S text ns k vs w le r h = absurd h
 
--- all nodes are read, and one value is left or not
+-- All nodes are read, and there is one value left or not.
 pub all_done : {V : Type 0} (C : Item → List V → V → Type 0) (q : V → Bool) (S : Item → List Bool → Type 0)
     → IsLanguage C q S → (text : List ℕ) (ns : List Node) (k : ℕ) (r : Result V Reason) (vs : List V) → length ns ≤ k
     → Reading C q S text ns k vs → HaveFew ns → MatchResult r (λ v. vs ≡ v ∷ []) (IsNotOne vs)

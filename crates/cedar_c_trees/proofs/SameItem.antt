@@ -1,4 +1,4 @@
--- A node over a text says one item, but for a uid past ASCII.
+-- A node over a text means only one item, except for a uid with a non-ASCII eid.
 use Rattle.std.proofs.Common.{◌≡◌, ◌∙◌, ap, sym, refl, subst, ℕ, ℤ, pos, ◌+◌, ◌<◌, List, [], ◌∷◌, Bool, true, false}
 use Rattle.std.proofs.Common.{cond, arith, Option, Some, None, ◌⊎◌, inl, inr}
 use Rattle.std.specs.List.{AllByRecursion}
@@ -24,7 +24,7 @@ use Rattle.cedar_c_trees.specs.Reads.{AllSay, Says, truth_number}
 use Rattle.cedar_c_trees.specs.Writes.{AllNote, AreAscii, IsAsciiItem, Notes}
 use Rattle.cedar_c_trees.specs.declared.node.Node.{Node}
 
--- what a number is in the places of truth values, variables and slots
+-- The meaning of a number for Booleans, variables and slots.
 truth_at : ℤ → Bool
 truth_at (pos n) = n == 1
 truth_at z = false
@@ -55,7 +55,7 @@ slot_back slots.Principal = refl
 slot_back slots.Action = refl
 slot_back slots.Resource = refl
 
--- an item with a name
+-- An item with a name.
 named : (NameParts → Item) → Option NameParts → Item
 named f None = not_item
 named f (Some n) = f n
@@ -64,7 +64,7 @@ named_back : (f : NameParts → Item) (n : NameParts) (text : List ℕ) → IsNa
 unfolding named
 named_back f n text h = ap (named f) (sym (name_of_text text n h))
 
--- the item that a node says, of its kind, number, length and text, but for a uid
+-- The item of a node, from its kind, number, length and text, except for a uid.
 said : ℕ → ℤ → ℕ → List ℕ → Item
 said k z l s =
     cond (k == 0) (bool_item (truth_at z)) (
@@ -89,7 +89,7 @@ operator_said k z l s and_operator h = subst (λ (x : ℕ). binary_item and_oper
 operator_said k z l s eq_operator h = subst (λ (x : ℕ). binary_item eq_operator ≡ said x z l s) (sym h) refl
 operator_said k z l s in_operator h = subst (λ (x : ℕ). binary_item in_operator ≡ said x z l s) (sym h) refl
 
--- at a kind
+-- The item of a node of a given kind.
 at_kind : (n : Node) (text : List ℕ) (k : ℕ) (i : Item) → n.kind ≡ k
     → i ≡ said k n.number n.len (part text n.at) → i ≡ said n.kind n.number n.len (part text n.at)
 at_kind n text k i h e = subst (λ (x : ℕ). i ≡ said x n.number n.len (part text n.at)) (sym h) e
@@ -98,7 +98,7 @@ IsNoUidItem : Item → Type 0
 IsNoUidItem (uid_item u) = ⊥
 IsNoUidItem i = Unit {0}
 
--- all but a uid is what its node says
+-- Every item except a uid is determined by its node.
 says_said : (text : List ℕ) (n : Node) (i : Item) → IsNoUidItem i → Says text n i
     → i ≡ said n.kind n.number n.len (part text n.at)
 unfolding said IsNoUidItem
@@ -122,7 +122,7 @@ says_said text n not_item x h = at_kind n text 10 not_item h refl
 says_said text n (binary_item o) x h = operator_said n.kind n.number n.len (part text n.at) o h
 says_said text n (is_item t) x h = at_kind n text 14 (is_item t) h.0 (named_back is_item t (part text n.at) h.1.1)
 
--- the node of a uid says no other item
+-- The node of a uid means no other item.
 uid_kind : (text : List ℕ) (n : Node) (i : Item) → n.kind ≡ 3 → IsNoUidItem i → Says text n i → ⊥
 unfolding IsNoUidItem
 uid_kind text n (bool_item b) k x h = omega (arith, h.0)
@@ -150,7 +150,7 @@ same_uid text n u w a h g =
     let e : g.1.0 ≡ h.1.0 = g.1.1.1.exact h.1.0 (h.1.1.1.printed b) in
     sym h.1.2 ∙ ap uid_parts (sym e) ∙ g.1.2
 
--- a uid, or something else
+-- An item is a uid or not.
 uid_or_not : (i : Item) → ((u : UidParts) × (i ≡ uid_item u)) ⊎ IsNoUidItem i
 unfolding IsNoUidItem
 uid_or_not (uid_item u) = inl (u, refl)
@@ -182,7 +182,7 @@ same_as_other text n i j x h g =
       | inr y ↦ says_said text n i x h ∙ sym (says_said text n j y g)
     ]
 
--- a node says one item, where that is no uid past ASCII
+-- A node means only one item, unless it is a uid with a non-ASCII eid.
 pub same_item : (text : List ℕ) (n : Node) (i j : Item) → IsAsciiItem i → Says text n i → Says text n j → i ≡ j
 same_item text n i j a h g =
     elim (uid_or_not i) [
@@ -191,7 +191,7 @@ same_item text n i j a h g =
       | inr x ↦ same_as_other text n i j x h g
     ]
 
--- nodes say one list of items
+-- Nodes mean only one list of items.
 pub same_items : (text : List ℕ) (ns : List Node) (is js : List Item) → AreAscii is → AllSay text ns is
     → AllSay text ns js → is ≡ js
 same_items text [] [] [] a h g = refl
@@ -202,7 +202,7 @@ same_items text (n ∷ ns) (i ∷ is) [] a h g = absurd g
 same_items text (n ∷ ns) (i ∷ is) (j ∷ js) a h g =
     λ k. same_item text n i j a.0 h.0 g.0 k ∷ same_items text ns is js a.1 h.1 g.1 k
 
--- what a written node says where no uid is past ASCII
+-- The meaning of an encoded node, if the eids of all uids are ASCII.
 note_said : (text : List ℕ) (n : Node) (i : Item) → IsAsciiItem i → Notes text n i → Says text n i
 note_said text n (uid_item u) a h = h.2 a
 note_said text n (bool_item b) a h = h
@@ -223,7 +223,7 @@ pub notes_said : (text : List ℕ) (ns : List Node) (is : List Item) → AreAsci
 notes_said text [] [] a h = tt
 notes_said text [] (i ∷ is) a h = absurd h
 notes_said text (n ∷ ns) [] a h = absurd h
-notes_said text (n ∷ ns) (i ∷ is) a h = (note_said text n i a.0 h.0, notes_said text ns is a.1 h.1)
+notes_said text (n ∷ ns) (i ∷ is) a h = (note_said text n i a.0 h.0.notes, notes_said text ns is a.1 h.1)
 
 operator_below : (k : ℕ) (o : Operator) → k ≡ 11 + operator_index o → k < 15
 operator_below k and_operator h = omega (arith, h)
@@ -245,9 +245,9 @@ below_mark text n not_item h = omega (arith, h)
 below_mark text n (binary_item o) h = operator_below n.kind o h
 below_mark text n (is_item t) h = omega (arith, h.0)
 
--- no node that is written for an item is a mark
+-- The node of an item is never a mark.
 pub all_below_mark : (text : List ℕ) (ns : List Node) (is : List Item) → AllNote text ns is
     → AllByRecursion (λ n. n.kind < 15) ns
 all_below_mark text [] is h = tt
 all_below_mark text (n ∷ ns) [] h = absurd h
-all_below_mark text (n ∷ ns) (i ∷ is) h = (below_mark text n i h.0, all_below_mark text ns is h.1)
+all_below_mark text (n ∷ ns) (i ∷ is) h = (below_mark text n i h.0.notes, all_below_mark text ns is h.1)

@@ -1,4 +1,4 @@
--- Trees, what is made of which stands on a stack, while the nodes of all of them are read.
+-- The trees whose values are on the stack, while their nodes are read.
 use Rattle.std.proofs.Common.{◌≡◌, ◌∙◌, ap, sym, refl, subst, ℕ, ◌+◌, ◌<◌, ◌≤◌, length, take, List, [], ◌∷◌, ◌++◌}
 use Rattle.std.proofs.Common.{append_assoc, String, string_bytes}
 use Rattle.std.specs.declared.alloc.Global.{Global}
@@ -11,10 +11,10 @@ use Rattle.cedar_terms.specs.ValueViews.{named_pairs}
 use Rattle.cedar_c_trees.specs.Items.{Item, Tree, node, Trees, no_trees, tree_then, flat, flats, IsMadeOf, AreMadeOf, tree_levels}
 use Rattle.cedar_c_trees.specs.Reads.{Says, AllSay, IsReadAs}
 use Rattle.cedar_c_trees.specs.laws.Stacks.{Makes}
-use Rattle.cedar_c_trees.specs.declared.levels.TheConstants.{CEDAR_LEVELS}
+use Rattle.cedar_c_trees.specs.Items.{level_limit}
 use Rattle.cedar_c_trees.specs.declared.node.Node.{Node}
 
--- the nodes say the items of some trees, whose values are these
+-- Holds if the nodes mean the items of some trees, and these are the values of the trees.
 pub record Stacked {V : Type 0} (C : Item → List V → V → Type 0) (text : List ℕ) (ns : List Node) (vs : List V)
     : Type 0 where
   pub trees : Trees
@@ -24,7 +24,7 @@ pub record Stacked {V : Type 0} (C : Item → List V → V → Type 0) (text : L
 pub none_stacked : {V : Type 0} (C : Item → List V → V → Type 0) (text : List ℕ) → Stacked C text [] []
 none_stacked C text = record { trees = no_trees; says = tt; values = tt }
 
--- some trees, cut where a list of their values is
+-- Trees, split as a list of their values is.
 record Cut {V : Type 0} (C : Item → List V → V → Type 0) (ts : Trees) (a b : List V) : Type 0 where
   front : Trees
   back : Trees
@@ -46,7 +46,7 @@ cut C (x ∷ a) b (tree_then t ts) h =
       back_values = r.back_values;
     }
 
--- one tree more, the last
+-- One more tree, appended.
 and_then : Trees → Tree → Trees
 and_then no_trees t = tree_then t no_trees
 and_then (tree_then s ts) t = tree_then s (and_then ts t)
@@ -71,7 +71,7 @@ zip_more R [] (b ∷ ys) x y z r = absurd z
 zip_more R (a ∷ xs) [] x y z r = absurd z
 zip_more R (a ∷ xs) (b ∷ ys) x y z r = (z.0, zip_more R xs ys x y z.1 r)
 
--- one node more is read
+-- One more node is read.
 pub one_node : {V : Type 0} (C : Item → List V → V → Type 0) (text : List ℕ) (ns : List Node) (n : Node)
     (old new : List V) (v : V) → Stacked C text ns old → Makes C text n old new v → Stacked C text (ns ++ n ∷ []) (new ++ v ∷ [])
 one_node C text ns n old new v s m =
@@ -85,7 +85,7 @@ one_node C text ns n old new v s m =
       values = values_more C r.front new (node m.item r.back) v r.front_values (m.below, r.back_values, m.combines);
     }
 
--- the next of some nodes is read
+-- The next of some nodes is read.
 pub next_node : {V : Type 0} (C : Item → List V → V → Type 0) (text : List ℕ) (ns : List Node) (k : ℕ)
     (d : Node) (old new : List V) (v : V) → k < length ns → Stacked C text (take k ns) old → Makes C text (get_or ns k d) old new v
     → Stacked C text (take (k + 1) ns) (new ++ v ∷ [])
@@ -93,7 +93,7 @@ next_node C text ns k d old new v l s m =
     rw (take_more ns k d l) (one_node C text (take k ns) (get_or ns k d) old new v s m)
 
 one_tree : {V : Type 0} (C : Item → List V → V → Type 0) (text : List ℕ) (ns : List Node) (v : V) (ts : Trees)
-    → ((t : Tree) → AllSay text ns (flat t) → IsMadeOf C t v → tree_levels t ≤ CEDAR_LEVELS)
+    → ((t : Tree) → AllSay text ns (flat t) → IsMadeOf C t v → tree_levels t ≤ level_limit)
     → AllSay text ns (flats ts) → AreMadeOf C ts (v ∷ []) → IsReadAs C text ns v
 one_tree C text ns v no_trees f a h = absurd h
 one_tree C text ns v (tree_then t no_trees) f a h =
@@ -101,15 +101,14 @@ one_tree C text ns v (tree_then t no_trees) f a h =
     record { tree = t; says = says; levels = f t says h.0; value = h.0 }
 one_tree C text ns v (tree_then t (tree_then u ts)) f a h = absurd h.1
 
--- all nodes are read, and one value is left
+-- All nodes are read, and one value is left.
 pub one_left : {V : Type 0} (C : Item → List V → V → Type 0) (text : List ℕ) (ns : List Node) (k : ℕ) (vs : List V)
-    (v : V) → ((t : Tree) → AllSay text ns (flat t) → IsMadeOf C t v → tree_levels t ≤ CEDAR_LEVELS) → length ns ≤ k
+    (v : V) → ((t : Tree) → AllSay text ns (flat t) → IsMadeOf C t v → tree_levels t ≤ level_limit) → length ns ≤ k
     → Stacked C text (take k ns) vs → vs ≡ v ∷ [] → IsReadAs C text ns v
 one_left C text ns k vs v f l s e =
     let r : Stacked C text ns (v ∷ []) =
     subst (Stacked C text ns) e (subst (λ (ms : List Node). Stacked C text ms vs) (take_all k ns l) s) in
     one_tree C text ns v r.trees f r.says r.values
 
--- pairs with their keys as bytes are as many
 pub length_named : (ps : List (String Global × ValueTree)) → length (named_pairs ps) ≡ length ps
 length_named ps = length-map ps (λ p. (string_bytes p.0, p.1))

@@ -1,11 +1,11 @@
--- A list of items is that of one tree.
+-- A list of items belongs to only one tree.
 use Rattle.std.proofs.Common.{◌≡◌, ◌∙◌, ap, sym, refl, ℕ, suc, length, List, [], ◌∷◌, ◌++◌, append_assoc, arith}
 use mathlib.Core.List.{append-nil, reverse}
 use Rattle.std.proofs.lemmas.List.{reverse-append}
 pub use Rattle.cedar_c_trees.specs.laws.Levels.{arity, count, IsFull, AreFull}
 use Rattle.cedar_c_trees.specs.Items.{Item, Tree, node, Trees, no_trees, tree_then, flat, flats, IsMadeOf, AreMadeOf}
 
--- the items from the last to the first
+-- The items from the last to the first.
 abbrev mutual
   pub back : Tree → List Item
   back (node i ts) = i ∷ backs ts
@@ -56,14 +56,14 @@ mutual
       let s : (t ≡ u) × (x ≡ y) = same_tree t u x y f.0 g.0 r.1 in
       ((λ k. tree_then (s.0 k) (r.0 k)), s.1)
 
--- trees with the same items are the same
+-- Trees with the same items are equal.
 pub one_tree_only : (t u : Tree) → IsFull t → IsFull u → flat t ≡ flat u → t ≡ u
 one_tree_only t u f g e =
     (same_tree t u [] [] f g
     (append-nil (back t) ∙ sym (turned t) ∙ ap reverse e ∙ turned u ∙ sym (append-nil (back u)))).0
 
 mutual
-  -- what something is made of has as many below each node as it says
+  -- A tree from which something is built has the correct number of operands.
   pub full : {V : Type 0} (C : Item → List V → V → Type 0)
       (a : (i : Item) (vs : List V) (v : V) → C i vs v → length vs ≡ arity i) (t : Tree) (v : V) → IsMadeOf C t v
       → IsFull t

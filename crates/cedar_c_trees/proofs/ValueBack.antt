@@ -1,4 +1,4 @@
--- A value that nodes say is read of them, and nothing else is.
+-- The nodes of a value are decoded as it, and as nothing else.
 use Rattle.std.proofs.Common.{◌≤◌, ◌≡◌, ◌∙◌, ap, sym, refl, subst, ℕ, ◌+◌, ◌<◌, zero, suc, length, List, [], ◌∷◌}
 use Rattle.std.proofs.Common.{Option, Some, None, arith, Bool, true, false, cond, ◌⊎◌, inl, inr}
 use Rattle.std.proofs.lemmas.Cmp.{nat_list_cmp_total}
@@ -28,7 +28,7 @@ use Rattle.cedar_c_trees.specs.Plans.{fields_count, fields_plan, value_items, va
 use Rattle.cedar_c_trees.specs.Reads.{AllSay}
 use Rattle.cedar_c_trees.specs.Writes.{AreAscii}
 use Rattle.cedar_c_trees.specs.Items.{tree_levels}
-use Rattle.cedar_c_trees.specs.declared.levels.TheConstants.{CEDAR_LEVELS}
+use Rattle.cedar_c_trees.specs.Items.{level_limit}
 use Rattle.cedar_c_trees.specs.declared.node.Node.{Node}
 use Rattle.cedar_c_trees.proofs.Made.{one_made}
 use Rattle.cedar_c_trees.proofs.SameItem.{same_items}
@@ -100,7 +100,7 @@ in_tail : (x y w : ValueTree) (xs ys : List ValueTree) → x ≡ y → AllByRecu
 in_tail x y w xs ys e a c (inl f) = absurd (not_itself x w (e ∙ f) (below_all x xs w a c))
 in_tail x y w xs ys e a c (inr d) = d
 
--- ascending lists of the same values are the same
+-- Ascending lists of the same values are equal.
 same_ascending : (xs ys : List ValueTree) → IsStrictlySortedBy value_cmp xs → IsStrictlySortedBy value_cmp ys
     → ((w : ValueTree) → Contains xs w → Contains ys w) → ((w : ValueTree) → Contains ys w → Contains xs w) → xs ≡ ys
 unfolding IsStrictlySortedBy
@@ -114,7 +114,7 @@ same_ascending (x ∷ xs) (y ∷ ys) s t f g =
     (λ w c. in_tail y x w ys xs (sym e) t.0 c (split x xs w (g w (later y ys w c)))) in
     λ i. e i ∷ m i
 
--- some values make one set
+-- Values build one set.
 same_set : (vs : List ValueTree) (v w : ValueTree) → IsSetOf vs v → IsSetOf vs w → v ≡ w
 same_set vs v w h g =
     h.is
@@ -126,7 +126,7 @@ same_set vs v w h g =
 unequal_keys : (k key : List ℕ) → slice_cmp nat_cmp key k ≡ Less → bytes_eq k key ≡ false
 unequal_keys k key h = nat_list_eq_equiv.symm k key ∙ sym (is_eq-slice_cmp key k) ∙ ap is_eq h
 
--- nothing stands at a key below all others
+-- There is nothing at a key that is less than all others.
 pub none_below : (key : List ℕ) (fs : FieldTrees) → AllByRecursion (λ y. slice_cmp nat_cmp key y ≡ Less) (field_keys fs)
     → field_at key fs ≡ None
 none_below key no_fields h = refl
@@ -168,7 +168,7 @@ same_rest key k l v w fs gs false q e a b h =
     sym (ap (λ t. cond t (Some v) (field_at key fs)) q) ∙ h
     ∙ ap (λ t. cond t (Some w) (field_at key gs)) (ap (λ x. bytes_eq x key) (sym e) ∙ q)
 
--- records whose keys ascend and that hold the same at each key are the same
+-- Records with ascending keys and the same value at each key are equal.
 same_fields : (fs gs : FieldTrees) → IsStrictlySortedBy (slice_cmp nat_cmp) (field_keys fs)
     → IsStrictlySortedBy (slice_cmp nat_cmp) (field_keys gs)
     → ((key : List ℕ) → field_at key fs ≡ field_at key gs) → fs ≡ gs
@@ -186,7 +186,7 @@ same_fields (field_then k v fs) (field_then l w gs) s t h =
     (λ key. same_rest key k l v w fs gs (bytes_eq k key) refl e (none_below k fs s.0) (none_below l gs t.0) (h key)) in
     λ i. field_then (e i) (r i) (m i)
 
--- some pairs make one record
+-- Pairs build one record.
 same_record : (ps : List (List ℕ × ValueTree)) (v w : ValueTree) → IsRecordOf ps v → IsRecordOf ps w → v ≡ w
 same_record ps v w h g =
     h.is
@@ -218,7 +218,7 @@ same_pairs (p ∷ ps) (q ∷ qs) e =
 one_text : (a b : List ℕ) → literal_value (string_literal a) ∷ [] ≡ literal_value (string_literal b) ∷ [] → a ≡ b
 one_text a b e = cc
 
--- a node makes one value of what stands below it
+-- A node builds one value from its operands.
 combines_one : (i : Item) (vs : List ValueTree) (v w : ValueTree) → Combines i vs v → Combines i vs w → v ≡ w
 combines_one (bool_item b) vs v w h g = h.1 ∙ sym g.1
 combines_one (long_item n) vs v w h g = h.1 ∙ sym g.1
@@ -237,7 +237,7 @@ combines_one not_item vs v w h g = absurd h
 combines_one (binary_item o) vs v w h g = absurd h
 combines_one (is_item t) vs v w h g = absurd h
 
--- the pairs of a record
+-- The pairs of a record.
 abbrev pub field_list : FieldTrees → List (List ℕ × ValueTree)
 field_list no_fields = []
 field_list (field_then k v fs) = (k, v) ∷ field_list fs
@@ -258,7 +258,7 @@ last_by key k v fs last false q a h =
     ap (λ t. cond t (Some v) (field_at key fs)) q ∙ h ∙ or_none last
     ∙ ap (λ t. option_or last (cond t (Some v) None)) (sym q)
 
--- where keys ascend, each is the last of its pairs
+-- If keys ascend, each is the last of its pairs.
 last_of_list : (key : List ℕ) (fs : FieldTrees) → IsStrictlySortedBy (slice_cmp nat_cmp) (field_keys fs)
     → field_at key fs ≡ last_at key (field_list fs)
 unfolding IsStrictlySortedBy
@@ -280,7 +280,7 @@ length_fields no_fields = refl
 length_fields (field_then k v fs) = omega (arith, length_fields fs)
 
 mutual
-  -- a value is made of the tree that it is written as
+  -- A value is built from its tree.
   planned : (v : ValueTree) → IsOrdered v → IsMadeOf Combines (value_plan v) v
   planned (literal_value (bool_literal b)) h = ([], tt, (refl, refl))
   planned (literal_value (long_literal n)) h = ([], tt, (refl, refl))
@@ -329,9 +329,9 @@ one_read v o t w f m =
     (full Combines combines_arity (value_plan v) v (planned v o)) f in
     one_made Combines combines_one (value_plan v) w v (subst (λ (u : Tree). IsMadeOf Combines u w) s m) (planned v o)
 
--- of nodes that say what a value is written as, that value is read and no other
+-- The nodes of an encoded value are decoded as that value and as nothing else.
 pub value_back : (v : ValueTree) (text : List ℕ) (ns : List Node) → IsOrdered v → AreAscii (value_items v)
-    → tree_levels (value_plan v) ≤ CEDAR_LEVELS → AllSay text ns (value_items v) → IsOnlyRead Combines text ns v
+    → tree_levels (value_plan v) ≤ level_limit → AllSay text ns (value_items v) → IsOnlyRead Combines text ns v
 value_back v text ns o a l s = record {
   read = record { tree = value_plan v; says = s; levels = l; value = planned v o };
   only =

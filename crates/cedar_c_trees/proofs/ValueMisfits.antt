@@ -1,4 +1,4 @@
--- Why nodes make no value on top of a stack.
+-- The reasons why nodes do not build a value on top of a stack.
 use Rattle.std.proofs.Common.{◌≡◌, ◌∙◌, ap, sym, refl, subst, ℕ, ◌+◌, zero, suc, length, List, [], ◌∷◌, ◌++◌, arith}
 use Rattle.std.proofs.Common.{Bool, true, append_assoc}
 use Rattle.cedar_terms.specs.ValueTree.{ValueTree}
@@ -52,11 +52,11 @@ combines_marked (record_item n) vs v h = ap is_text_value h.3.is
 combines_marked (call_item f n) vs v h = ap is_text_value h.3
 combines_marked i vs v h = absurd h
 
--- values are such a language
+-- Values satisfy the conditions of `IsLanguage`.
 pub values : IsLanguage Combines is_text_value StandsInValue
 values = record { made_arity = combines_arity; plan_arity = value_arity; marked = combines_marked }
 
--- the last of some
+-- The last of some elements.
 record HasLast (bs : List Bool) (k : ℕ) : Type 0 where
   less : List Bool
   last : Bool
@@ -91,7 +91,7 @@ pairs_on (suc k) front bs e =
       pairs_on k front r.less r.count,
     )
 
--- so many pairs are not on top of the stack
+-- There are not that many pairs on top of the stack.
 recorded_on : (text : List ℕ) (n : Node) (i : Item) (front under : List Bool) → n.kind ≡ 5 → Fits text n i
     → StandsInValue i under → ArePairsOn n.len (front ++ under)
 recorded_on text n (record_item k) front under e f s =

@@ -1,6 +1,5 @@
--- How drafts grow, from the last node to the first.
-use Rattle.std.specs.Prelude.{◌≡◌, ℕ, List, [], ◌∷◌, ◌++◌, string_bytes}
-use Rattle.cedar_c_lists.specs.declared.layout.Span.{Span}
+-- The growth of drafts, from the last node to the first.
+use Rattle.std.specs.Prelude.{◌≡◌, ℕ, pos, List, [], ◌∷◌, ◌++◌, string_bytes}
 use Rattle.cedar_c_trees.specs.Items.{Item, Tree, flat}
 use Rattle.cedar_c_trees.specs.Plans.{HasNames, expr_plan, text_leaf, value_plan}
 use Rattle.cedar_c_trees.specs.Reads.{IsTextAt}
@@ -9,25 +8,22 @@ use Rattle.cedar_c_trees.specs.declared.node.Node.{Node}
 use Rattle.cedar_c_trees.specs.declared.pending.Pending.{Pending}
 use Rattle.cedar_c_trees.specs.declared.pending.Pending.TheVariants as pendings
 
--- no part of a text
-abbrev pub nowhere : Span
-nowhere = record { start = 0; end = 0 }
-
--- one node stands before the others, and the bytes are longer
+-- Holds if one node was written before the others, and bytes were appended.
 pub record HasNode (n : Node) (old new : WrittenParts) : Type 0 where
   pub more : List ℕ
   pub bytes : new.bytes ≡ old.bytes ++ more
   pub nodes : new.nodes ≡ n ∷ old.nodes
 
--- one node with a text of its own stands before the others
+-- Holds if one node with a text of its own was written before the others.
 pub record HasText (kind len : ℕ) (text : List ℕ) (old new : WrittenParts) : Type 0 where
   pub node : Node
   pub has : HasNode node old new
   pub kind_is : node.kind ≡ kind
   pub len_is : node.len ≡ len
+  pub number_is : node.number ≡ pos 0
   pub at : IsTextAt new.bytes node.at text
 
--- nodes for these items stand before the others, and the bytes are longer
+-- Holds if nodes for the items were written before the others, and bytes were appended.
 pub record Adds (is : List Item) (old new : WrittenParts) : Type 0 where
   pub more : List ℕ
   pub added : List Node
@@ -35,34 +31,34 @@ pub record Adds (is : List Item) (old new : WrittenParts) : Type 0 where
   pub nodes : new.nodes ≡ added ++ old.nodes
   pub notes : AllNote new.bytes added is
 
--- the tree of what is still to be written
+-- The tree of a value, an expression or a text to encode.
 abbrev pub pending_tree : Pending → Tree
 pending_tree (pendings.Value v) = value_plan v.now
 pending_tree (pendings.Expr e) = expr_plan e.now
 pending_tree (pendings.Text s) = text_leaf (string_bytes s.now)
 
--- the items that are still to be written
+-- The items to encode.
 abbrev pub pending_items : List Pending → List Item
 pending_items [] = []
 pending_items (p ∷ ps) = flat (pending_tree p) ++ pending_items ps
 
--- the types of the unknowns in it have names
+-- Holds if the types of the unknowns have names.
 abbrev pub IsNamed : Pending → Type 0
 IsNamed (pendings.Value v) = Unit {0}
 IsNamed (pendings.Expr e) = HasNames e.now
 IsNamed (pendings.Text s) = Unit {0}
 
--- and so have those of all that is still to be written
+-- Holds if the types of all unknowns on the stack have names.
 abbrev pub AreNamed : List Pending → Type 0
 AreNamed [] = Unit {0}
 AreNamed (p ∷ ps) = IsNamed p × AreNamed ps
 
--- these items are put on the stack, and N holds where the unknowns on it have names of types
+-- Holds if the items were pushed onto the stack. N holds if the unknowns on it have types with names.
 pub record Pushes (is : List Item) (N : Type 0) (before after : List Pending) : Type 0 where
   pub items : pending_items after ≡ pending_items before ++ is
   pub named : AreNamed after → AreNamed before × N
 
--- the last items of a tree, one at least, are written, and the others are put on the stack
+-- Holds if the last items of a tree, at least one, were written, and the others were pushed onto the stack.
 pub record Writes (t : Tree) (N : Type 0) (old new : WrittenParts) (before after : List Pending) : Type 0 where
   pub first : Item
   pub others : List Item

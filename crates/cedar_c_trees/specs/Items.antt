@@ -1,4 +1,4 @@
--- Trees as lists: the item of each node, behind those of all below it.
+-- Trees as lists: the item of each node comes after the items of its operands.
 use Rattle.std.specs.Prelude.{◌≡◌, ℕ, ◌+◌, max, ℤ, List, [], ◌∷◌, ◌++◌, Bool, length, Option, Some, None}
 use Rattle.cedar_ids.specs.Name.{NameParts}
 use Rattle.cedar_ids.specs.Uid.{UidParts}
@@ -11,9 +11,8 @@ use Rattle.cedar_terms.specs.declared.slot.SlotId.{SlotId}
 use Rattle.cedar_terms.specs.declared.var.Var.{Var}
 use Rattle.cedar_terms.specs.ValueTree.{ValueTree, literal_value, extension_value}
 
--- what one node says: a literal; a set of so many; a record of so many pairs; a call of a function on so many; a
--- variable; a slot; an unknown of this name, below which its type stands or nothing; a negation; two joined; and a test
--- whether what stands below is of a type
+-- The meaning of a node. A number is the number of elements of a set, of pairs of a record, of arguments of a call, or
+-- of operands of an unknown. An unknown has at most one operand, its type.
 pub data Item : Type 0 where
   bool_item : Bool → Item
   long_item : ℤ → Item
@@ -30,53 +29,57 @@ pub data Item : Type 0 where
   is_item : NameParts → Item
 
 mutual
-  -- a node and what stands below it, in any order and with repeats
+  -- A node and its operands. The order and repetitions of operands are not restricted.
   pub data Tree : Type 0 where
     node : Item → Trees → Tree
 
-  -- a list of trees
+  -- A list of trees.
   pub data Trees : Type 0 where
     no_trees : Trees
     tree_then : Tree → Trees → Trees
 
--- the items of a tree: those of all below its node, and that of the node behind them
+-- The items of a tree: the items of the operands, followed by the item of the node.
 abbrev mutual
   pub flat : Tree → List Item
   flat (node i ts) = flats ts ++ i ∷ []
 
-  -- of some trees, one after another
+  -- The items of some trees, one after another.
   pub flats : Trees → List Item
   flats no_trees = []
   flats (tree_then t ts) = flat t ++ flats ts
 
--- how many levels a tree has: one more than the most of those below its node
+-- The levels of a tree: one more than the deepest operand.
 abbrev mutual
   pub tree_levels : Tree → ℕ
   tree_levels (node i ts) = 1 + most_levels ts
 
-  -- the most levels of some trees, and 0 of none
+  -- The levels of the deepest of some trees, or 0 if there are none.
   pub most_levels : Trees → ℕ
   most_levels no_trees = 0
   most_levels (tree_then t ts) = max (tree_levels t) (most_levels ts)
 
--- the keys and values of some pairs, one after another, a key as a text
+-- The maximum number of levels in the tree of a value or an expression: 1,000.
+abbrev pub level_limit : ℕ
+level_limit = 1000
+
+-- The keys and values of pairs, one after another. A key is a text.
 abbrev pub pairs_listed : List (List ℕ × ValueTree) → List ValueTree
 pairs_listed [] = []
 pairs_listed (p ∷ ps) = literal_value (string_literal p.0) ∷ p.1 ∷ pairs_listed ps
 
--- v is made of a tree, where C says what a node makes of what is made below it
+-- Holds if v is built from the tree, where C states what a node builds from the values of its operands.
 abbrev mutual
   pub IsMadeOf : {V : Type 0} → (Item → List V → V → Type 0) → Tree → V → Type 0
   IsMadeOf {V = V} C (node i ts) v = (vs : List V) × AreMadeOf C ts vs × C i vs v
 
-  -- the values are made of some trees, one each
+  -- Holds if the values are built from the trees, one from each.
   pub AreMadeOf : {V : Type 0} → (Item → List V → V → Type 0) → Trees → List V → Type 0
   AreMadeOf C no_trees [] = Unit {0}
   AreMadeOf C no_trees (v ∷ vs) = ⊥
   AreMadeOf C (tree_then t ts) [] = ⊥
   AreMadeOf C (tree_then t ts) (v ∷ vs) = IsMadeOf C t v × AreMadeOf C ts vs
 
--- v is what a node that says i makes of the values below it
+-- Holds if v is the value of an item with operands `vs`.
 abbrev pub Combines : Item → List ValueTree → ValueTree → Type 0
 Combines (bool_item b) vs v = (vs ≡ []) × (v ≡ literal_value (bool_literal b))
 Combines (long_item n) vs v = (vs ≡ []) × (v ≡ literal_value (long_literal n))
@@ -89,13 +92,13 @@ Combines (call_item f n) vs v =
     (a : List ℕ) × (n ≡ 1) × (vs ≡ literal_value (string_literal a) ∷ []) × (v ≡ extension_value f a)
 Combines i vs v = ⊥
 
--- the type of an unknown: none, or what the one text below it names
+-- Holds if this is the type of an unknown: none without an operand, or the type named by the text of its only operand.
 abbrev pub IsTypeBelow : Option NameParts → ℕ → List ExprTree → Type 0
 IsTypeBelow None n es = (n ≡ 0) × (es ≡ [])
 IsTypeBelow (Some t) n es =
     (text : List ℕ) × (n ≡ 1) × (es ≡ val_node (string_literal text) ∷ []) × IsNameText t text
 
--- e is what a node that says i makes of the expressions below it
+-- Holds if e is the expression of an item with operands `es`.
 abbrev pub Joins : Item → List ExprTree → ExprTree → Type 0
 Joins (bool_item b) es e = (es ≡ []) × (e ≡ val_node (bool_literal b))
 Joins (long_item n) es e = (es ≡ []) × (e ≡ val_node (long_literal n))

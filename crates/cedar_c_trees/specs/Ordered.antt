@@ -1,4 +1,4 @@
--- Values as `Value::set` and `Value::record` make them, and what is read of written nodes.
+-- Values as `Value::set` and `Value::record` build them, and the decoding of encoded nodes.
 use Rattle.std.specs.Prelude.{◌≡◌, ℕ, List, [], ◌∷◌}
 use Rattle.std.specs.Cmp.Lexicographic.{slice_cmp}
 use Rattle.std.specs.List.Sorted.{IsStrictlySortedBy}
@@ -10,12 +10,12 @@ use Rattle.cedar_c_trees.specs.Items.{Item}
 use Rattle.cedar_c_trees.specs.Reads.{IsReadAs}
 use Rattle.cedar_c_trees.specs.declared.node.Node.{Node}
 
--- the values of a list
+-- The values of a list.
 abbrev pub value_list : ValueTrees → List ValueTree
 value_list no_values = []
 value_list (value_then v vs) = v ∷ value_list vs
 
--- the elements of each set ascend, and so do the keys of each record
+-- Holds if the elements of each set ascend, and the keys of each record ascend.
 abbrev mutual
   pub IsOrdered : ValueTree → Type 0
   IsOrdered (literal_value l) = Unit {0}
@@ -23,17 +23,17 @@ abbrev mutual
   IsOrdered (record_value fs) = IsStrictlySortedBy (slice_cmp nat_cmp) (field_keys fs) × HaveOrdered fs
   IsOrdered (extension_value f a) = Unit {0}
 
-  -- so is each of some values
+  -- Holds if each of the values is ordered.
   pub AreOrdered : ValueTrees → Type 0
   AreOrdered no_values = Unit {0}
   AreOrdered (value_then v vs) = IsOrdered v × AreOrdered vs
 
-  -- so is the value of each field
+  -- Holds if the value of each field is ordered.
   pub HaveOrdered : FieldTrees → Type 0
   HaveOrdered no_fields = Unit {0}
   HaveOrdered (field_then k v fs) = IsOrdered v × HaveOrdered fs
 
--- v is read of the nodes, and nothing else is
+-- Holds if the nodes are decoded as v, and as nothing else.
 pub record IsOnlyRead {V : Type 0} (C : Item → List V → V → Type 0) (text : List ℕ) (ns : List Node) (v : V)
     : Type 0 where
   pub read : IsReadAs C text ns v

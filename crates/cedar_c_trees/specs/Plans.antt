@@ -1,4 +1,4 @@
--- The trees that values and expressions are written as.
+-- The trees of values and expressions.
 use Rattle.std.specs.Prelude.{◌≡◌, ℕ, ◌+◌, List, Option, Some, None}
 use Rattle.cedar_ids.specs.Printed.{printed_name}
 use Rattle.cedar_ids.specs.TextOf.{IsName}
@@ -12,37 +12,37 @@ use Rattle.cedar_c_trees.specs.Items.{Item, bool_item, long_item, text_item, uid
 use Rattle.cedar_c_trees.specs.Items.{var_item, slot_item, unknown_item, not_item, binary_item, is_item}
 use Rattle.cedar_c_trees.specs.Items.{Tree, node, Trees, no_trees, tree_then, flat, IsMadeOf, Joins}
 
--- the item of a literal
+-- The item of a literal.
 abbrev pub literal_item : LiteralTree → Item
 literal_item (bool_literal b) = bool_item b
 literal_item (long_literal n) = long_item n
 literal_item (string_literal s) = text_item s
 literal_item (uid_literal u) = uid_item u
 
--- a text, with nothing below it
+-- The tree of a text.
 abbrev pub text_leaf : List ℕ → Tree
 text_leaf s = node (text_item s) no_trees
 
--- one tree
+-- The list of one tree.
 abbrev pub one_tree : Tree → Trees
 one_tree t = tree_then t no_trees
 
--- how many values there are
+-- The number of values.
 abbrev pub values_count : ValueTrees → ℕ
 values_count no_values = 0
 values_count (value_then v vs) = 1 + values_count vs
 
--- how many fields there are
+-- The number of fields.
 abbrev pub fields_count : FieldTrees → ℕ
 fields_count no_fields = 0
 fields_count (field_then k v fs) = 1 + fields_count fs
 
--- how many expressions there are
+-- The number of expressions.
 abbrev pub exprs_count : ExprTrees → ℕ
 exprs_count no_exprs = 0
 exprs_count (expr_then e es) = 1 + exprs_count es
 
--- a value as a tree: the elements of a set in its order, the pairs of a record in its, a key before its value
+-- The tree of a value. The elements of a set and the pairs of a record are in order, each key before its value.
 abbrev mutual
   pub value_plan : ValueTree → Tree
   value_plan (literal_value l) = node (literal_item l) no_trees
@@ -50,22 +50,22 @@ abbrev mutual
   value_plan (record_value fs) = node (record_item (fields_count fs)) (fields_plan fs)
   value_plan (extension_value f a) = node (call_item f 1) (one_tree (text_leaf a))
 
-  -- some values, in their order
+  -- The trees of some values, in order.
   pub values_plan : ValueTrees → Trees
   values_plan no_values = no_trees
   values_plan (value_then v vs) = tree_then (value_plan v) (values_plan vs)
 
-  -- some pairs, a key before its value
+  -- The trees of some pairs, each key before its value.
   pub fields_plan : FieldTrees → Trees
   fields_plan no_fields = no_trees
   fields_plan (field_then k v fs) = tree_then (text_leaf k) (tree_then (value_plan v) (fields_plan fs))
 
--- an unknown of a name, below which its type stands where it has one
+-- The tree of an unknown with a name. Its operand is the name of its type, if it has one.
 abbrev pub named_unknown : List ℕ → Option NameParts → Tree
 named_unknown name None = node (unknown_item name 0) no_trees
 named_unknown name (Some t) = node (unknown_item name 1) (one_tree (text_leaf (printed_name t)))
 
--- an expression as a tree
+-- The tree of an expression.
 abbrev mutual
   pub expr_plan : ExprTree → Tree
   expr_plan (val_node l) = node (literal_item l) no_trees
@@ -78,26 +78,26 @@ abbrev mutual
   expr_plan (binary_node o x y) = node (binary_item o) (tree_then (expr_plan x) (one_tree (expr_plan y)))
   expr_plan (is_node e t) = node (is_item t) (one_tree (expr_plan e))
 
-  -- some expressions, in their order
+  -- The trees of some expressions, in order.
   pub exprs_plan : ExprTrees → Trees
   exprs_plan no_exprs = no_trees
   exprs_plan (expr_then e es) = tree_then (expr_plan e) (exprs_plan es)
 
--- the items that a value is written as
+-- The items of a value.
 abbrev pub value_items : ValueTree → List Item
 value_items v = flat (value_plan v)
 
--- the items that an expression is written as
+-- The items of an expression.
 abbrev pub expr_items : ExprTree → List Item
 expr_items e = flat (expr_plan e)
 
--- the types of unknowns have names
+-- Holds if the type, if there is one, is a name.
 abbrev pub IsTyped : Option NameParts → Type 0
 IsTyped None = Unit {0}
 IsTyped (Some t) = IsName t
 
 abbrev mutual
-  -- the types of the unknowns of an expression have names
+  -- Holds if the types of all unknowns of an expression are names.
   pub HasNames : ExprTree → Type 0
   HasNames (unknown_node u) = IsTyped u.annotation
   HasNames (set_node es) = HaveNames es
@@ -107,12 +107,12 @@ abbrev mutual
   HasNames (is_node e t) = HasNames e
   HasNames e = Unit {0}
 
-  -- so have those of some expressions
+  -- Holds if the types of all unknowns of some expressions are names.
   pub HaveNames : ExprTrees → Type 0
   HaveNames no_exprs = Unit {0}
   HaveNames (expr_then e es) = HasNames e × HaveNames es
 
--- an expression is made of the tree that it is written as, and nothing else is made of a tree with its items
+-- Holds if an expression is built from its tree, and no other expression is built from a tree with the same items.
 pub record IsReadBack (e : ExprTree) : Type 0 where
   pub planned : IsMadeOf Joins (expr_plan e) e
   pub only : (t : Tree) (d : ExprTree) → flat t ≡ expr_items e → IsMadeOf Joins t d → d ≡ e

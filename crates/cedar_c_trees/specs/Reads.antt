@@ -1,4 +1,4 @@
--- The items that nodes over a text are, and the values that they are read as.
+-- The items of nodes over a text, and the values and expressions of nodes.
 use Rattle.std.specs.Prelude.{◌≡◌, ℕ, ◌+◌, ◌≤◌, ℤ, pos, List, Bool, true, false}
 use Rattle.std.specs.List.{AllZip}
 use Rattle.std.specs.Str.{IsUtf8}
@@ -14,28 +14,27 @@ use Rattle.cedar_terms.specs.SlotTree.{slot_index}
 use Rattle.cedar_terms.specs.VarTree.{var_index}
 use Rattle.cedar_c_trees.specs.Items.{Item, bool_item, long_item, text_item, uid_item, set_item, record_item}
 use Rattle.cedar_c_trees.specs.Items.{call_item, var_item, slot_item, unknown_item, not_item, binary_item, is_item, Tree, flat, IsMadeOf}
-use Rattle.cedar_c_trees.specs.Items.{tree_levels}
-use Rattle.cedar_c_trees.specs.declared.levels.TheConstants.{CEDAR_LEVELS}
+use Rattle.cedar_c_trees.specs.Items.{level_limit, tree_levels}
 use Rattle.cedar_c_trees.specs.declared.node.Node.{Node}
 
--- a truth value as a number
+-- The number of a Boolean.
 abbrev pub truth_number : Bool → ℤ
 truth_number true = pos 1
 truth_number false = pos 0
 
--- a text in UTF-8, which a part of a text is
+-- Holds if s is the UTF-8 text in a part of a text.
 abbrev pub IsTextAt : List ℕ → Span → List ℕ → Type 0
 IsTextAt text at s = IsInside text at × IsUtf8 (part text at) × (s ≡ part text at)
 
--- a name, which a part of a text is
+-- Holds if n is the name in a part of a text.
 abbrev pub IsNameAt : List ℕ → Span → NameParts → Type 0
 IsNameAt text at n = IsInside text at × IsNameText n (part text at)
 
--- a uid, which is read of a part of a text
+-- Holds if u is parsed from a part of a text.
 abbrev pub IsUidAt : List ℕ → Span → EntityUID → Type 0
 IsUidAt text at u = IsReadAt text u at
 
--- what a node over a text says
+-- Holds if a node over a text means the item.
 abbrev pub Says : List ℕ → Node → Item → Type 0
 Says text n (bool_item b) = (n.kind ≡ 0) × (n.number ≡ truth_number b)
 Says text n (long_item z) = (n.kind ≡ 1) × (n.number ≡ z)
@@ -51,13 +50,13 @@ Says text n not_item = n.kind ≡ 10
 Says text n (binary_item o) = n.kind ≡ 11 + operator_index o
 Says text n (is_item t) = (n.kind ≡ 14) × IsNameAt text n.at t
 
--- the nodes say the items, one each
+-- Holds if the nodes mean the items, one for each.
 abbrev pub AllSay : List ℕ → List Node → List Item → Type 0
 AllSay text ns is = AllZip (Says text) ns is
 
--- the nodes are those of a tree of no more levels than a tree may have, and v is made of it
+-- Holds if the nodes encode a tree of at most 1,000 levels, and v is its value.
 pub record IsReadAs {V : Type 0} (C : Item → List V → V → Type 0) (text : List ℕ) (ns : List Node) (v : V) : Type 0 where
   pub tree : Tree
   pub says : AllSay text ns (flat tree)
-  pub levels : tree_levels tree ≤ CEDAR_LEVELS
+  pub levels : tree_levels tree ≤ level_limit
   pub value : IsMadeOf C tree v

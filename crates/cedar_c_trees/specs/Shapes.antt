@@ -1,4 +1,4 @@
--- Which trees nodes may be, whatever their texts say.
+-- The possible trees of nodes, whatever their texts are.
 use Rattle.std.specs.Prelude.{◌≡◌, ◌⊎◌, ℕ, ◌+◌, pos, List, [], ◌∷◌, Bool, true, false, length}
 use Rattle.std.specs.List.{AllZip}
 use Rattle.cedar_c_lists.specs.Texts.{IsInside}
@@ -11,7 +11,7 @@ use Rattle.cedar_c_trees.specs.Items.{Tree, node, Trees, no_trees, tree_then}
 use Rattle.cedar_c_trees.specs.Reads.{truth_number}
 use Rattle.cedar_c_trees.specs.declared.node.Node.{Node}
 
--- the number of the kind of the nodes that say an item
+-- The kind of the nodes of an item.
 abbrev pub kind_number : Item → ℕ
 kind_number (bool_item b) = 0
 kind_number (long_item z) = 1
@@ -27,7 +27,7 @@ kind_number not_item = 10
 kind_number (binary_item o) = 11 + operator_index o
 kind_number (is_item t) = 14
 
--- the number, the count and the place in a node are as the item asks, whatever is written at that place
+-- Holds if the number, the length and the span of a node are valid for the item, whatever the text at the span is.
 abbrev pub IsFilled : List ℕ → Node → Item → Type 0
 IsFilled text n (bool_item b) = n.number ≡ truth_number b
 IsFilled text n (long_item z) = n.number ≡ z
@@ -43,31 +43,31 @@ IsFilled text n not_item = Unit {0}
 IsFilled text n (binary_item o) = Unit {0}
 IsFilled text n (is_item t) = IsInside text n.at
 
--- a node over a text is one for the item, but for what is written in its part of the text
+-- Holds if a node has the shape of an item, whatever its text is.
 pub record Fits (text : List ℕ) (n : Node) (i : Item) : Type 0 where
   pub kind : n.kind ≡ kind_number i
   pub filled : IsFilled text n i
 
--- the nodes are such for the items, one each
+-- Holds if the nodes have the shapes of the items, one for each.
 abbrev pub AllFit : List ℕ → List Node → List Item → Type 0
 AllFit text ns is = AllZip (Fits text) ns is
 
--- whether an item is a text
+-- Whether an item is a text.
 abbrev pub is_text : Item → Bool
 is_text (text_item s) = true
 is_text i = false
 
--- which of some trees are texts
+-- The trees that are texts.
 abbrev pub which_texts : Trees → List Bool
 which_texts no_trees = []
 which_texts (tree_then (node i us) ts) = is_text i ∷ which_texts ts
 
--- which are texts of keys, which are, and values, one after another
+-- Texts for keys, alternating with the given values.
 abbrev pub keyed : List Bool → List Bool
 keyed [] = []
 keyed (b ∷ bs) = true ∷ b ∷ keyed bs
 
--- an item may stand in a value, right above some of which these are texts
+-- Holds if an item may have these operands in a value. The Booleans state which operands are texts.
 abbrev pub StandsInValue : Item → List Bool → Type 0
 StandsInValue (bool_item b) under = under ≡ []
 StandsInValue (long_item z) under = under ≡ []
@@ -78,7 +78,7 @@ StandsInValue (record_item k) under = (bs : List Bool) × (length bs ≡ k) × (
 StandsInValue (call_item f k) under = (k ≡ 1) × (under ≡ true ∷ [])
 StandsInValue i under = ⊥
 
--- an item may stand in an expression, right above some of which these are texts
+-- Holds if an item may have these operands in an expression. The Booleans state which operands are texts.
 abbrev pub StandsInExpr : Item → List Bool → Type 0
 StandsInExpr (bool_item b) under = under ≡ []
 StandsInExpr (long_item z) under = under ≡ []
@@ -94,12 +94,12 @@ StandsInExpr not_item under = length under ≡ 1
 StandsInExpr (binary_item o) under = length under ≡ 2
 StandsInExpr (is_item t) under = length under ≡ 1
 
--- each item of a tree stands where S says that it may
+-- Holds if each item of a tree may have its operands, by S.
 abbrev mutual
   pub IsPlan : (Item → List Bool → Type 0) → Tree → Type 0
   IsPlan S (node i ts) = S i (which_texts ts) × ArePlans S ts
 
-  -- so does each item of some trees
+  -- Holds if each item of some trees may have its operands, by S.
   pub ArePlans : (Item → List Bool → Type 0) → Trees → Type 0
   ArePlans S no_trees = Unit {0}
   ArePlans S (tree_then t ts) = IsPlan S t × ArePlans S ts

@@ -1,6 +1,7 @@
-//! Nodes that are written from the last to the first, and the bytes of their texts.
+//! A draft of nodes, written from the last node to the first, and the bytes of their texts.
 ghost use Rattle.std.specs.Prelude.{◌≡◌, [], OnOk, length};
-ghost use Rattle.cedar_c_trees.specs.Drafts.{HasNode, HasText, nowhere};
+ghost use Rattle.cedar_c_trees.specs.Drafts.{HasNode, HasText};
+ghost use Rattle.cedar_c_trees.specs.Writes.{nowhere};
 
 use crate::node::Node;
 use crate::written::Written;
@@ -8,7 +9,7 @@ use cedar_c_lists::Span;
 use std::alloc::{AllocError, Global};
 use std::marker::Model;
 
-/// Nodes that are written from the last to the first. Contracts see them from the first to the last.
+/// Nodes that are written from the last to the first. In contracts they are listed from the first to the last.
 #[derive(Drop)]
 pub(crate) struct Draft {
     bytes: Vec<u8>,
@@ -24,7 +25,7 @@ impl Model for Draft {
     ghost view = { λ d. record { bytes = d.bytes.items; nodes = reverse d.nodes.items } };
 }
 
-// The place behind the last byte.
+// Returns the position after the last byte.
 fn end_of(bytes: &Vec<u8>) -> usize
     ensures { result ≡ length bytes.now.items }
 {
@@ -32,7 +33,7 @@ fn end_of(bytes: &Vec<u8>) -> usize
 }
 
 impl Draft {
-    /// No node. Takes no memory.
+    /// Creates a draft without nodes. Does not allocate.
     pub(crate) fn new(alloc: Global) -> Draft
         ensures { result ≡ record { bytes = []; nodes = [] } }
     {
@@ -74,7 +75,7 @@ impl Draft {
         Ok(())
     }
 
-    /// The nodes that are written, from the first to the last. Takes no memory.
+    /// Returns the written nodes, from the first to the last. Does not allocate.
     pub(crate) fn finished(self) -> Written
         ensures { result ≡ self }
     {

@@ -1,4 +1,4 @@
-//! Reading an expression from nodes over a text.
+//! Decoding an expression from nodes over a text.
 ghost use Rattle.std.specs.Prelude.{◌≡◌, ◌≤◌, ◌+◌, IfOk, map, MatchResult};
 ghost use Rattle.cedar_terms.specs.ExprTree.{binary_node, Operator, operator_index};
 ghost use Rattle.cedar_c_trees.specs.Items.{Joins};
@@ -18,7 +18,7 @@ use cedar_ids::entity::EntityType;
 use cedar_terms::Expr;
 use std::alloc::{AllocError, Global};
 
-// Two expressions joined by the operator of a kind.
+// Builds the binary expression with the operator of a kind.
 fn two_joined(alloc: Global, kind: u32, left: Expr, right: Expr) -> Result<Expr, AllocError>
     requires least { 11 ≤ kind }
     requires most { kind ≤ 13 }
@@ -31,7 +31,7 @@ fn two_joined(alloc: Global, kind: u32, left: Expr, right: Expr) -> Result<Expr,
     }
 }
 
-// The expression of an unknown, a negation, two expressions joined, or a test of a type.
+// Builds an unknown, a negation, a binary expression, or a test of a type.
 fn operated(alloc: Global, text: &[u8], node: &Node, stack: &mut Vec<Expr>) -> Result<Expr, Reason>
     requires { 9 ≤ node.now.kind }
     ensures { MatchResult result (Makes Joins text.now node.now stack.old.items stack.new.items)
@@ -59,7 +59,7 @@ fn operated(alloc: Global, text: &[u8], node: &Node, stack: &mut Vec<Expr>) -> R
     }
 }
 
-// The expression of a node, which takes what stands below it off a stack.
+// Builds the expression of a node. Pops its operands off the stack.
 fn joined(alloc: Global, text: &[u8], node: &Node, stack: &mut Vec<Expr>) -> Result<Expr, Reason>
     ensures { MatchResult result (Makes Joins text.now node.now stack.old.items stack.new.items)
         (IsUnjoined StandsInExpr text.now node.now stack.old.items) }
@@ -96,11 +96,14 @@ fn joined(alloc: Global, text: &[u8], node: &Node, stack: &mut Vec<Expr>) -> Res
     }
 }
 
-/// The expression that nodes over a text are, each behind all that stands below it. Takes memory.
+/// Decodes the expression of nodes over a text. Each node comes after its operands. Reads each node twice.
 ///
-/// `NotAUid`, `NotUtf8` and `NotAName` come where what is written for a node is not what its kind asks for,
-/// `BadArgument` where the nodes are no expression's, whatever is written for them, and `TooDeep` where they have more
-/// than `CEDAR_LEVELS` levels. Reads each node twice.
+/// # Errors
+///
+/// - `BadArgument`: the nodes are not the nodes of an expression, whatever their texts are.
+/// - `TooDeep`: the expression has more than `CEDAR_LEVELS` levels.
+/// - `NotAUid`, `NotUtf8`, `NotAName`: the text of a node is not valid for its kind.
+/// - `NoMemory`: an allocation failed.
 pub fn expr_of(alloc: Global, text: &[u8], nodes: &[Node]) -> Result<Expr, Reason>
     ensures { MatchResult result (IsReadAs Joins text.now nodes.now)
         (IsRefused StandsInExpr text.now nodes.now) }

@@ -1,4 +1,4 @@
-//! What is taken off a stack of expressions.
+//! Removal of expressions from a stack.
 ghost use Rattle.std.specs.Prelude.{◌≡◌, ◌++◌, ◌∷◌, [], MatchResult, length};
 ghost use Rattle.cedar_c_trees.specs.laws.Stacks.{AreTooFew, IsNotOne};
 
@@ -6,7 +6,7 @@ use cedar_c_lists::Reason;
 use cedar_terms::Expr;
 use std::alloc::Global;
 
-/// Takes the last expression off a stack.
+/// Pops the last expression off a stack.
 pub(crate) fn popped_expr(stack: &mut Vec<Expr>) -> Result<Expr, Reason>
     ensures { MatchResult result (λ e. stack.old.items ≡ stack.new.items ++ e ∷ []) (AreTooFew stack.old.items 1) }
 {
@@ -16,7 +16,7 @@ pub(crate) fn popped_expr(stack: &mut Vec<Expr>) -> Result<Expr, Reason>
     }
 }
 
-/// Takes the last so many expressions off a stack, in their order.
+/// Pops the last `count` expressions off a stack, in order.
 pub(crate) fn popped_exprs(
     alloc: Global,
     stack: &mut Vec<Expr>,
@@ -35,7 +35,7 @@ pub(crate) fn popped_exprs(
     Ok(exprs)
 }
 
-/// Takes the last two expressions off a stack, in their order.
+/// Pops the last two expressions off a stack, in order.
 pub(crate) fn popped_two(stack: &mut Vec<Expr>) -> Result<(Expr, Expr), Reason>
     ensures { MatchResult result (λ p. stack.old.items ≡ stack.new.items ++ p.0 ∷ p.1 ∷ [])
         (AreTooFew stack.old.items 2) }
@@ -45,7 +45,7 @@ pub(crate) fn popped_two(stack: &mut Vec<Expr>) -> Result<(Expr, Expr), Reason>
     Ok((left, right))
 }
 
-/// The one expression on a stack.
+/// Returns the only expression on a stack.
 pub(crate) fn only_expr(stack: Vec<Expr>) -> Result<Expr, Reason>
     ensures { MatchResult result (λ e. stack.items ≡ e ∷ []) (IsNotOne stack.items) }
 {

@@ -1,4 +1,4 @@
-//! Writing the node of an expression.
+//! Encoding the node of an expression.
 ghost use Rattle.std.specs.Prelude.{◌≡◌, OnOk, pos};
 ghost use Rattle.cedar_terms.specs.SlotTree.{slot_index};
 ghost use Rattle.cedar_terms.specs.VarTree.{var_index};
@@ -11,7 +11,7 @@ use crate::pending::{Pending, push_expr, push_exprs, push_two};
 use cedar_terms::{Expr, ExprNode, SlotId, Var};
 use std::alloc::{AllocError, Global};
 
-// The number of a variable.
+// Returns the number of a variable.
 fn var_number(var: Var) -> i64
     ensures { result ≡ pos (var_index var) }
 {
@@ -23,7 +23,7 @@ fn var_number(var: Var) -> i64
     }
 }
 
-// The number of a slot.
+// Returns the number of a slot.
 fn slot_number(slot: SlotId) -> i64
     ensures { result ≡ pos (slot_index slot) }
 {
@@ -34,7 +34,7 @@ fn slot_number(slot: SlotId) -> i64
     }
 }
 
-/// Writes the node of an expression, and puts what stands below it on the stack, the last on top.
+/// Writes the node of an expression. Pushes its operands onto the stack, the last on top.
 pub(crate) fn write_expr_node<'a>(
     alloc: Global,
     draft: &mut Draft,

@@ -1,4 +1,4 @@
-//! Laws of what is read and written.
+//! Laws of encoding and decoding.
 ghost use Rattle.std.specs.Prelude.{◌≡◌, List, ℕ};
 ghost use Rattle.cedar_terms.specs.ExprTree.{ExprTree};
 ghost use Rattle.cedar_terms.specs.ValueTree.{ValueTree};
@@ -9,12 +9,12 @@ ghost use Rattle.cedar_c_trees.specs.Refusals.{IsPlanned};
 ghost use Rattle.cedar_c_trees.specs.Shapes.{StandsInExpr, StandsInValue};
 ghost use Rattle.cedar_c_trees.specs.declared.node.Node.{Node};
 
-/// What an expression is written as is read as that expression and as no other. Does nothing.
+/// States that an encoded expression is decoded as itself and as nothing else. Does nothing at run time.
 pub fn written_is_read_back()
     ensures { (e : ExprTree) → HasNames e → IsReadBack e }
 {}
 
-/// Nodes that are read are such as are refused neither as a bad argument nor as too deep. Does nothing.
+/// States that decoded nodes can be rejected neither as `BadArgument` nor as `TooDeep`. Does nothing at run time.
 pub fn what_is_read_is_planned()
     ensures value { (text : List ℕ) (ns : List Node) (v : ValueTree) → IsReadAs Combines text ns v
         → IsPlanned StandsInValue text ns }

@@ -1,4 +1,4 @@
-//! Writing nodes that hold a text, and literals.
+//! Encoding nodes with a text, and literals.
 ghost use Rattle.std.specs.Prelude.{◌≡◌, ◌∷◌, [], IfOk, OnOk, string_bytes};
 ghost use Rattle.cedar_ids.specs.TextOf.{IsNameText};
 ghost use Rattle.cedar_ids.specs.UidOf.{uid_parts};
@@ -15,16 +15,16 @@ use cedar_ids::name::Name;
 use cedar_terms::{ExtensionValue, Literal, StaticType, Unknown};
 use std::alloc::{AllocError, Global};
 
-// The text of a name.
+// Returns the text of a name.
 fn name_text(alloc: Global, name: &Name) -> Result<String, AllocError>
     ensures { IfOk result (λ s. IsNameText name.now (string_bytes s)) }
 {
-    // No effect at run time: this call says that the components are ids.
+    // No effect at run time: the contract of this call states that the components are ids.
     let _basename = name.basename();
     name.to_string(alloc)
 }
 
-// The text of the name of a type.
+// Returns the text of the name of a type.
 fn type_text(alloc: Global, ty: &StaticType) -> Result<String, AllocError>
     ensures { IfOk result (λ s. IsNameText (entity_name ty.now) (string_bytes s)) }
 {
@@ -43,13 +43,13 @@ pub(crate) fn write_text(draft: &mut Draft, text: &str) -> Result<(), AllocError
 pub(crate) fn write_uid(alloc: Global, draft: &mut Draft, uid: &EntityUID) -> Result<(), AllocError>
     ensures { OnOk result (Adds (uid_item (uid_parts uid.now) ∷ []) draft.old draft.new) }
 {
-    // No effect at run time: this call says that the components of its type are ids.
+    // No effect at run time: the contract of this call states that the components of its type are ids.
     let _type = uid.entity_type();
     let text = uid.to_string(alloc)?;
     draft.put_text(3, 0, text.as_str())
 }
 
-/// Writes a call of a function on so many arguments.
+/// Writes a call of a function with `len` arguments.
 pub(crate) fn write_call(
     alloc: Global,
     draft: &mut Draft,
@@ -62,7 +62,7 @@ pub(crate) fn write_call(
     draft.put_text(6, len, text.as_str())
 }
 
-/// Writes a call of an extension function on a text.
+/// Writes a call of an extension function with a text as its argument.
 pub(crate) fn write_extension(
     alloc: Global,
     draft: &mut Draft,
@@ -83,7 +83,7 @@ pub(crate) fn write_is(alloc: Global, draft: &mut Draft, name: &Name) -> Result<
     draft.put_text(14, 0, text.as_str())
 }
 
-/// Writes an unknown, and before it the name of its type where it has one.
+/// Writes an unknown, and before it the name of its type, if it has one.
 pub(crate) fn write_unknown(
     alloc: Global,
     draft: &mut Draft,
@@ -103,7 +103,7 @@ pub(crate) fn write_unknown(
     }
 }
 
-// The number of a truth value.
+// Returns the number of a Boolean.
 fn number_of(b: bool) -> i64
     ensures { result ≡ truth_number b }
 {

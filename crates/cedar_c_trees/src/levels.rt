@@ -1,4 +1,4 @@
-//! How many levels nodes have, which is told before anything is made of them.
+//! The number of levels of nodes, which is checked before anything is built from them.
 ghost use Rattle.std.specs.Prelude.{◌≡◌, ◌≤◌, ◌^◌, MatchOption, MatchResult};
 ghost use Rattle.cedar_c_trees.specs.laws.Levels.{below, HaveFew, HaveMany, most, IsNotRaised, IsRaised};
 
@@ -6,12 +6,12 @@ use crate::node::Node;
 use cedar_c_lists::Reason;
 use std::alloc::Global;
 
-/// The most levels that the tree of some nodes may have. A node below which nothing stands has one, and each other node
-/// one more than the most of those below it. Letting go of a value or of an expression, comparing, hashing and printing
-/// it recurse as deep as it has levels.
+/// The greatest number of levels of the tree of some nodes. A node without operands has one level, and any other node
+/// has one more than the deepest of its operands. Dropping, comparing, hashing and printing a value or an expression
+/// recurse once per level.
 pub const CEDAR_LEVELS: usize = 1000;
 
-// How many stand right below a node, where that is a number of this machine.
+// Returns the number of operands of a node, if it fits into `usize`.
 fn below(node: &Node) -> Option<usize>
     ensures { MatchOption result (2 ^ 64 ≤ below node.now) (λ k. k ≡ below node.now) }
 {
@@ -24,7 +24,7 @@ fn below(node: &Node) -> Option<usize>
     }
 }
 
-// The most of some numbers, and 0 of none.
+// Returns the greatest of the numbers, or 0 if there are none.
 fn most_of(numbers: &[usize]) -> usize
     ensures { result ≡ most numbers.now }
 {
@@ -37,7 +37,7 @@ fn most_of(numbers: &[usize]) -> usize
     most
 }
 
-// Takes the levels of those right below a node off a stack, and answers those of the node.
+// Pops the levels of a node's operands off a stack, and returns the levels of the node.
 fn raised(node: &Node, heights: &mut Vec<usize>) -> Result<usize, Reason>
     ensures { MatchResult result (IsRaised node.now heights.old.items heights.new.items)
         (IsNotRaised node.now heights.old.items) }
@@ -57,7 +57,7 @@ fn raised(node: &Node, heights: &mut Vec<usize>) -> Result<usize, Reason>
     Ok(most + 1)
 }
 
-/// That nodes have no more levels than a tree may have. Takes memory.
+/// Checks that the nodes have at most `CEDAR_LEVELS` levels.
 pub(crate) fn check_levels(alloc: Global, nodes: &[Node]) -> Result<(), Reason>
     ensures { MatchResult result (λ _. HaveFew nodes.now) (HaveMany nodes.now) }
 {

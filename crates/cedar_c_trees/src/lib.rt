@@ -1,5 +1,5 @@
-//! Values and expressions as callers in C give and are given them: plain nodes over one text, each behind all that
-//! stands below it.
+//! Values and expressions as callers in C pass and receive them: flat nodes over one text. Each node comes after its
+//! operands.
 #![tactic(auto)]
 
 pub mod draft;

@@ -1,4 +1,4 @@
-//! What the numbers of nodes stand for.
+//! The meaning of the numbers of nodes.
 ghost use Rattle.std.specs.Prelude.{◌≡◌, MatchResult, pos};
 ghost use Rattle.cedar_terms.specs.SlotTree.{slot_index};
 ghost use Rattle.cedar_terms.specs.VarTree.{var_index};
@@ -8,7 +8,7 @@ ghost use Rattle.cedar_c_trees.specs.laws.Stacks.{IsNoNumber};
 use cedar_c_lists::Reason;
 use cedar_terms::{SlotId, Var};
 
-/// The truth value that a number is.
+/// Returns the Boolean with a number.
 pub(crate) fn truth_of(number: i64) -> Result<bool, Reason>
     ensures { MatchResult result (λ b. number ≡ truth_number b) (IsNoNumber truth_number number) }
 {
@@ -19,7 +19,7 @@ pub(crate) fn truth_of(number: i64) -> Result<bool, Reason>
     }
 }
 
-/// The variable that a number is.
+/// Returns the variable with a number.
 pub(crate) fn var_of(number: i64) -> Result<Var, Reason>
     ensures { MatchResult result (λ v. number ≡ pos (var_index v)) (IsNoNumber (λ v. pos (var_index v)) number) }
 {
@@ -32,7 +32,7 @@ pub(crate) fn var_of(number: i64) -> Result<Var, Reason>
     }
 }
 
-/// The slot that a number is.
+/// Returns the slot with a number.
 pub(crate) fn slot_of(number: i64) -> Result<SlotId, Reason>
     ensures { MatchResult result (λ s. number ≡ pos (slot_index s)) (IsNoNumber (λ s. pos (slot_index s)) number) }
 {

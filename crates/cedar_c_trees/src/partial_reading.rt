@@ -1,4 +1,4 @@
-//! Reading a partial value from nodes over a text.
+//! Decoding a partial value from nodes over a text.
 ghost use Rattle.std.specs.Prelude.{MatchResult};
 ghost use Rattle.cedar_c_trees.specs.Partials.{IsPartialReadAs, IsPartialRefused};
 
@@ -9,10 +9,12 @@ use cedar_c_lists::Reason;
 use cedar_terms::PartialValue;
 use std::alloc::Global;
 
-/// The partial value that nodes over a text are: where the last is of kind 15 and has the count 1 the expression that
-/// those before it are, which is left over, and else the value that all are. Takes memory.
+/// Decodes the partial value of nodes over a text. If the last node has kind 15 and length 1, the other nodes are
+/// decoded as an expression, and the result is a residual. Otherwise all nodes are decoded as a value.
 ///
-/// It is refused as `expr_of` refuses the nodes before the last, or as `value_of` refuses all.
+/// # Errors
+///
+/// The errors of `expr_of` for the nodes before the mark, or the errors of `value_of` for all nodes.
 pub fn partial_value_of(alloc: Global, text: &[u8], nodes: &[Node]) -> Result<PartialValue, Reason>
     ensures { MatchResult result (IsPartialReadAs text.now nodes.now) (IsPartialRefused text.now nodes.now) }
 {

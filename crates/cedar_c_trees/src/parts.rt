@@ -1,4 +1,4 @@
-//! What stands in a part of a text.
+//! Reading a part of a text.
 ghost use Rattle.std.specs.Prelude.{MatchResult, string_bytes};
 ghost use Rattle.cedar_ids.specs.TextOf.{IsNameText};
 ghost use Rattle.cedar_terms.specs.Views.{literal_tree};
@@ -16,7 +16,7 @@ use std::alloc::Global;
 use std::rc::Rc;
 use std::str;
 
-// The text in a part of a text. Takes no memory.
+// Returns a part of a text as UTF-8. Does not allocate.
 fn str_at(text: &[u8], at: Span) -> Result<&str, Reason>
     ensures { MatchResult result (λ t. IsTextAt text.now at t.now) (IsNoTextAt text.now at) }
 {
@@ -27,7 +27,7 @@ fn str_at(text: &[u8], at: Span) -> Result<&str, Reason>
     }
 }
 
-/// A copy of the text in a part of a text.
+/// Copies a part of a text as UTF-8.
 pub(crate) fn string_at(alloc: Global, text: &[u8], at: Span) -> Result<String, Reason>
     ensures { MatchResult result (λ s. IsTextAt text.now at (string_bytes s)) (IsNoTextAt text.now at) }
 {
@@ -36,7 +36,7 @@ pub(crate) fn string_at(alloc: Global, text: &[u8], at: Span) -> Result<String, 
     Ok(string)
 }
 
-/// The name that a text is.
+/// Parses a name.
 pub(crate) fn name_of(alloc: Global, text: &str) -> Result<Name, Reason>
     ensures { MatchResult result (λ n. IsNameText n text.now) (IsNoName text.now) }
 {
@@ -48,7 +48,7 @@ pub(crate) fn name_of(alloc: Global, text: &str) -> Result<Name, Reason>
     }
 }
 
-/// The name in a part of a text.
+/// Parses the name in a part of a text.
 pub(crate) fn name_at(alloc: Global, text: &[u8], at: Span) -> Result<Name, Reason>
     ensures { MatchResult result (IsNameAt text.now at) (IsNotNamedAt text.now at) }
 {
@@ -56,7 +56,7 @@ pub(crate) fn name_at(alloc: Global, text: &[u8], at: Span) -> Result<Name, Reas
     name_of(alloc, text)
 }
 
-/// The literal that a node says.
+/// Returns the literal of a node.
 pub(crate) fn literal_of(alloc: Global, text: &[u8], node: &Node) -> Result<Literal, Reason>
     ensures { MatchResult result (λ l. Says text.now node.now (literal_item (literal_tree l)))
         (IsNoLiteral text.now node.now) }

@@ -1,4 +1,4 @@
-//! What is still to be written.
+//! The stack of values and expressions to encode.
 ghost use Rattle.std.specs.Prelude.{◌++◌, OnOk};
 ghost use Rattle.cedar_terms.specs.ExprTree.{expr_trees};
 ghost use Rattle.cedar_terms.specs.ValueTree.{value_trees};
@@ -12,7 +12,7 @@ use cedar_terms::{Expr, Value};
 use std::alloc::AllocError;
 use std::collections::BTreeMap;
 
-/// What is still to be written.
+/// A value, an expression or a text to encode.
 #[derive(Drop)]
 pub(crate) enum Pending<'a> {
     /// A value.
@@ -23,7 +23,7 @@ pub(crate) enum Pending<'a> {
     Text(&'a String),
 }
 
-/// Puts some values on the stack, the last on top.
+/// Pushes values onto the stack, the last on top.
 pub(crate) fn push_values<'a>(
     pending: &mut Vec<Pending<'a>>,
     values: &'a Vec<Value>,
@@ -37,7 +37,7 @@ pub(crate) fn push_values<'a>(
     Ok(())
 }
 
-/// Puts the keys and values of a record on the stack, a key below its value, the last on top.
+/// Pushes the keys and values of a record onto the stack, each key below its value, the last pair on top.
 pub(crate) fn push_fields<'a>(
     pending: &mut Vec<Pending<'a>>,
     fields: &'a BTreeMap<String, Value>,
@@ -52,7 +52,7 @@ pub(crate) fn push_fields<'a>(
     Ok(())
 }
 
-/// Puts some expressions on the stack, the last on top.
+/// Pushes expressions onto the stack, the last on top.
 pub(crate) fn push_exprs<'a>(
     pending: &mut Vec<Pending<'a>>,
     exprs: &'a [Expr],
@@ -66,7 +66,7 @@ pub(crate) fn push_exprs<'a>(
     Ok(())
 }
 
-/// Puts an expression on the stack.
+/// Pushes an expression onto the stack.
 pub(crate) fn push_expr<'a>(
     pending: &mut Vec<Pending<'a>>,
     expr: &'a Expr,
@@ -78,7 +78,7 @@ pub(crate) fn push_expr<'a>(
     Ok(())
 }
 
-/// Puts two expressions on the stack, the second on top.
+/// Pushes two expressions onto the stack, the second on top.
 pub(crate) fn push_two<'a>(
     pending: &mut Vec<Pending<'a>>,
     left: &'a Expr,

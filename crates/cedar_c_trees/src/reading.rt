@@ -1,4 +1,4 @@
-//! Reading a value from nodes over a text.
+//! Decoding a value from nodes over a text.
 ghost use Rattle.std.specs.Prelude.{◌≡◌, IfOk, map, MatchResult, string_bytes};
 ghost use Rattle.cedar_terms.specs.ValueTree.{extension_value};
 ghost use Rattle.cedar_c_trees.specs.Items.{Combines};
@@ -17,7 +17,7 @@ use cedar_terms::{ExtensionValue, Value, ValueKind};
 use std::alloc::{AllocError, Global};
 use std::rc::Rc;
 
-// The value of a node, which takes what stands below it off a stack.
+// Builds the value of a node. Pops its operands off the stack.
 fn made(alloc: Global, text: &[u8], node: &Node, stack: &mut Vec<Value>) -> Result<Value, Reason>
     ensures { MatchResult result (Makes Combines text.now node.now stack.old.items stack.new.items)
         (IsUnmade StandsInValue text.now node.now (map is_text_value stack.old.items)) }
@@ -47,7 +47,7 @@ fn made(alloc: Global, text: &[u8], node: &Node, stack: &mut Vec<Value>) -> Resu
     }
 }
 
-// The call of an extension function on a text.
+// Builds the call of an extension function with a text as its argument.
 fn called(alloc: Global, func: Name, arg: String) -> Result<Value, AllocError>
     ensures { IfOk result (λ v. v ≡ extension_value func (string_bytes arg)) }
 {
@@ -55,11 +55,15 @@ fn called(alloc: Global, func: Name, arg: String) -> Result<Value, AllocError>
     Ok(Value::new(ValueKind::ExtensionValue(call), None))
 }
 
-/// The value that nodes over a text are, each behind all that stands below it. Takes memory.
+/// Decodes the value of nodes over a text. Each node comes after its operands. Reads each node twice, and builds sets
+/// and records by `Value::set` and `Value::record`.
 ///
-/// `NotAUid`, `NotUtf8` and `NotAName` come where what is written for a node is not what its kind asks for,
-/// `BadArgument` where the nodes are no value's, whatever is written for them, and `TooDeep` where they have more than
-/// `CEDAR_LEVELS` levels. Reads each node twice, and makes each set and record as `Value::set` and `Value::record` do.
+/// # Errors
+///
+/// - `BadArgument`: the nodes are not the nodes of a value, whatever their texts are.
+/// - `TooDeep`: the value has more than `CEDAR_LEVELS` levels.
+/// - `NotAUid`, `NotUtf8`, `NotAName`: the text of a node is not valid for its kind.
+/// - `NoMemory`: an allocation failed.
 pub fn value_of(alloc: Global, text: &[u8], nodes: &[Node]) -> Result<Value, Reason>
     ensures { MatchResult result (IsReadAs Combines text.now nodes.now)
         (IsRefused StandsInValue text.now nodes.now) }

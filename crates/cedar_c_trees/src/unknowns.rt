@@ -13,7 +13,7 @@ use cedar_ids::entity::EntityType;
 use cedar_terms::{Expr, ExprNode, Literal, StaticType, Unknown};
 use std::alloc::Global;
 
-// The type whose name an expression is as a text.
+// Returns the type whose name is the text of an expression.
 fn type_in(alloc: Global, expr: &Expr) -> Result<StaticType, Reason>
     ensures { MatchResult result (IsTypeIn expr.now) (IsNoTypeIn expr.now) }
 {
@@ -27,7 +27,7 @@ fn type_in(alloc: Global, expr: &Expr) -> Result<StaticType, Reason>
     }
 }
 
-// Takes the type whose name is on top of a stack.
+// Pops a text off the stack, and returns the type with this name.
 fn popped_type(alloc: Global, stack: &mut Vec<Expr>) -> Result<StaticType, Reason>
     ensures { MatchResult result
         (λ t. (e : ExprTree) × (stack.old.items ≡ stack.new.items ++ e ∷ []) × IsTypeIn e t)
@@ -38,7 +38,7 @@ fn popped_type(alloc: Global, stack: &mut Vec<Expr>) -> Result<StaticType, Reaso
     Ok(ty)
 }
 
-/// The unknown of a node, which takes its type off a stack where it has one.
+/// Builds the unknown of a node. Pops its type off the stack, if it has one.
 pub(crate) fn unknown_made(
     alloc: Global,
     text: &[u8],

@@ -1,4 +1,4 @@
-//! What is taken off a stack of values.
+//! Removal of values from a stack.
 ghost use Rattle.std.specs.Prelude.{◌≡◌, ◌++◌, ◌∷◌, [], length, map, MatchResult, string_bytes, ℕ, List};
 ghost use Rattle.cedar_c_lists.specs.declared.reason.Reason.TheVariants.{BadArgument};
 ghost use Rattle.cedar_terms.specs.LiteralTree.{string_literal};
@@ -11,7 +11,7 @@ use cedar_c_lists::Reason;
 use cedar_terms::{Literal, Value, ValueKind};
 use std::alloc::Global;
 
-/// Takes the last value off a stack.
+/// Pops the last value off a stack.
 pub(crate) fn popped(stack: &mut Vec<Value>) -> Result<Value, Reason>
     ensures { MatchResult result (λ v. stack.old.items ≡ stack.new.items ++ v ∷ [])
         (λ w. (w ≡ BadArgument) × (stack.old.items ≡ [])) }
@@ -22,7 +22,7 @@ pub(crate) fn popped(stack: &mut Vec<Value>) -> Result<Value, Reason>
     }
 }
 
-// The text that a value is.
+// Returns the text of a value.
 fn text_of(value: Value) -> Result<String, Reason>
     ensures { MatchResult result (λ s. value ≡ literal_value (string_literal (string_bytes s)))
         (IsNoText (is_text_value value)) }
@@ -34,7 +34,7 @@ fn text_of(value: Value) -> Result<String, Reason>
     }
 }
 
-/// Takes the last value off a stack, which is to be a text.
+/// Pops the last value off a stack, which must be a text.
 pub(crate) fn popped_text(stack: &mut Vec<Value>) -> Result<String, Reason>
     ensures { MatchResult result
         (λ s. stack.old.items ≡ stack.new.items ++ literal_value (string_literal (string_bytes s)) ∷ [])
@@ -45,7 +45,7 @@ pub(crate) fn popped_text(stack: &mut Vec<Value>) -> Result<String, Reason>
     Ok(text)
 }
 
-/// Takes the last so many values off a stack, in their order.
+/// Pops the last `count` values off a stack, in order.
 pub(crate) fn popped_values(
     alloc: Global,
     stack: &mut Vec<Value>,
@@ -64,7 +64,7 @@ pub(crate) fn popped_values(
     Ok(values)
 }
 
-/// Takes the last so many pairs off a stack, in their order.
+/// Pops the last `count` pairs off a stack, in order.
 pub(crate) fn popped_pairs(
     alloc: Global,
     stack: &mut Vec<Value>,
@@ -85,7 +85,7 @@ pub(crate) fn popped_pairs(
     Ok(pairs)
 }
 
-/// The one value on a stack.
+/// Returns the only value on a stack.
 pub(crate) fn alone(stack: Vec<Value>) -> Result<Value, Reason>
     ensures { MatchResult result (λ v. stack.items ≡ v ∷ []) (IsNotOne stack.items) }
 {

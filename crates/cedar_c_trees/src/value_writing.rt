@@ -1,4 +1,4 @@
-//! Writing the node of a value.
+//! Encoding the node of a value.
 ghost use Rattle.std.specs.Prelude.{OnOk};
 ghost use Rattle.cedar_c_trees.specs.Drafts.{Writes};
 ghost use Rattle.cedar_c_trees.specs.Plans.{value_plan};
@@ -9,7 +9,7 @@ use crate::pending::{Pending, push_fields, push_values};
 use cedar_terms::{Value, ValueKind};
 use std::alloc::{AllocError, Global};
 
-/// Writes the node of a value, and puts what stands below it on the stack, the last on top.
+/// Writes the node of a value. Pushes its operands onto the stack, the last on top.
 pub(crate) fn write_value_node<'a>(
     alloc: Global,
     draft: &mut Draft,

@@ -1,4 +1,4 @@
-//! Writing values, expressions and partial values as nodes over a text.
+//! Encoding values, expressions and partial values as nodes over a text.
 ghost use Rattle.std.specs.Prelude.{IfOk, OnOk};
 ghost use Rattle.cedar_c_trees.specs.Drafts.{IsNamed, Writes, pending_tree};
 ghost use Rattle.cedar_c_trees.specs.Items.{flat};
@@ -14,7 +14,7 @@ use crate::written::Written;
 use cedar_terms::{Expr, PartialValue, Value};
 use std::alloc::{AllocError, Global};
 
-// Writes the node of what is next, and puts what stands below it on the stack.
+// Writes the node of the next value or expression. Pushes its operands onto the stack.
 fn write_next<'a>(
     alloc: Global,
     draft: &mut Draft,
@@ -31,7 +31,7 @@ fn write_next<'a>(
     }
 }
 
-// Writes all of something.
+// Encodes a value, an expression or a text.
 fn write_all<'a>(alloc: Global, whole: Pending<'a>) -> Result<Written, AllocError>
     ensures { IfOk result (λ w. IsWrittenAs (flat (pending_tree whole.entry)) w × IsNamed whole.entry) }
 {
@@ -44,28 +44,35 @@ fn write_all<'a>(alloc: Global, whole: Pending<'a>) -> Result<Written, AllocErro
     Ok(draft.finished())
 }
 
-/// A value as nodes over a text. Takes memory, and is refused only where that is.
+/// Encodes a value as nodes over a text. Elements of sets and pairs of records are in the order of the value. It uses
+/// an explicit stack, so values of any depth are supported. The text of a uid with a non-ASCII eid is unspecified.
 ///
-/// A set's elements and a record's pairs stand in the order of the value. It goes by a stack of its own, so a value may
-/// be as deep as memory holds. Where the eid of a uid has a character past ASCII, no clause says what its text is.
+/// # Errors
+///
+/// Returns `AllocError` if an allocation fails.
 pub fn write_value(alloc: Global, value: &Value) -> Result<Written, AllocError>
     ensures { IfOk result (IsWrittenAs (value_items value.now)) }
 {
     write_all(alloc, Pending::Value(value))
 }
 
-/// An expression as nodes over a text. Takes memory, and is refused only where that is.
+/// Encodes an expression as nodes over a text. It uses an explicit stack, so expressions of any depth are supported.
+/// The text of a uid with a non-ASCII eid is unspecified.
 ///
-/// It goes by a stack of its own, so an expression may be as deep as memory holds. Where the eid of a uid has a
-/// character past ASCII, no clause says what its text is.
+/// # Errors
+///
+/// Returns `AllocError` if an allocation fails.
 pub fn write_expr(alloc: Global, expr: &Expr) -> Result<Written, AllocError>
     ensures { IfOk result (IsExprWritten expr.now) }
 {
     write_all(alloc, Pending::Expr(expr))
 }
 
-/// A partial value as nodes over a text: a value as it is, and of an expression that is left over a last node that says
-/// so. Takes memory, and is refused only where that is.
+/// Encodes a partial value as nodes over a text. The nodes of a residual end with a mark.
+///
+/// # Errors
+///
+/// Returns `AllocError` if an allocation fails.
 pub fn write_partial(alloc: Global, partial: &PartialValue) -> Result<Written, AllocError>
     ensures { IfOk result (IsPartialWritten partial.now) }
 {

@@ -1,13 +1,13 @@
-//! Nodes over a text that a caller is given.
+//! Encoded nodes and their texts.
 ghost use Rattle.std.specs.Prelude.{◌≡◌, ◌++◌, ◌∷◌, [], IfOk, pos};
-ghost use Rattle.cedar_c_trees.specs.Drafts.{nowhere};
+ghost use Rattle.cedar_c_trees.specs.Writes.{nowhere};
 
 use crate::node::Node;
 use cedar_c_lists::Span;
 use std::alloc::AllocError;
 use std::marker::Model;
 
-/// Nodes, and the bytes of their texts. Contracts see both lists.
+/// Nodes, and the bytes of their texts. In contracts it is both lists.
 #[derive(Drop)]
 pub struct Written {
     bytes: Vec<u8>,
@@ -23,14 +23,14 @@ impl Model for Written {
 }
 
 impl Written {
-    /// The nodes over these bytes. Takes no memory.
+    /// Creates it from the bytes and the nodes. Does not allocate.
     pub(crate) fn new(bytes: Vec<u8>, nodes: Vec<Node>) -> Written
         ensures { result ≡ record { bytes = bytes.items; nodes = nodes.items } }
     {
         Written { bytes, nodes }
     }
 
-    /// The nodes of an expression, and behind them the mark that it is left over. Takes memory.
+    /// Appends the mark of a residual to the nodes of an expression.
     pub(crate) fn marked(self) -> Result<Written, AllocError>
         ensures { IfOk result (λ w. w ≡ record {
           bytes = self.bytes;
@@ -49,21 +49,21 @@ impl Written {
         Ok(Written { bytes, nodes })
     }
 
-    /// The bytes of all texts. Takes no memory.
+    /// Returns the bytes of all texts. Does not allocate.
     pub fn bytes(&self) -> &[u8]
         ensures { result.now ≡ self.now.bytes }
     {
         self.bytes.as_slice()
     }
 
-    /// The nodes, each behind all that stands below it. Takes no memory.
+    /// Returns the nodes, each after its operands. Does not allocate.
     pub fn nodes(&self) -> &[Node]
         ensures { result.now ≡ self.now.nodes }
     {
         self.nodes.as_slice()
     }
 
-    /// The nodes, each behind all that stands below it; the bytes are let go. Takes no memory.
+    /// Returns the nodes, each after its operands, and drops the bytes. Does not allocate.
     pub fn into_nodes(self) -> Vec<Node>
         ensures { result.items ≡ self.nodes }
     {

@@ -1,4 +1,4 @@
--- Steps of the lists and sets that a walk keeps.
+-- Steps of the lists and sets of a search.
 use Rattle.std.specs.Prelude.{◌≡◌, ◌+◌, ◌<◌, ℕ, Bool, true, false, cond, not, ◌&&◌, ◌||◌, List, [], ◌∷◌, ◌++◌, Option}
 use Rattle.std.specs.Prelude.{Some, map, take, length}
 use Rattle.std.proofs.Common.{ap, sym, refl, ◌∙◌, get_or, Bor}
@@ -22,7 +22,7 @@ pub and_off : (b : Bool) → (b && false) ≡ false
 and_off true = refl
 and_off false = refl
 
--- a uid that is none of f's, alone
+-- If u is not in f, removing the members of f does not remove u.
 pub absent_alone : (f : EntityUID → Bool) (u q : EntityUID) → f u ≡ false → same_uid u q ≡ (not (f q) && same_uid u q)
 absent_alone f u q absent = at (same_uid u q) refl
   where
@@ -40,20 +40,20 @@ todo_step false true m s = refl
 todo_step false false true s = refl
 todo_step false false false s = refl
 
--- membership with one more
+-- The members of a list with one more uid.
 pub member_push : (done : List EntityUID) (k q : EntityUID)
     → is_member same_uid (done ++ k ∷ []) q ≡ (is_member same_uid done q || same_uid k q)
 member_push done k q = list_any-append (same_uid q) done (k ∷ [])
     ∙ ap (λ b. is_member same_uid done q || b) (or_off (same_uid q k) ∙ sym (same_uid_equiv.symm k q))
 
--- membership in what a loop has come by, with the next
+-- The members of the first i + 1 uids of a list.
 pub member_more : (xs : List EntityUID) (i : ℕ) (x q : EntityUID) → i < length xs → x ≡ get_or xs i x
     → is_member same_uid (take (i + 1) xs) q ≡ (is_member same_uid (take i xs) q || same_uid x q)
 member_more xs i x q within is =
     list_any_more (same_uid q) xs i x within
     ∙ ap (λ b. is_member same_uid (take i xs) q || b) (ap (same_uid q) (sym is) ∙ same_uid_equiv.symm q x)
 
--- the set of one parent is another now, with one child more
+-- The set of one parent is replaced by a set with one more child.
 pub added_at : {S : Type 0} (f g : EntityUID → Option (HashSet EntityUID S)) (parent child : EntityUID)
     (t : HashSet EntityUID S)
     → ((p : EntityUID) → g p ≡ cond (same_uid parent p) (Some t) (f p))
@@ -66,7 +66,7 @@ added_at f g parent child t updates has p q = ap (λ o. is_in o q) (updates p) �
     at true is = has q ∙ ap (λ u. is_in (f u) q || same_uid child q) ((same_uid_decides parent p).0 is)
     at false is = sym (or_off (is_in (f p) q))
 
--- or with one child less
+-- The set of one parent is replaced by a set with one child less.
 pub taken_at : {S : Type 0} (f g : EntityUID → Option (HashSet EntityUID S)) (parent child : EntityUID)
     (t : HashSet EntityUID S)
     → ((p : EntityUID) → g p ≡ cond (same_uid parent p) (Some t) (f p))
@@ -83,7 +83,7 @@ or_on : (b : Bool) → true ≡ (b || true)
 or_on true = refl
 or_on false = refl
 
--- a set with one more
+-- The members of a set after an insertion.
 pub inserted : {S : Type 0} (s t : HashSet EntityUID S) (u : EntityUID) → Updates same_uid s t u true → (q : EntityUID)
     → contains same_uid t q ≡ (contains same_uid s q || same_uid u q)
 inserted s t u w q = w.0 q ∙ at (same_uid u q)
@@ -92,7 +92,7 @@ inserted s t u w q = w.0 q ∙ at (same_uid u q)
     at true = or_on (contains same_uid s q)
     at false = sym (or_off (contains same_uid s q))
 
--- and with one less
+-- The members of a set after a removal.
 pub removed : {S : Type 0} (s t : HashSet EntityUID S) (u : EntityUID) → UpdatesBy same_uid (same_uid u) s t false
     → (q : EntityUID) → contains same_uid t q ≡ (contains same_uid s q && not (same_uid u q))
 removed s t u w q = w.0 q ∙ at (same_uid u q)
@@ -121,7 +121,7 @@ map_append_one : {X Y : Type 0} (f : X → Y) (xs : List X) (x : X) → map f (x
 map_append_one f [] x = refl
 map_append_one f (y ∷ ys) x = ap (λ l. f y ∷ l) (map_append_one f ys x)
 
--- membership in what an iterator has given, with the next
+-- The members of the values that an iterator has returned, with the next value.
 pub member_next : (done : List (Bor EntityUID)) (x : Bor EntityUID) (q : EntityUID)
     → is_member same_uid (map (λ y. y.now) (done ++ x ∷ [])) q
     ≡ (is_member same_uid (map (λ y. y.now) done) q || same_uid x.now q)

@@ -1,4 +1,4 @@
--- A walk down: what it has seen, what it still has to look at, and that in the end all that lies below is seen.
+-- A search for descendants: the uids that it has seen, the queued uids, and the proof that it finds all descendants.
 use Rattle.std.specs.Prelude.{◌≡◌, ◌↔◌, ◌⊎◌, Bool, true, false, not, ◌&&◌, ◌||◌, List, [], ◌∷◌}
 use Rattle.std.proofs.Common.{ap, sym, refl, ◌∙◌, inl, inr}
 use Rattle.std.proofs.lemmas.Bool.{or_left, or_right, or_cases, false≢true}
@@ -9,7 +9,7 @@ use Rattle.cedar_ids.specs.laws.UidOfLaws.{same_uid_decides}
 use Rattle.cedar_ids.specs.declared.entity.EntityUID.{EntityUID}
 use Rattle.cedar_children.specs.Children.{IsBelow}
 
--- what a walk keeps, where `child p q` says that p has the child q
+-- The invariant of a search. The test `child p q` states that p has the child q.
 pub record Walks (child : EntityUID → EntityUID → Bool) (A : List EntityUID)
     (seen todo : EntityUID → Bool) : Type 0 where
   pub seeds : (q : EntityUID) → is_member same_uid A q ≡ true → seen q ≡ true
@@ -17,7 +17,7 @@ pub record Walks (child : EntityUID → EntityUID → Bool) (A : List EntityUID)
   pub known : (q : EntityUID) → todo q ≡ true → seen q ≡ true
   pub opens : (p q : EntityUID) → seen p ≡ true → child p q ≡ true → (seen q ≡ true) ⊎ (todo p ≡ true)
 
--- the walk begins with the uids themselves
+-- The search begins with the given uids.
 pub begins : (child : EntityUID → EntityUID → Bool) (A : List EntityUID) (seen todo : EntityUID → Bool)
     → ((q : EntityUID) → seen q ≡ is_member same_uid A q) → ((q : EntityUID) → todo q ≡ is_member same_uid A q)
     → Walks child A seen todo
@@ -35,7 +35,7 @@ below_more child A k q b e = elim b [
   | inr r ↦ inr (r.0, r.1, (k ∷ r.2.0, (e, r.2.1)))
 ]
 
--- one more uid is looked at: its children are seen, and those that are new are still to be looked at
+-- One more uid was visited. Its children are seen, and the new ones are queued.
 pub looked_at : (child : EntityUID → EntityUID → Bool) (A : List EntityUID)
     (seen todo more then left : EntityUID → Bool) (k : EntityUID)
     → Walks child A seen todo → ((p : EntityUID) → todo p ≡ (left p || same_uid k p))
@@ -88,7 +88,7 @@ seen_path : (parent : EntityUID → EntityUID → Bool) (seen : EntityUID → Bo
 seen_path parent seen step a b [] p s = step b a s p
 seen_path parent seen step a b (x ∷ xs) p s = step x a (seen_path parent seen step x b xs p.1 s) p.0
 
--- where nothing is left to be looked at, what is seen is what lies below
+-- When the queue is empty, the seen uids are exactly the given uids and their descendants.
 pub all_below : (child : EntityUID → EntityUID → Bool) (A : List EntityUID) (seen todo : EntityUID → Bool)
     → Walks child A seen todo → ((p : EntityUID) → todo p ≡ false)
     → (q : EntityUID) → (seen q ≡ true) ↔ IsBelow (λ a b. child b a) A q

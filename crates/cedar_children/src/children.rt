@@ -11,20 +11,34 @@ use cedar_entity::entity::Entity;
 use cedar_uid_sets::SharedUid;
 use std::alloc::{AllocError, Global};
 use std::collections::{HashMap, HashSet};
+use std::fmt;
 use std::hash::BuildHasher;
 
-/// The children of each uid that is a parent, whether it is a uid of an entity or not. A uid without children takes no
-/// room.
+/// The children of each parent. A parent may be any uid; the store need not have an entity for it. A uid without
+/// children has no entry.
 ///
-/// It is the project's own. It takes a pointer for each parent of each entity, and a hashed set for each parent, so what a
-/// child costs that comes or goes does not hang on how many its parent has.
+/// It stores one pointer for each parent of each entity, and a hash set for each parent. So the cost of adding or
+/// removing a child does not depend on the number of children of its parent.
+///
+/// # Differences from cedar-policy-core
+///
+/// The original has no such index.
 #[derive(Drop)]
 pub struct Children<S: BuildHasher> {
     pub(crate) sets: HashMap<SharedUid, HashSet<SharedUid, S>, S>,
 }
 
+impl<S: BuildHasher> fmt::Debug for Children<S> {
+    /// Writes the children of each parent, in the order of the map.
+    fn fmt<W: fmt::Write>(&self, f: &mut fmt::Formatter<W>) -> fmt::Result {
+        f.debug_struct("Children")
+            .field("sets", &self.sets)
+            .finish()
+    }
+}
+
 impl<S: BuildHasher> Children<S> {
-    /// The index without children, which hashes uids by what `hasher` builds. It takes no memory.
+    /// Creates an index without children. It hashes uids with hashers of `hasher`. Does not allocate.
     pub fn with_hasher(alloc: Global, hasher: S) -> Children<S>
         ensures { (p q : EntityUID) → is_child result p q ≡ false }
     {
@@ -35,8 +49,8 @@ impl<S: BuildHasher> Children<S> {
 }
 
 impl<S: BuildHasher + Clone> Children<S> {
-    /// Takes an entity from the children of each of its parents. It takes no memory. It looks each parent up, and the
-    /// entity among the children of each.
+    /// Removes an entity from the children of each of its parents. Looks up each parent, and the entity among its
+    /// children. Does not allocate.
     pub fn remove(&mut self, child: &SharedUid, entity: &Entity)
         ensures { (p q : EntityUID) → is_child self.new p q
             ≡ (is_child self.old p q && not (same_uid child.now q && set.contains entity.now.parents p)) }
@@ -46,7 +60,7 @@ impl<S: BuildHasher + Clone> Children<S> {
         }
     }
 
-    /// Takes a uid out as a parent: it has no children any more. It takes no memory, and is one look-up.
+    /// Removes a uid as a parent, with all of its children. Makes one lookup. Does not allocate.
     pub fn remove_parent(&mut self, parent: &SharedUid)
         ensures { (p q : EntityUID) → is_child self.new p q
             ≡ (not (same_uid parent.now p) && is_child self.old p q) }
@@ -54,7 +68,7 @@ impl<S: BuildHasher + Clone> Children<S> {
         self.sets.remove(parent);
     }
 
-    // Takes a child from under a parent, and the parent with the last of its children.
+    // Removes a child of a parent. Removes the parent too if it has no other child.
     fn take(&mut self, parent: &SharedUid, child: &SharedUid)
         ensures { (p q : EntityUID) → is_child self.new p q
             ≡ (is_child self.old p q && not (same_uid parent.now p && same_uid child.now q)) }
@@ -64,7 +78,7 @@ impl<S: BuildHasher + Clone> Children<S> {
         }
     }
 
-    // Takes a child from under a parent; whether no child is left there.
+    // Removes a child of a parent. Returns whether the parent has no child left.
     fn take_one(&mut self, parent: &SharedUid, child: &SharedUid) -> bool
         ensures taken { (p q : EntityUID) → is_child self.new p q
             ≡ (is_child self.old p q && not (same_uid parent.now p && same_uid child.now q)) }
@@ -79,7 +93,7 @@ impl<S: BuildHasher + Clone> Children<S> {
         }
     }
 
-    // Puts a child in under a parent.
+    // Adds a child to a parent.
     fn put(
         &mut self,
         alloc: Global,
@@ -96,7 +110,7 @@ impl<S: BuildHasher + Clone> Children<S> {
         self.put_first(alloc, parent, child)
     }
 
-    // Puts a child in under a parent that has none.
+    // Adds a child to a parent that has no children yet.
     fn put_first(
         &mut self,
         alloc: Global,
@@ -113,10 +127,13 @@ impl<S: BuildHasher + Clone> Children<S> {
         Ok(())
     }
 
-    /// The index with an entity too, as a child of each of its parents.
+    /// Adds an entity as a child of each of its parents, and returns the index.
     ///
-    /// It takes memory, and is refused only where that is; a refusal gives no index back. It looks each parent up, and
-    /// hashes the entity for each.
+    /// Looks up each parent, and hashes the entity once for each.
+    ///
+    /// # Errors
+    ///
+    /// Returns `AllocError` if an allocation fails, and then drops the index.
     pub fn with(
         self,
         alloc: Global,
@@ -133,10 +150,16 @@ impl<S: BuildHasher + Clone> Children<S> {
         Ok(children)
     }
 
-    /// Some uids and all that lies below them: what has one of them as a parent, what has one of these, and so on.
+    /// Returns the given uids and all of their descendants: their children, the children of these, and so on.
     ///
-    /// It takes memory in what it finds, and is refused only where that is. It looks up each that it finds once, and
-    /// each once more for each of its parents among these.
+    /// # Errors
+    ///
+    /// Returns `AllocError` if an allocation fails.
+    ///
+    /// # Complexity
+    ///
+    /// Looks up each result once, and each again for each of its parents in the result. Allocates in proportion to the
+    /// result.
     pub fn below(
         &self,
         alloc: Global,

@@ -1,10 +1,11 @@
-//! An index of children: for each uid that is a parent, the entities that have it as one. By it a walk goes from some
-//! uids to all that lies below them, and looks at nothing else.
+//! An index of children: for each parent, the entities that have it as a parent. A search for all descendants of some
+//! uids reads nothing else.
 //!
-//! Proved: which children each parent has after each call, and that a walk finds exactly what lies below.
+//! Proved: the children of each parent after each call, and that the search finds exactly the descendants.
 #![tactic(auto, using(cedar_ids::specs::laws::UidOfLaws::same_uid_decides))]
 
 pub mod children;
 mod walk;
 
 pub use children::Children;
+pub use walk::listed;

@@ -1,4 +1,4 @@
-//! The walk from some uids to all that lies below them.
+//! The search for all descendants of some uids.
 ghost use Rattle.std.specs.Prelude.{◌≡◌, ◌+◌, ◌↔◌, ◌&&◌, ◌||◌, true, not, length, IfOk, OnOk};
 ghost use Rattle.std.specs.HashMap.{get};
 ghost use Rattle.std.specs.HashSet.{contains, hash_set_len};
@@ -12,7 +12,7 @@ use std::alloc::{AllocError, Global};
 use std::collections::{HashMap, HashSet};
 use std::hash::BuildHasher;
 
-// Notes a uid as seen and, where it was not, as one whose children are to be looked at.
+// Marks a uid as seen. If it is new, it is also queued, so that its children are visited later.
 fn see<S: BuildHasher>(
     seen: &mut HashSet<SharedUid, S>,
     todo: &mut Vec<SharedUid>,
@@ -33,7 +33,7 @@ fn see<S: BuildHasher>(
     Ok(())
 }
 
-// Notes each of some uids.
+// Marks each of the uids as seen.
 fn see_all<S: BuildHasher>(
     seen: &mut HashSet<SharedUid, S>,
     todo: &mut Vec<SharedUid>,
@@ -53,7 +53,7 @@ fn see_all<S: BuildHasher>(
     Ok(())
 }
 
-// Notes each of a set of uids.
+// Marks each uid of a set as seen.
 fn see_each<S: BuildHasher>(
     seen: &mut HashSet<SharedUid, S>,
     todo: &mut Vec<SharedUid>,
@@ -73,7 +73,7 @@ fn see_each<S: BuildHasher>(
     Ok(())
 }
 
-// Notes the children of a uid.
+// Marks the children of a uid as seen.
 fn see_children<S: BuildHasher>(
     seen: &mut HashSet<SharedUid, S>,
     todo: &mut Vec<SharedUid>,
@@ -94,8 +94,16 @@ fn see_children<S: BuildHasher>(
     }
 }
 
-// The uids of a set as a list, each shared once more.
-fn listed<S: BuildHasher>(
+/// Lists the uids of a set, in the order of the set, without copying a uid.
+///
+/// # Errors
+///
+/// Returns `AllocError` if the allocation of the list fails.
+///
+/// # Complexity
+///
+/// O(n), where n is the number of uids. Allocates the list.
+pub fn listed<S: BuildHasher>(
     alloc: Global,
     uids: &HashSet<SharedUid, S>,
 ) -> Result<Vec<SharedUid>, AllocError>
@@ -108,7 +116,7 @@ fn listed<S: BuildHasher>(
     Ok(list)
 }
 
-// Some uids and what lies below them.
+// Returns the uids and all of their descendants.
 pub(crate) fn walk<S: BuildHasher + Clone>(
     alloc: Global,
     sets: &HashMap<SharedUid, HashSet<SharedUid, S>, S>,
@@ -128,7 +136,7 @@ pub(crate) fn walk<S: BuildHasher + Clone>(
             Some(uid) => see_children(&mut seen, &mut todo, sets, &uid)?,
         }
     }
-    // Each round looked at another uid of the set, and no set has so many: nothing is left.
+    // Each round visits another uid of the set, and no set has this many uids. So the queue is empty here.
     let _fewer = seen.len();
     Ok(seen)
 }

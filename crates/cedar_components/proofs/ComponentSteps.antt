@@ -1,4 +1,4 @@
--- The steps that gather the components.
+-- The steps that build the components.
 use Rattle.std.proofs.Common.{◌≡◌, ◌≢◌, ℕ, ◌+◌, ◌-◌, ◌<◌, ◌≤◌, ◌⊎◌, inl, inr}
 use Rattle.std.proofs.Common.{List, [], ◌∷◌, ◌++◌}
 use Rattle.std.proofs.Common.{length, get_or, set, refl, ap, subst, ◌∙◌, arith}
@@ -22,7 +22,7 @@ from_push xs y i x p =
 pub from_push_last : (xs : List ℕ) (y i : ℕ) → i ≤ length xs → IsFrom (xs ++ y ∷ []) i y
 from_push_last xs y i h = (length xs, h, omega (arith, length-append xs (y ∷ [])), get_or-append_seam xs y [] 0)
 
--- a number joins the component in the making
+-- A number is added to the component that is being built.
 module _ (E : ℕ → ℕ → Type 0) (n : ℕ) (out : List ℕ) (b : ℕ) (component queue : List ℕ) (i v : ℕ)
     (s : AreComponentsFrom E n out b component queue i) (within : v < n) (fresh : get_or component v 0 ≡ 0)
     (some : 0 < b) (in_order : b ≤ length out) (in_queue : i ≤ length queue) where
@@ -76,7 +76,7 @@ module _ (E : ℕ → ℕ → Type 0) (n : ℕ) (out : List ℕ) (b : ℕ) (comp
     ];
   }
 
--- the root of the next component
+-- The root is added to the next component.
 pub rooted : (E : ℕ → ℕ → Type 0) (n : ℕ) (out : List ℕ) (b : ℕ) (component : List ℕ)
     → AreComponentsFrom E n out b component [] 0 → IsFinishOrder E n out → 0 < b → b ≤ length out
     → get_or component (get_or out (b - 1) 0) 0 ≡ 0
@@ -89,7 +89,7 @@ rooted E n out b component s o some within fresh =
 
 module _ (E : ℕ → ℕ → Type 0) (n : ℕ) (out : List ℕ) (b : ℕ) (component queue : List ℕ) (i : ℕ)
     (s : AreComponentsFrom E n out b component queue i) where
-  -- what leads to a number of the component joins it
+  -- A number with an arc to a member of the component is added to it.
   pub joined_before : (v x : ℕ) → IsFinishOrder E n out → v < n → get_or component v 0 ≡ 0 → 0 < b
       → b ≤ length out → i ≤ length queue → x < n → get_or component x 0 ≡ b → E v x
       → AreComponentsFrom E n out b (set component v b) (queue ++ v ∷ []) i
@@ -118,7 +118,7 @@ module _ (E : ℕ → ℕ → Type 0) (n : ℕ) (out : List ℕ) (b : ℕ) (comp
       joined E n out b component queue i v s within fresh some in_order in_queue
       (Leads-trans E v x r (Leads-edge E v x e) root) (p.0, p.2, low, spans)
 
-  -- all that leads to the queue's number at i has a component
+  -- All numbers with an arc to the number at index `i` of the queue have a component.
   pub advanced : i < length queue → ((v : ℕ) → v < n → E v (get_or queue i 0) → 0 < get_or component v 0)
       → AreComponentsFrom E n out b component queue (i + 1)
   advanced within done = record {
@@ -142,7 +142,7 @@ module _ (E : ℕ → ℕ → Type 0) (n : ℕ) (out : List ℕ) (b : ℕ) (comp
     ];
   }
 
-  -- the component is whole, and the next one begins
+  -- The component is complete, and the next one begins.
   pub lowered : length queue ≤ i → 0 < b → 0 < get_or component (get_or out (b - 1) 0) 0
       → AreComponentsFrom E n out (b - 1) component [] 0
   lowered whole some root = record {
@@ -159,7 +159,7 @@ module _ (E : ℕ → ℕ → Type 0) (n : ℕ) (out : List ℕ) (b : ℕ) (comp
     ];
   }
 
--- all places are done
+-- All components are complete.
 pub components_from_all : (E : ℕ → ℕ → Type 0) (n : ℕ) (out component : List ℕ)
     → AreComponentsFrom E n out 0 component [] 0 → IsFinishOrder E n out
     → AreComponents E n (length out) component
@@ -182,7 +182,7 @@ components_from_all E n out component s o =
 zero_at : (b : ℕ) → 0 < b → is_zero b ≡ 0
 zero_at b h = grind (arith, nat_tests)
 
--- one fewer is 0
+-- The number of zeros decreases by one.
 pub zero_less : (xs : List ℕ) (v b : ℕ) → v < length xs → get_or xs v 0 ≡ 0 → 0 < b
     → sum_by is_zero (set xs v b) + 1 ≡ sum_by is_zero xs
 zero_less xs v b h is some =
@@ -191,7 +191,7 @@ zero_less xs v b h is some =
     let g : is_zero b ≡ 0 = zero_at b some in
     omega arith
 
--- what a component's edges lead to is what the component reaches, where what lower components reach is there
+-- The targets of a component's edges, and what the lower ones reach, are all that the component reaches.
 module _ (E : ℕ → ℕ → Type 0) (n count : ℕ) (component : List ℕ) (p : ℕ) (L : List ℕ)
     (s : AreComponents E n count component) (inside : (x y : ℕ) → x < n → E x y → y < n)
     (direct : (x w : ℕ) → x < n → get_or component x 0 ≡ p → E x w → IsIn L w)

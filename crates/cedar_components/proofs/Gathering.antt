@@ -1,4 +1,4 @@
--- What the components keep as numbers join them.
+-- Invariants of the components as numbers are added.
 use Rattle.std.proofs.Common.{◌≡◌, ℕ, ◌-◌, ◌<◌, ◌≤◌, inl, inr, [], ◌∷◌, arith, length}
 use Rattle.std.proofs.Common.{length-append, get_or, get_or-set_same, get_or-set_other}
 use Rattle.std.proofs.lemmas.Bool.{cases_eq}
@@ -10,11 +10,11 @@ use Rattle.cedar_components.proofs.ComponentSteps.{rooted, joined_before, zero_l
 
 module _ (g : Searched) (b v : ℕ) (s t : Components) (j : Joins v b s t) (within : v < length s.component.items)
     (some : 0 < b) where
-  -- a number that joins a component has one
+  -- A number that is added to a component has a component.
   pub joins_has : HasComponent t v
   joins_has = rw (j.component, get_or-set_same s.component.items v b 0 within) some
 
-  -- a number that leads to one of the queue joins its component
+  -- A number with an arc to a number of the queue is added to its component.
   pub joins : (i : ℕ) → IsGathering g b i s → get_or s.component.items v 0 ≡ 0 → i < length s.queue.items
       → IsArc g.arcs v (get_or s.queue.items i 0) → Gathers g b i s t
   joins i h fresh in_queue edge =
@@ -45,7 +45,7 @@ module _ (g : Searched) (b v : ℕ) (s t : Components) (j : Joins v b s t) (with
         ];
       }
 
--- the root is the first to join its component
+-- The root is the first member of its component.
 pub root_joins : (g : Searched) (b : ℕ) (s t : Components) → IsGathered g b s → 0 < b
     → get_or s.component.items (get_or g.order.now (b - 1) 0) 0 ≡ 0 → Joins (get_or g.order.now (b - 1) 0) b s t
     → IsGathering g b 0 t

@@ -1,4 +1,4 @@
--- Numbers of which each is a component of its own.
+-- Graphs in which each number is a component of its own.
 use Rattle.std.proofs.Common.{◌≡◌, ◌≢◌, ℕ, ◌+◌, ◌-◌, ◌<◌, ◌≤◌, inl, inr, List, length, get_or, set}
 use Rattle.std.proofs.Common.{sym, ap, subst, ◌∙◌, arith, get_or-set_same, get_or-set_other}
 use Rattle.std.proofs.lemmas.Bool.{cases_eq}
@@ -6,7 +6,7 @@ use Rattle.cedar_components.specs.Reach.{HasArc, Leads}
 use Rattle.cedar_components.specs.laws.Components.{AreComponents, AreSingle, NoneLeadsUp}
 use Rattle.cedar_components.proofs.Steps.{Leads-refl}
 
--- the number at one more place of an order has its component
+-- The number at one more index of the order gets its component.
 module _ (n : ℕ) (order component : List ℕ) (i : ℕ) (len : length component ≡ n) (inside : get_or order i 0 < n)
     (bound : i < length order) where
   at_place : (y : ℕ) → y ≡ get_or order i 0 → get_or (set component (get_or order i 0) (i + 1)) y 0 ≡ i + 1
@@ -48,7 +48,7 @@ module _ (n : ℕ) (order component : List ℕ) (i : ℕ) (len : length componen
     ]
   ]
 
--- where no arc leads up, each number is a component of its own
+-- If no arc leads to a higher component, each number is a component of its own.
 pub single_are_components : (n : ℕ) (from to order component : List ℕ) → AreSingle n order component
     → NoneLeadsUp from to component → AreComponents (HasArc from to) n (length order) component
 single_are_components n from to order component s down = record {

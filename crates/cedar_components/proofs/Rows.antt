@@ -1,4 +1,4 @@
--- What the lists of all components say of each number.
+-- From the lists of all components to the list of each number.
 use Rattle.std.proofs.Common.{◌≡◌, ℕ, ◌+◌, ◌<◌, ◌≤◌, arith, length, get_or, List}
 use Rattle.cedar_components.specs.Reach.{IsReach}
 use Rattle.cedar_components.specs.laws.Lists.{AreLists, AreReached}

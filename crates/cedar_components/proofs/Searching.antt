@@ -1,4 +1,4 @@
--- What a search keeps as it goes on.
+-- Invariants of a depth-first search.
 use Rattle.std.proofs.Common.{◌≡◌, ℕ, ◌+◌, ◌-◌, ◌*◌, ◌<◌, [], ◌∙◌, arith}
 use Rattle.std.proofs.Common.{length, get_or, set, sum, get_or-set_same}
 use Rattle.std.proofs.lemmas.Grind.{get_or_default_zero}
@@ -10,14 +10,14 @@ use Rattle.cedar_components.proofs.Steps.{opened_next, finished_last, opened_roo
 use Rattle.cedar_components.proofs.Steps.{sum_less, read_next, read_kept, positive_kept}
 
 module _ (w : ℕ) (s t : Search) (o : Opens w s t) where
-  -- what was seen stays so where a number is opened
+  -- Numbers that were seen are still seen after a number is opened.
   pub opens_stays : (x : ℕ) → IsSeen s x → IsSeen t x
   opens_stays x h = rw o.start (positive_kept s.start.items w (length s.out.items) x h)
 
   pub opens_seen : w < length s.start.items → IsSeen t w
   opens_seen within = rw (o.start, get_or-set_same s.start.items w (length s.out.items + 1) 0 within) (omega arith)
 
-  -- a search begins with a number that was not seen
+  -- A search begins with a number that was not seen.
   pub root_opened : (a : Arcs) → Searches a (length s.start.items) s → IsUnseen s w → s.path.items ≡ []
       → GoesOn a s t
   root_opened a h unseen none =
@@ -34,7 +34,7 @@ module _ (w : ℕ) (s t : Search) (o : Opens w s t) where
         stays = opens_stays;
       }
 
--- v is the last open number, and m one more than the place of its arc that is read next, or 0
+-- `v` is the last open number. `m` is one more than the index of its next arc, or 0 if none is left.
 module _ (a : Arcs) (s : Search) (h : Searches a (length s.start.items) s) (v m : ℕ) (some : 0 < length s.path.items)
     (last : v ≡ get_or s.path.items (length s.path.items - 1) 0) (is : m ≡ get_or s.next.items v m) where
   v_in : v < length s.start.items
@@ -46,7 +46,7 @@ module _ (a : Arcs) (s : Search) (h : Searches a (length s.start.items) s) (v m 
   at_v : m ≡ get_or s.next.items v 0
   at_v = is ∙ get_or_default_zero s.next.items v m v_next
 
-  -- all its arcs were read, and it is finished
+  -- The number is finished after all its arcs are read.
   pub last_finished : (t : Search) → Finishes s t → m ≡ 0 → GoesOn a s t
   last_finished t f none =
       let n = length s.start.items in
@@ -69,11 +69,11 @@ module _ (a : Arcs) (s : Search) (h : Searches a (length s.start.items) s) (v m 
     arc : IsArc a v (get_or a.to.now (m - 1) 0)
     arc = next_arc a (length s.start.items) h.arcs s.start.items s.next.items h.read v m v_in at_v more
 
-    -- the arc leads to one of the numbers
+    -- The target of the arc is one of the numbers.
     pub target_in : get_or a.to.now (m - 1) 0 < length s.start.items
     target_in = arc_inside a.from.now a.to.now (length s.start.items) h.arcs.arcs v (get_or a.to.now (m - 1) 0) arc
 
-    -- it leads to a number that was not seen, which is opened
+    -- The target of the arc was not seen and is opened.
     pub opened : (t : Search) → Opens (get_or a.to.now (m - 1) 0) s t
         → get_or s.start.items (get_or a.to.now (m - 1) 0) 0 ≡ 0
         → IsSearch (IsArc a) (length s.start.items) t.start.items t.path.items t.out.items
@@ -83,7 +83,7 @@ module _ (a : Arcs) (s : Search) (h : Searches a (length s.start.items) s) (v m 
         rw (o.start, o.path, o.out)
         (opened_next (IsArc a) n s.start.items s.path.items s.out.items v w h.search target_in fresh some last arc)
 
-    -- less is left where the arc was read and at most one number opened
+    -- The remaining work decreases when the arc is read and at most one number is opened.
     pub less : (t : Search) → t.next.items ≡ s.next.items → length t.path.items < length s.path.items + 2
         → 2 * sum (set t.next.items v (get_or a.link.now (m - 1) 0)) + length t.path.items < work_left s
     less t next few =
@@ -93,7 +93,7 @@ module _ (a : Arcs) (s : Search) (h : Searches a (length s.start.items) s) (v m 
         let e = sum_less s.next.items v m y v_next at_v lower in
         rw next (omega (arith, e))
 
-    -- u is t with the arc read
+    -- `u` is `t` after the arc is read.
     pub reads : (t u : Search) → t.next.items ≡ s.next.items → u.start.items ≡ t.start.items
         → u.path.items ≡ t.path.items → u.out.items ≡ t.out.items
         → u.next.items ≡ set t.next.items v (get_or a.link.now (m - 1) 0)

@@ -1,4 +1,4 @@
--- The steps of the search keep what it promises.
+-- The steps of the search preserve its invariants.
 use Rattle.std.proofs.Common.{◌≡◌, ◌≢◌, ℕ, ◌+◌, ◌-◌, ◌<◌, ◌≤◌, ◌⊎◌, inl, inr}
 use Rattle.std.proofs.Common.{List, [], ◌∷◌, ◌++◌}
 use Rattle.std.proofs.Common.{length, get_or, set, refl, sym, ap, subst, ◌∙◌, arith}
@@ -32,7 +32,7 @@ module _ (E : ℕ → ℕ → Type 0) where
   unfolding Leads
   Leads-trans a b c p q = (p.0 ++ q.0, walk_append a b c p.0 q.0 p.1 q.1)
 
--- a place of a list with one more at its end
+-- An index of a list with one more element at its end is an old index or the last one.
 pub push_cases : (xs : List ℕ) (x i : ℕ) → i < length (xs ++ x ∷ [])
     → ((i < length xs) × (get_or (xs ++ x ∷ []) i 0 ≡ get_or xs i 0))
     ⊎ ((i ≡ length xs) × (get_or (xs ++ x ∷ []) i 0 ≡ x))
@@ -71,7 +71,7 @@ module _ (E : ℕ → ℕ → Type 0) (n : ℕ) (start path out : List ℕ) (w :
     | inr ne ↦ inr (get_or-set_other start w x (length out + 1) 0 ne)
   ]
 
-  -- a number that has not been seen is opened
+  -- A number that was not seen is opened.
   pub opened : ((i : ℕ) → i < length path → Leads E (get_or path i 0) w)
       → IsSearch E n (set start w (length out + 1)) (path ++ w ∷ []) out
   opened leads = record {
@@ -116,7 +116,7 @@ module _ (E : ℕ → ℕ → Type 0) (n : ℕ) (start rest out : List ℕ) (v :
   top : get_or (rest ++ v ∷ []) (length rest) 0 ≡ v
   top = get_or-append_seam rest v [] 0
 
-  -- the last open number is finished, where each number that it has an edge to has been seen
+  -- The last open number is finished, after all its targets were seen.
   pub finished : ((y : ℕ) → E v y → 0 < get_or start y 0) → ((y : ℕ) → E v y → y < n)
       → IsSearch E n start rest (out ++ v ∷ [])
   finished read inside = record {
@@ -161,7 +161,7 @@ module _ (E : ℕ → ℕ → Type 0) (n : ℕ) (start rest out : List ℕ) (v :
     ];
   }
 
--- the last open number has an edge to a number that has not been seen, which is opened
+-- A target of the last open number that was not seen is opened.
 pub opened_next : (E : ℕ → ℕ → Type 0) (n : ℕ) (start path out : List ℕ) (v w : ℕ)
     → IsSearch E n start path out → w < n → get_or start w 0 ≡ 0 → 0 < length path
     → v ≡ get_or path (length path - 1) 0 → E v w
@@ -172,14 +172,14 @@ opened_next E n start path out v w s within fresh some last e =
     opened E n start path out w s within fresh
     (λ i h. Leads-trans E (get_or path i 0) v w (from i h) (Leads-edge E v w e))
 
--- the last open number is finished
+-- The last open number is finished.
 pub finished_last : (E : ℕ → ℕ → Type 0) (n : ℕ) (start path rest out : List ℕ) (v : ℕ)
     → IsSearch E n start path out → path ≡ rest ++ v ∷ [] → ((y : ℕ) → E v y → 0 < get_or start y 0)
     → ((y : ℕ) → E v y → y < n) → IsSearch E n start rest (out ++ v ∷ [])
 finished_last E n start path rest out v s is read inside =
     finished E n start rest out v (subst (λ p. IsSearch E n start p out) is s) read inside
 
--- numbers are opened from the start
+-- A number is opened when the path is empty.
 pub opened_root : (E : ℕ → ℕ → Type 0) (n : ℕ) (start path out : List ℕ) (w : ℕ)
     → IsSearch E n start path out → w < n → get_or start w 0 ≡ 0 → path ≡ []
     → IsSearch E n (set start w (length out + 1)) (path ++ w ∷ []) out
@@ -187,7 +187,7 @@ opened_root E n start path out w s within fresh none =
     let empty : length path ≡ 0 = ap length none in
     opened E n start path out w s within fresh (λ i h. absurd (omega arith))
 
--- one more place
+-- The chains of one more index.
 module _ (ends : List ℕ) (m : ℕ) (head link : List ℕ) (n : ℕ) (s : AreLinksTo ends m head link n)
     (within : m < length ends) (a : ℕ) (value : get_or ends m 0 ≡ a) (a_in : a < n) where
   at_a : get_or (set head a (m + 1)) a 0 ≡ m + 1
@@ -238,13 +238,13 @@ module _ (ends : List ℕ) (m : ℕ) (head link : List ℕ) (n : ℕ) (s : AreLi
     ];
   }
 
--- an arc leads to one of the numbers
+-- The target of an arc is one of the numbers.
 pub arc_inside : (from to : List ℕ) (n : ℕ) → AreArcs from to n → (v y : ℕ) → HasArc from to v y → y < n
 arc_inside from to n arcs v y e = rw (← e.3) (arcs.to_in e.0 e.1)
 
 module _ (a : Arcs) (n : ℕ) (forward : AreForward a n) (start next : List ℕ)
     (r : AreRead a.from.now a.to.now n start next) where
-  -- the arc that is read next
+  -- The next arc to read leads from the number.
   pub next_arc : (v m : ℕ) → v < n → m ≡ get_or next v 0 → 0 < m → IsArc a v (get_or a.to.now (m - 1) 0)
   next_arc v m h is some =
       rw is (get_or next v 0 - 1, omega (arith, r.next_in v h), r.next_from v h (omega arith), refl)
@@ -252,7 +252,7 @@ module _ (a : Arcs) (n : ℕ) (forward : AreForward a n) (start next : List ℕ)
   pub all_seen : (v y : ℕ) → v < n → get_or next v 0 ≡ 0 → IsArc a v y → 0 < get_or start y 0
   all_seen v y h none e = let p = r.read v e.0 h e.1 e.2 (omega arith) in rw e.3 at p
 
-  -- one more arc is read
+  -- One more arc is read.
   pub read_next : (after : List ℕ) (v m : ℕ) → v < n → m ≡ get_or next v 0 → 0 < m
       → ((x : ℕ) → 0 < get_or start x 0 → 0 < get_or after x 0)
       → 0 < get_or after (get_or a.to.now (m - 1) 0) 0
@@ -303,7 +303,7 @@ pub sum_less : (xs : List ℕ) (i m y : ℕ) → i < length xs → m ≡ get_or 
 sum_less xs i m y h is less =
     omega (arith, sum_by-set (λ (x : ℕ). x) xs i y 0 h, sum_by_itself xs, sum_by_itself (set xs i y))
 
--- what is positive stays so where a positive number is written
+-- A positive entry stays positive when a positive number is written.
 pub positive_kept : (xs : List ℕ) (w m x : ℕ) → 0 < get_or xs x 0 → 0 < get_or (set xs w (m + 1)) x 0
 positive_kept xs w m x h = grind (arith, common_steps)
 
@@ -316,7 +316,7 @@ read_kept from to n start next w m r = record {
   read = λ x k h i f le. positive_kept start w m (get_or to k 0) (r.read x k h i f le);
 }
 
--- where no number is open and all have been seen, the order is whole
+-- If no number is open and all were seen, the order is complete.
 pub order_from_search : (E : ℕ → ℕ → Type 0) (n : ℕ) (start path out : List ℕ)
     → IsSearch E n start path out → path ≡ [] → ((x : ℕ) → x < n → 0 < get_or start x 0)
     → IsFinishOrder E n out

@@ -1,4 +1,4 @@
--- What only the private contracts and the proofs cite.
+-- Definitions that only private contracts and proofs use.
 pub mod Arcs
 pub mod Components
 pub mod Lists

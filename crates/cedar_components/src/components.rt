@@ -1,5 +1,7 @@
-//! The components of a graph: searches against its edges, from each number that is not in a
-//! component, in the order that a first search left, from its end.
+//! The strongly connected components of a graph.
+//!
+//! The algorithm visits the finish order of a first search from its end. From each number without a component it
+//! searches against the arcs.
 ghost use Rattle.std.specs.Prelude.{◌≡◌, ◌+◌, ◌-◌, ◌<◌, length, slice_index, OnOk, IfOk};
 ghost use Rattle.cedar_components.specs.laws.Arcs.{IsArc};
 ghost use Rattle.cedar_components.specs.laws.Components.{
@@ -16,8 +18,7 @@ ghost use Rattle.cedar_components.specs.laws.Components.{
 use crate::links::Arcs;
 use std::alloc::{AllocError, Global};
 
-// The arcs of a graph, with the chains of the numbers that they lead to, and the order in which a
-// search finished its numbers.
+// The arcs of a graph, with chains by target, and the order in which a search finished the numbers.
 #[derive(Drop)]
 pub(crate) struct Searched<'a> {
     pub(crate) arcs: Arcs<'a>,
@@ -31,7 +32,7 @@ struct Components {
     queue: Vec<usize>,
 }
 
-// Gives a number its component.
+// Assigns component `b` to a number, and appends the number to the queue.
 fn join(s: &mut Components, v: usize, b: usize) -> Result<(), AllocError>
     requires { v < length s.old.component.items }
     ensures { OnOk result (Joins v b s.old s.new) }
@@ -41,7 +42,7 @@ fn join(s: &mut Components, v: usize, b: usize) -> Result<(), AllocError>
     Ok(())
 }
 
-// Gives a number that leads to the queue's number at `i` its component, if it has none.
+// Assigns component `b` to `v`, which has an arc to the number at index `i` of the queue, if `v` has no component.
 fn meet(
     graph: &Searched,
     s: &mut Components,
@@ -62,7 +63,7 @@ fn meet(
     Ok(())
 }
 
-// Gives all that leads to the queue's number at `i` its component.
+// Assigns component `b` to all numbers without a component that have an arc to the number at index `i` of the queue.
 fn spread(graph: &Searched, s: &mut Components, b: usize, i: usize) -> Result<(), AllocError>
     requires state { IsGathering graph.now b i s.old }
     requires in_queue { i < length s.old.queue.items }
@@ -80,7 +81,7 @@ fn spread(graph: &Searched, s: &mut Components, b: usize, i: usize) -> Result<()
     Ok(())
 }
 
-// Makes the component of a root.
+// Assigns component `b` to its root and all other members.
 fn gather(graph: &Searched, s: &mut Components, b: usize) -> Result<(), AllocError>
     requires state { IsGathered graph.now b s.old }
     requires some { 0 < b }
@@ -97,8 +98,8 @@ fn gather(graph: &Searched, s: &mut Components, b: usize) -> Result<(), AllocErr
     Ok(())
 }
 
-// The component of each number: those of one component lead to one another, and an edge never
-// leads to a higher component.
+// Returns the component of each number. The members of one component reach one another. No arc leads to a higher
+// component.
 pub(crate) fn make_components(alloc: Global, graph: &Searched) -> Result<Vec<usize>, AllocError>
     requires { IsSearched graph.now }
     ensures { IfOk result (λ component.

@@ -1,17 +1,25 @@
-//! What each number of a graph over numbers reaches.
+//! Reachability in a graph of numbers.
 //!
-//! A graph is two lists of one length, one entry an arc: the arc at place `k` leads from `from[k]`
-//! to `to[k]`. Nothing here knows what the numbers stand for.
+//! A graph is two lists of equal length. The arc `k` leads from `from[k]` to `to[k]`. The meaning of the numbers does
+//! not matter here.
 //!
-//! [`reach`] does all. A depth-first search gives the order in which the numbers finish; where no arc
-//! leads to a number that finishes later, each number is a strong component of its own, and else
-//! searches against the arcs, in that order from its end, give each number its component; each
-//! component gets one list of what its members reach, those below it first, and each list is put in
-//! order as it is made: that of one number with one arc is copied of the list that stands for the
-//! arc's target, which is put in at its place; that of one number with more arcs is taken from bits,
-//! one for each place, where all of it lies near together in the order; of the others one that has
-//! many of the numbers is put in order by a walk over all of them, any other by sorting it. The
-//! searches keep stacks of their own, so that none of them recurses, whatever the graph is.
+//! [`reach`] does all the work, in these steps:
+//!
+//! - A depth-first search records the order in which it finishes the numbers.
+//! - If no arc leads to a number that finishes later, each number is a strongly connected component of its own.
+//! - Otherwise, searches against the arcs assign a component to each number. They start from the end of the finish
+//!   order.
+//! - Each component gets one list of the numbers that its members reach, lower components first.
+//!
+//! Each list is put in order when it is built, in one of these ways:
+//!
+//! - For one member with one arc: the target's list is copied, and the target is inserted at its place.
+//! - For one member with more arcs, if all reached numbers are close together in the order: the list is built from
+//!   bits, one for each place.
+//! - For a list with many of the numbers: all numbers are scanned in order.
+//! - For any other list: the list is sorted.
+//!
+//! The searches use explicit stacks, so none of them recurses.
 #![tactic(auto)]
 
 ghost use Rattle.std.specs.Prelude.{◌≡◌, ℕ, IfOk, length};
@@ -37,18 +45,19 @@ use crate::search::finish_order;
 use crate::single::single_components;
 use std::alloc::{AllocError, Global};
 
-/// What each number of a graph reaches, one list for each strong component.
+/// The numbers that each number of a graph reaches: one list for each strongly connected component.
 #[derive(Debug, Drop)]
 pub struct Reached {
-    /// For each number the place of its component. Numbers that reach one another share it.
+    /// The index of each number's component. Numbers that reach one another have the same component, which no contract
+    /// states.
     pub component: Vec<usize>,
-    /// For the place of a component where its list begins; the list ends where the next begins.
+    /// For each component, the index in `lists` at which its list begins. The list ends where the next list begins.
     pub start: Vec<usize>,
-    /// The lists, one after another.
+    /// All lists, one after another.
     pub lists: Vec<usize>,
 }
 
-// The component of each number, by the order in which a search finished them.
+// Returns the component of each number, from the order in which a search finished them.
 fn components_of<'a>(
     alloc: Global,
     from: &'a [usize],
@@ -78,24 +87,34 @@ fn components_of<'a>(
     make_components(alloc, &backward)
 }
 
-/// Finds what each of the numbers below `count` reaches over one or more arcs, where the arc at
-/// place `k` leads from `from[k]` to `to[k]`. A number reaches itself only where it lies on a
-/// cycle. Each list comes in the order that `order` has; no clause says so, and no member depends
-/// on it.
+/// Returns the numbers that each number below `count` reaches over one or more arcs. The arc `k` leads from `from[k]`
+/// to `to[k]`. A number reaches itself only if it is on a cycle. Each list is in the order of `order`. No contract
+/// states this order of the lists.
 ///
-/// `from` and `to` have to be equally long, with numbers below `count` alone, and `order` has to have
-/// each number below `count` once.
+/// The caller must ensure that `from` and `to` have equal lengths and contain only numbers below `count`. `order` must
+/// contain each number below `count` once.
 ///
-/// Takes memory for lists in the number of numbers and arcs, and for the lists of what is reached;
-/// refused only where that is. Looks at each arc a few times, goes through the list of a component
-/// once or twice for each arc that leads to it from another, and puts each list in order once: that of
-/// a number that lies on no cycle in its length, if none of it stands further than 192 places in
-/// `order` from what its last arc leads to; any other that has more than 16 numbers, and at least one
-/// for each whole 16 of all, by one walk over `order`; the rest by comparing their numbers' places
-/// there, in a list's length times the logarithm of that. A number that lies on no cycle and has one
-/// arc alone gets its list by a copy, and a search for one place. The arcs of a number are taken up
-/// from the last, and one to what was reached by then costs a look: so give last those that reach the
-/// others. Recurses nowhere but where a list is sorted, in the logarithm of its length.
+/// # Errors
+///
+/// Returns `AllocError` if an allocation fails.
+///
+/// # Complexity
+///
+/// Allocates O(n + m + r), where n is `count`, m is the number of arcs, and r is the total length of the lists.
+///
+/// Each arc is read a few times. The list of a component is read once or twice for each arc that leads to it from
+/// another component. Each list is put in order once:
+///
+/// - One member with one arc, not on a cycle: one copy and one search for a place.
+/// - One member, not on a cycle, with all its reached numbers within 192 places of its last arc's target in `order`:
+///   linear in the length of the list.
+/// - Other lists with more than 16 numbers that contain at least 1/16 of all numbers: one scan of `order`.
+/// - All other lists: sorted, in O(l log l) for a list of length l.
+///
+/// The arcs of a number are processed from the last to the first. An arc to a number that is already reached costs one
+/// lookup. So a caller should put the arcs to numbers that reach the other targets last.
+///
+/// Only sorting recurses, to a depth that is logarithmic in the length of the list.
 pub fn reach(
     alloc: Global,
     from: &[usize],

@@ -1,19 +1,19 @@
-//! The places of each value of a list.
+//! Chains of the indices at which each value occurs in a list.
 ghost use Rattle.std.specs.Prelude.{IfOk};
 ghost use Rattle.cedar_components.specs.laws.Arcs.{AreLinks};
 ghost use Rattle.cedar_components.specs.laws.Numbers.{AllBelow};
 
 use std::alloc::{AllocError, Global};
 
-// `head` has for each value one more than its last place, `link` for each place one more than the
-// place of the same value before it; 0 where there is none.
+// Chains of indices. `head[v]` is one more than the last index of the value `v`. `link[k]` is one more than the
+// previous index of the value at index `k`. 0 means that there is none.
 #[derive(Drop)]
 pub(crate) struct Links {
     pub(crate) head: Vec<usize>,
     pub(crate) link: Vec<usize>,
 }
 
-// The arcs of a graph, and the chains of the places at which each number is the one end of an arc.
+// The arcs of a graph, with the chains by one end of the arcs.
 #[derive(Drop)]
 pub(crate) struct Arcs<'a> {
     pub(crate) from: &'a [usize],
@@ -22,7 +22,7 @@ pub(crate) struct Arcs<'a> {
     pub(crate) link: &'a [usize],
 }
 
-// The places of each value of a list of numbers below n, as chains from the last to the first.
+// Returns the chains of a list of numbers below `n`. Each chain goes from the last index of a value to the first.
 pub(crate) fn make_links(alloc: Global, ends: &[usize], n: usize) -> Result<Links, AllocError>
     requires { AllBelow n ends.now }
     ensures { IfOk result (λ l. AreLinks ends.now l.head.items l.link.items n) }

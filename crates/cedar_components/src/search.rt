@@ -1,4 +1,4 @@
-//! The order in which a depth-first search finishes numbers.
+//! The order in which a depth-first search finishes the numbers.
 ghost use Rattle.std.specs.Prelude.{◌≡◌, ◌<◌, [], length, OnOk, IfOk};
 ghost use Rattle.cedar_components.specs.laws.Arcs.{IsArc, AreForward};
 ghost use Rattle.cedar_components.specs.laws.Search.{
@@ -23,7 +23,7 @@ struct Search {
     out: Vec<usize>,
 }
 
-// Opens a number.
+// Opens a number: pushes it onto the path, and records how many numbers are finished.
 fn open(s: &mut Search, w: usize) -> Result<(), AllocError>
     requires { w < length s.old.start.items }
     ensures { OnOk result (Opens w s.old s.new) }
@@ -33,7 +33,7 @@ fn open(s: &mut Search, w: usize) -> Result<(), AllocError>
     Ok(())
 }
 
-// Finishes the last open number.
+// Finishes the number at the end of the path.
 fn finish(s: &mut Search) -> Result<(), AllocError>
     requires { 0 < length s.old.path.items }
     ensures { OnOk result (Finishes s.old s.new) }
@@ -44,7 +44,7 @@ fn finish(s: &mut Search) -> Result<(), AllocError>
     Ok(())
 }
 
-// Reads the next edge of the last open number, or finishes it.
+// Reads the next arc of the number at the end of the path, or finishes the number if no arc is left.
 fn step(arcs: &Arcs, s: &mut Search) -> Result<(), AllocError>
     requires path { 0 < length s.old.path.items }
     requires search { Searches arcs.now (length s.old.start.items) s.old }
@@ -65,7 +65,7 @@ fn step(arcs: &Arcs, s: &mut Search) -> Result<(), AllocError>
     Ok(())
 }
 
-// Finishes all that is reached from a number.
+// Searches from a number until all that it reaches is finished.
 fn search_from(arcs: &Arcs, s: &mut Search, root: usize) -> Result<(), AllocError>
     requires root { IsUnseen s.old root }
     requires no_path { s.old.path.items ≡ [] }
@@ -81,7 +81,7 @@ fn search_from(arcs: &Arcs, s: &mut Search, root: usize) -> Result<(), AllocErro
     Ok(())
 }
 
-// All numbers, in the order in which a search finishes them.
+// Returns all numbers, in the order in which a depth-first search finishes them.
 pub(crate) fn finish_order(alloc: Global, arcs: &Arcs, n: usize) -> Result<Vec<usize>, AllocError>
     requires { AreForward arcs.now n }
     ensures { IfOk result (λ out. IsFinishOrder (IsArc arcs.now) n out.items) }

@@ -1,4 +1,4 @@
-//! The components of a graph without cycles: each number is one of its own.
+//! The components of a graph without cycles: each number is a component of its own.
 ghost use Rattle.std.specs.Prelude.{◌≡◌, ◌<◌, ℕ, IfOk, IfSome, IsTrue, length, slice_index};
 ghost use Rattle.cedar_components.specs.Reach.{AreArcs, HasArc};
 ghost use Rattle.cedar_components.specs.laws.Components.{AreComponents, AreSingle, NoneLeadsUp};
@@ -7,7 +7,7 @@ ghost use Rattle.cedar_components.specs.laws.Search.{IsFinishOrder};
 
 use std::alloc::{AllocError, Global};
 
-// For each number one more than its place in an order that has them all.
+// Returns one more than the index of each number in an order of all numbers.
 fn behind_places(alloc: Global, order: &[usize], n: usize) -> Result<Vec<usize>, AllocError>
     requires inside { AllBelow n order.now }
     requires all { (x : ℕ) → x < n → IsIn order.now x }
@@ -20,7 +20,7 @@ fn behind_places(alloc: Global, order: &[usize], n: usize) -> Result<Vec<usize>,
     Ok(component)
 }
 
-// Whether no arc leads to a number with a higher component.
+// Returns whether no arc leads to a number with a higher component.
 fn none_leads_up(from: &[usize], to: &[usize], component: &[usize]) -> bool
     requires { AreArcs from.now to.now (length component.now) }
     ensures { IsTrue result → NoneLeadsUp from.now to.now component.now }
@@ -33,8 +33,8 @@ fn none_leads_up(from: &[usize], to: &[usize], component: &[usize]) -> bool
     true
 }
 
-// The components of the numbers in the order in which a search finished them, if each is one of its own: so it is where
-// no arc leads to a number that was finished later.
+// Returns the components in the order of a search, if no arc leads to a number that was finished later. Then each
+// number is a component of its own. Else returns `None`.
 pub(crate) fn single_components(
     alloc: Global,
     from: &[usize],

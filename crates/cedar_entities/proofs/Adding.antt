@@ -1,4 +1,4 @@
--- Adding, over any store and over the plain store of a world.
+-- Additions to any store and to the plain store of an input store.
 use Rattle.std.specs.Prelude.{◌≡◌, ◌↔◌, Bool, true, false, cond, not, ◌&&◌, ◌||◌, List, [], ◌∷◌, ◌++◌, Option, Some}
 use Rattle.std.specs.Prelude.{None, map}
 use Rattle.std.proofs.Common.{ap, sym, refl, subst, ◌∙◌}
@@ -40,12 +40,12 @@ use Rattle.cedar_entities.proofs.Versions.{or_none}
 use Rattle.cedar_entity_maps.specs.laws.Worlds.{get_added}
 use Rattle.cedar_entities.proofs.PlainStores.{found_parts, map_or, first_all, first_keyed, parents_alone}
 
--- there is a first with a uid where the list has the uid
+-- There is a first entity with a uid if and only if the uid is in the list.
 pub first_some : (L : List EntityView) (q : EntityUID) → is_some (first_entity L q) ≡ is_member same_uid (uids_of L) q
 first_some L q = is_some-find uid_order q (map keyed L)
     ∙ (λ i. list_any (same_tests i q) (map-map (λ e. e.0) keyed L i))
 
--- the uids that are inserted, as a list
+-- The members of the list of inserted uids.
 pub inserted_members : (D : Held) (L : List EntityView) (q : EntityUID)
     → is_member same_uid (inserted_in D L) q ≡ (is_member same_uid (uids_of L) q && not (finmap.contains_key D q))
 inserted_members D L q =
@@ -56,7 +56,7 @@ one_in : (k m : Bool) (o : Option EntityView) → is_some o ≡ m → (m && not 
 one_in true m o h = and-false m
 one_in false m o h = and-true m ∙ sym h ∙ sym (or-false (is_some o))
 
--- none of them is held, so no ancestor goes with one
+-- No inserted uid is in D, so no ancestor is stale.
 none_among : (D : Held) (L : List EntityView) (e : EntityView) (w : EntityUID)
     → list_any (goes_with D e w) (inserted_in D L) ≡ false
 none_among D L e w = false_from_ne_true (list_any (goes_with D e w) (inserted_in D L)) (λ t.
@@ -77,11 +77,11 @@ all_remains D L (Some e) = λ i. Some (record e {
       (λ w _. none_among D L e w)) i;
 })
 
--- what comes by adding
+-- The entities that an addition inserts.
 abbrev pub added_first : Held → List EntityView → EntityUID → Option EntityView
 added_first D L q = cond (finmap.contains_key D q) None (first_entity L q)
 
--- it is an edit, from which nothing goes
+-- An addition is an edit that removes nothing.
 pub add_edit : (D : Held) (L : List EntityView)
     → IsEdit D (with_first D L) (λ _. false) (added_first D L) (inserted_in D L)
 add_edit D L = record {
@@ -96,7 +96,7 @@ add_edit D L = record {
     at q None = or_none (first_entity L q)
     at q (Some e) = refl
 
--- what is not inserted is as it was
+-- A uid that is not inserted has the same entity as before.
 pub added_same : (D : Held) (L : List EntityView) (q : EntityUID) → is_member same_uid (inserted_in D L) q ≡ false
     → finmap.get (with_first D L) q ≡ finmap.get D q
 added_same D L q h = made_outside (add_edit D L) q h ∙ sym (all_remains D L (finmap.get D q))
@@ -115,7 +115,7 @@ module _ (W : World) (S : StoreView) (L : List EntityView) (plain : IsPlainStore
         ∙ (λ i. option_or (plain.holds q i) (sym (found_parts L q) i)) ∙ sym (get_added W (map given_of L) q);
   }
 
-  -- where ancestors are computed the plain store of the world that adding leaves comes
+  -- If ancestors are computed, the result is the plain store of the input store after the addition.
   pub settled_plain : (row : Row) (N : StoreView) → N.partial ≡ S.partial
       → IsEnded row (is_touched S.held (inserted_in S.held L)) (with_first S.held L) N.held
       → OnTrue (computes row) (IsPlainStore (added W (map given_of L)) N)
@@ -131,7 +131,7 @@ same_bool true y f g = sym (g.1 (f.0 refl))
 same_bool false true f g = f.1 (g.0 refl)
 same_bool false false f g = refl
 
--- deep equality with the version that is present is agreement
+-- Deep equality to the existing entity is agreement.
 match_at : (W : World) (M : List Given) (e : EntityView) (o f : Option EntityView)
     → first M e.uid ≡ option_map parts_of f → IsBare e
     → IfSome f IsBare → IfSome f (λ x. x.uid ≡ e.uid) → IfSome o (λ h. h.uid ≡ e.uid)
@@ -182,7 +182,7 @@ all_parts P [] y ys a = (tt, a.0)
 all_parts P (x ∷ xs) y ys a = let p = all_parts P xs y ys a.1 in ((a.0, p.0), p.1)
 
 module _ (W : World) (S : StoreView) (L : List EntityView) (plain : IsPlainStore W S) (bare : AreBare L) where
-  -- over a plain store the two ways to compare come to the same
+  -- In a plain store, deep equality and agreement are equivalent.
   agrees_iff : (e : EntityView) → IsBare e
       → MatchesPresent (finmap.get S.held) L e ↔ Agrees W (map given_of L) (given_of e)
   agrees_iff e alone =

@@ -1,4 +1,4 @@
--- What adding makes of the map of a store.
+-- The effect of an addition on the map of a store.
 use Rattle.std.specs.Prelude.{◌≡◌, ◌&&◌, not, true, List, map, Option, None, ⊤}
 use Rattle.std.proofs.Common.{ap, refl, sym, subst, ◌∙◌}
 use Rattle.std.proofs.Math.Bool.{and-true}
@@ -36,7 +36,7 @@ put_in m n D L is put =
     seen_as n (with_first D L) (λ q. put q ∙ ap (λ f. option_or (f q) (first_entity L q)) (stored m D is)
     ∙ sym (get_with_first D L q))
 
--- over nothing all that is held then was inserted
+-- After an addition to an empty map, every entity is an inserted one.
 pub all_inserted : {S : Type 0} (l m : HashMap EntityUID SharedEntity S) (L : List EntityView)
     → ((q : EntityUID) → held l q ≡ None)
     → ((q : EntityUID) → held m q ≡ option_or (held l q) (first_entity L q)) → (q : EntityUID)
@@ -52,20 +52,20 @@ all_inserted l m L none put q there =
     ∙ sym (ap is_some (put q ∙ ap (λ o. option_or o (first_entity L q)) (none q)))
     ∙ there)
 
--- a refusal for a mismatch, over the same versions
+-- A duplicate error depends only on the existing entities.
 pub mismatch_at : (f g : EntityUID → Option EntityView) (L : List EntityView) (C : TcError EntityUID → Type 0) → f ≡ g
     → (e : EntitiesError) → MatchRefusal e (FirstMismatch f L) (λ _. ⊥) → MatchRefusal e (FirstMismatch g L) C
 mismatch_at f g L C is e h =
     refusal_cases (FirstMismatch f L) (λ _. ⊥) (λ r. MatchRefusal r (FirstMismatch g L) C)
     (λ u m. subst (λ k. FirstMismatch k L u) is m) (λ t n. absurd n) tt e h
 
--- a refusal of the closure, where all matched before it
+-- An error of the closure, after all entities agreed.
 pub closure_at : (C : TcError EntityUID → Type 0) (P : EntityUID → Type 0) (A : Type 0) → A → (e : EntitiesError)
     → MatchRefusal e (λ _. ⊥) C → MatchRefusal e P (λ t. A × C t)
 closure_at C P A a e h =
     refusal_cases (λ _. ⊥) C (λ r. MatchRefusal r P (λ t. A × C t)) (λ u n. absurd n) (λ t k. (a, k)) tt e h
 
--- over the plain store of a world a refusal is that of the world
+-- In a plain store an error is an error of the input store.
 pub refused_over_plain : (W : World) (S : StoreView) (L : List EntityView) → IsPlainStore W S → AreBare L
     → (mode : TCComputation) (e : EntitiesError)
     → MatchRefusal e (FirstMismatch (finmap.get S.held) L) (λ t. AllMatch (finmap.get S.held) L

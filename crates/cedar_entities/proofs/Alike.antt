@@ -1,4 +1,4 @@
--- Comparing and copying the maps of stores.
+-- Comparison and copying of the maps of stores.
 use Rattle.std.specs.Prelude.{◌≡◌, Bool, true, false, cond, List, [], ◌∷◌, Option, Some, None, map, is_some, not}
 use Rattle.std.proofs.Common.{ap, sym, refl, subst, ◌∙◌}
 use Rattle.std.proofs.lemmas.Bool.{false≢true}
@@ -29,7 +29,7 @@ module _ (o : EntityUID → Option EntityView) (q : EntityUID) where
       subst (λ x. HasDeepEqual (Some (shared e.1)) (o x)) (sym ((same_uid_decides q e.0).0 s)) h
   alike_at false e rest s h k = k
 
-  -- what is found in a list is alike where each of the list is
+  -- If each entry of a list has a deeply equal entity, so has an entry that is found.
   pub found_alike : (es : List (EntityUID × SharedEntity))
       → AllByRecursion (λ e. HasDeepEqual (Some (shared e.1)) (o e.0)) es
       → IfSome (option_map shared (lookup (same_uid q) es)) (λ x. HasDeepEqual (Some x) (o q))
@@ -43,7 +43,7 @@ module _ (o : EntityUID → Option SharedEntity) (q : EntityUID) where
   key_at true e rest s h k t = ap (λ x. is_some (o x)) ((same_uid_decides q e.0).0 s) ∙ h
   key_at false e rest s h k t = k t
 
-  -- a key that is found in a list is there where each of the list is
+  -- If each entry of a list has its key in the other map, so has an entry that is found.
   pub found_key : (es : List (EntityUID × SharedEntity)) → AllByRecursion (λ e. is_some (o e.0) ≡ true) es
       → is_some (lookup (same_uid q) es) ≡ true → is_some (o q) ≡ true
   found_key [] h t = absurd (false≢true t)
@@ -122,7 +122,7 @@ deep_stores = record {
       };
 }
 
--- copies
+-- An entry of a copied map.
 abbrev pub pair_seen : EntityUID × SharedEntity → EntityUID × EntityView
 pair_seen e = (e.0, shared e.1)
 

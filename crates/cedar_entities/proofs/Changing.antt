@@ -1,7 +1,7 @@
--- What a call that changes a store answered, from what it did; and want of memory, of which each call says nothing.
+-- The result of a call that changes a store. An allocation failure satisfies every statement.
 use Rattle.std.specs.Prelude.{◌≡◌, List, map, Result, Ok, Err, IfOk}
 use Rattle.std.specs.Result.{IsErrAnd}
-use Rattle.std.proofs.Common.{refl, subst, sym, take}
+use Rattle.std.proofs.Common.{refl, subst, sym}
 use Rattle.std.specs.Bool.{OnTrue}
 use Rattle.std.specs.FinMap as finmap
 use Rattle.std.specs.HashMap.{HashMap}
@@ -30,18 +30,18 @@ use Rattle.cedar_entities.proofs.Adds.{closure_at, mismatch_at, put_in, refused_
 use Rattle.cedar_entity_maps.specs.laws.Seen.{stored}
 use Rattle.cedar_entity_maps.specs.laws.Refusals.{none_named}
 use Rattle.cedar_entities.proofs.Ending.{ended_untouched}
-use Rattle.cedar_entities.proofs.Overwriting.{so_far, over_between, over_plain, over_refused}
+use Rattle.cedar_entities.proofs.Overwriting.{over_between, over_plain, over_refused}
 use Rattle.cedar_entities.proofs.PlainEdits.{edit_untouched}
 use Rattle.cedar_entities.proofs.Removing.{left_refused, mended_plain}
 
--- where something was refused, nothing is said of what came
+-- If there is an error, a statement on the new store holds.
 pub none_came : {A : Type 0} (answer : Result A EntitiesError) (P : A → Type 0) (e : EntitiesError)
     → IsErrAnd answer (λ x. x ≡ e) → IfOk answer P
 none_came (Ok a) P e h = absurd h
 none_came (Err x) P e h = tt
 
 module _ {A : Type 0} (mode : TCComputation) (D : Held) (L : List EntityView) (held_of : A → Held) where
-  -- a refusal, for what it says
+  -- An error of an addition.
   pub adds_refused : (answer : Result A EntitiesError) (e : EntitiesError) → IsErrAnd answer (λ x. x ≡ e)
       → MatchRefusal e (FirstMismatch (finmap.get D) L)
       (λ t. AllMatch (finmap.get D) L × IsSettleRefused mode (is_touched D (inserted_in D L)) (with_first D L) t)
@@ -51,7 +51,7 @@ module _ {A : Type 0} (mode : TCComputation) (D : Held) (L : List EntityView) (h
   adds_refused (Err x) e h err named = subst (λ f. AddsEntities mode D L (Err f) held_of) (sym h)
       (record { agree = tt; ok = tt; untouched = tt; err = err; named = named })
 
-  -- want of memory
+  -- An allocation failed.
   pub adds_nothing : (answer : Result A EntitiesError) → IsErrAnd answer (λ x. x ≡ Memory)
       → AddsEntities mode D L answer held_of
   adds_nothing answer h = adds_refused answer Memory h tt (where_so (computes (row_of mode)) _ tt)
@@ -73,7 +73,7 @@ adds_ended mode D L N (Err e) agree ends = adds_refused mode D L (λ _. N) (Err 
     (FirstMismatch (finmap.get D) L) (AllMatch (finmap.get D) L) agree e ends.err) ends.named
 
 module _ {S A : Type 0} (m : HashMap EntityUID SharedEntity S) (mode : TCComputation) (L : List EntityView) where
-  -- one of the list did not match
+  -- An entity of the list differed.
   pub adds_unmatched : (answer : Result A EntitiesError) (held_of : A → Held) (e : EntitiesError)
       → IsErrAnd answer (λ x. x ≡ e) → MatchRefusal e (FirstMismatch (held m) L) (λ _. ⊥)
       → AddsEntities mode (held_map m) L answer held_of
@@ -83,7 +83,7 @@ module _ {S A : Type 0} (m : HashMap EntityUID SharedEntity S) (mode : TCComputa
       (where_so (computes (row_of mode)) _
       (none_named (FirstMismatch (held m) L) (is_touched D (inserted_in D L)) e err))
 
-  -- all was put in, and that was settled
+  -- All entities were inserted, and the addition was finalized.
   pub adds_settled : (n : HashMap EntityUID SharedEntity S) (N : Held) (answer : Result A EntitiesError)
       → AllMatch (held m) L → ((q : EntityUID) → held n q ≡ option_or (held m q) (first_entity L q))
       → Ends (row_of mode) (is_touched (held_map m) (inserted_in (held_map m) L)) (held_map n) N
@@ -94,7 +94,7 @@ module _ {S A : Type 0} (m : HashMap EntityUID SharedEntity S) (mode : TCComputa
       adds_ended mode D L N answer (subst (λ f. AllMatch f L) (stored m D refl) agree)
       (subst (λ E. Ends (row_of mode) (is_touched D (inserted_in D L)) E N answer) (put_in m n D L refl put) ends)
 
--- what is said of one list over one map is said of what these are
+-- A statement on an addition depends only on the entity map and the list.
 pub adds_same : {A : Type 0} (mode : TCComputation) (D E : Held) (L M : List EntityView)
     (answer : Result A EntitiesError) (held_of : A → Held) → D ≡ E → L ≡ M
     → AddsEntities mode D L answer held_of → AddsEntities mode E M answer held_of
@@ -102,20 +102,20 @@ adds_same mode D E L M answer held_of is same h =
     subst (λ K. AddsEntities mode K M answer held_of) is
     (subst (λ l. AddsEntities mode D l answer held_of) same h)
 
--- what the map was given, the store has
+-- The store has the content of the map.
 pub adds_kept : {A : Type 0} (mode : TCComputation) (D : Held) (L : List EntityView) (a : A) (s : StoreView)
     → AddsEntities mode D L (Ok a) (λ _. s.held) → AddsEntities mode D L (Ok s) (λ t. t.held)
 adds_kept mode D L a s h =
     record { agree = h.agree; ok = h.ok; untouched = h.untouched; err = tt; named = tt }
 
--- and what the map refused, the store refuses
+-- An error of the map is an error of the store.
 pub adds_told : {A B : Type 0} (mode : TCComputation) (D : Held) (L : List EntityView) (e : EntitiesError)
     (N : A → Held) (answer : Result B EntitiesError) (held_of : B → Held) → IsErrAnd answer (λ x. x ≡ e)
     → AddsEntities mode D L (Err e) N → AddsEntities mode D L answer held_of
 adds_told mode D L e N answer held_of h k = adds_refused mode D L held_of answer e h k.err k.named
 
 module _ (mode : TCComputation) (S : StoreView) (L : List EntityView) where
-  -- over the plain store of a world
+  -- The result of an addition to a plain store.
   pub adds_plain : (answer : Result StoreView EntitiesError) → IfOk answer (λ s. s.partial ≡ S.partial)
       → AddsEntities mode S.held L answer (λ s. s.held)
       → (W : World) → IsPlainStore W S → AreBare L → AddsPlain mode W (map given_of L) answer
@@ -140,11 +140,9 @@ module _ (mode : TCComputation) (S : StoreView) (L : List EntityView) where
 
   pub strips_plain : (answer : Result StoreView EntitiesError) → UpsertsEntities mode S.held L answer
       → (W : World) → IsPlainStore W S → StripsPlain mode W S.held (uids_of L) answer
-  strips_plain (Ok s) puts W plain = record {
-    so_far = λ k. so_far W S plain (take k (uids_of L));
-    between = over_between W S plain (row_of mode) L (is_touched S.held (uids_of L)) s.held puts.ok;
-  }
-  strips_plain (Err e) puts W plain = record { so_far = tt; between = tt }
+  strips_plain (Ok s) puts W plain =
+      over_between W S plain (row_of mode) L (is_touched S.held (uids_of L)) s.held puts.ok
+  strips_plain (Err e) puts W plain = tt
 
 module _ (row : Row) (A : List EntityUID) (D M : Held) where
   edit_refused : (answer : Result StoreView EntitiesError) (e : EntitiesError) → IsErrAnd answer (λ x. x ≡ e)
@@ -154,17 +152,17 @@ module _ (row : Row) (A : List EntityUID) (D M : Held) where
   edit_refused (Err x) e h err named = subst (λ f. EditsStore row A D M (Err f)) (sym h)
       (record { ok = tt; untouched = tt; err = err; named = named })
 
-  -- what the map refused, the store refuses
+  -- An error of the map is an error of the store.
   pub edit_told : {X : Type 0} (N : Held) (answer : Result StoreView EntitiesError) (e : EntitiesError)
       → IsErrAnd answer (λ x. x ≡ e) → Ends {A = X} row (is_touched D A) M N (Err e) → EditsStore row A D M answer
   edit_told N answer e h ends = edit_refused answer e h ends.err ends.named
 
-  -- want of memory
+  -- An allocation failed.
   pub edit_nothing : (answer : Result StoreView EntitiesError) → IsErrAnd answer (λ x. x ≡ Memory)
       → EditsStore row A D M answer
   edit_nothing answer h = edit_refused answer Memory h tt (where_so (computes row) _ tt)
 
-  -- what the map became, the store has
+  -- The store has the content of the map.
   pub edit_made : {X : Type 0} (s : StoreView) (x : X) → StaysUntouched A D M
       → Ends row (is_touched D A) M s.held (Ok x) → EditsStore row A D M (Ok s)
   edit_made s x stays ends = record {
@@ -183,7 +181,7 @@ removes_plain mode S uids (Ok s) same out W plain =
 removes_plain mode S uids (Err e) same out W plain =
     record { ok = tt; err = left_refused W S uids plain (row_of mode) e out.err }
 
--- what is said of one list over one map is said of what these are
+-- A statement on an overwriting depends only on the entity map and the list.
 pub upserts_same : (mode : TCComputation) (D E : Held) (L M : List EntityView) (answer : Result StoreView EntitiesError)
     → D ≡ E → L ≡ M → UpsertsEntities mode D L answer → UpsertsEntities mode E M answer
 upserts_same mode D E L M answer is same h =

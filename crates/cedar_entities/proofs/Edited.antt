@@ -1,4 +1,4 @@
--- From what the steps of an edit leave of the map to what the edit makes of what is held.
+-- The steps of an edit of the map, as an edit of the entity map.
 use Rattle.std.specs.Prelude.{◌≡◌, Bool, true, false, cond, not, ◌&&◌, ◌||◌, List, [], Option, Some, None, filter}
 use Rattle.std.proofs.Common.{ap, sym, refl, subst, inl, inr, ◌∙◌}
 use Rattle.std.proofs.lemmas.Bool.{false≢true, or_cases, or_left, or_parts, or_right}
@@ -36,7 +36,7 @@ use Rattle.cedar_entity_maps.specs.laws.LossLaws.{and_both, and_off, goes_by_los
 use Rattle.cedar_entities.proofs.Overwriting.{last_some, over_edit}
 use Rattle.cedar_entities.proofs.Removing.{out_edit, removed_members}
 
--- what they leave of what was held
+-- The entity map after the steps of an edit.
 abbrev pub IsWritten : UidValues → List EntityView → List Loss → (was now : EntityUID → Option EntityView) → Type 0
 IsWritten gone L R was now = (q : EntityUID)
     → now q ≡ option_or (last_entity L q) (cond (set.contains gone q) None (option_map (left_by gone R q) (was q)))
@@ -48,11 +48,11 @@ covered (Some e) x y h = refl
 module _ (D : Held) (gone : UidValues) (L : List EntityView) (K : List EntityUID) (R : List Loss)
     (all : (q : EntityUID) → is_member same_uid K q ≡ (is_member same_uid (uids_of L) q || set.contains gone q))
     (who : (q : EntityUID) → loses R q ≡ is_stripped K q (ancestry D q)) (q : EntityUID) where
-  -- what is written at q, where o was
+  -- The entity at q after the steps, where o is the one before.
   abbrev pub written : Option EntityView → Option EntityView
   written o = option_or (last_entity L q) (cond (set.contains gone q) None o)
 
-  -- at the uids of an edit nothing is left of what was
+  -- At the uids of an edit nothing remains of the old entities.
   pub at_applied : is_member same_uid K q ≡ true → (x y : Option EntityView) → written x ≡ written y
   at_applied t x y =
       elim (or_cases (is_member same_uid (uids_of L) q) (set.contains gone q) (sym (all q) ∙ t)) [
@@ -62,13 +62,13 @@ module _ (D : Held) (gone : UidValues) (L : List EntityView) (K : List EntityUID
             ∙ sym (ap (λ d. option_or (last_entity L q) (cond d None y)) g)
       ]
 
-  -- and nothing comes or goes at others
+  -- At other uids nothing is inserted or removed.
   pub at_others : is_member same_uid K q ≡ false → (x : Option EntityView) → written x ≡ x
   at_others out x =
       let p = or_parts (is_member same_uid (uids_of L) q) (set.contains gone q) (sym (all q) ∙ out) in
       λ i. option_or (is_none (last_entity L q) (last_some L q ∙ p.0) i) (cond (p.1 i) None x)
 
-  -- a parent that goes is an ancestor
+  -- A removed parent is an ancestor.
   parents_gone : is_member same_uid K q ≡ false → (e : EntityView) → finmap.get D q ≡ Some e
       → set.retain e.parents (λ p. not (loses R q && set.contains gone p))
       ≡ set.retain e.parents (λ p. not (set.contains gone p))
@@ -85,7 +85,7 @@ module _ (D : Held) (gone : UidValues) (L : List EntityView) (K : List EntityUID
           ∙ any_member (ancestry D q) K x (all x ∙ or_right (is_member same_uid (uids_of L) x) (set.contains gone x) g)
           (ap (λ o. is_ancestor_in o x) is ∙ or_left (set.contains e.parents x) (set.contains e.indirect x) t)))
 
-  -- so what is written at others has the parents that do not go
+  -- At other uids the parents that are not removed remain.
   pub parents_left : is_member same_uid K q ≡ false → (indirect : EntityUID → Bool) (x : EntityUID)
       → (o : Option EntityView) → finmap.get D q ≡ o
       → is_parent_at (option_map (stripped (λ p. loses R q && set.contains gone p) indirect) o) x
@@ -115,7 +115,7 @@ module _ (D : Held) (gone : UidValues) (L : List EntityView) (K : List EntityUID
   written_at true t = at_applied D gone L K R all who q t (option_map (left_by gone R q) (finmap.get D q))
       (option_map (remains D (set.contains gone) K) (finmap.get D q))
 
--- what the steps of an edit leave of the map, of what is held
+-- The effect of the steps of an edit on the entities.
 pub seen_written : {S : Type 0} (m n : HashMap EntityUID SharedEntity S) (gone : UidValues) (L : List EntityView)
     (R : List Loss)
     → IsWritten gone L R (held m) (held n)
@@ -124,7 +124,7 @@ seen_written m n gone L R is q =
     get_seen n q ∙ is q ∙ ap (λ f. option_or (last_entity L q) (cond (set.contains gone q) None
     (option_map (left_by gone R q) (f q)))) (stored m (held_map m) refl)
 
--- and of parents
+-- The effect of the steps of an edit on the parents.
 pub parents_written : {S : Type 0} (m n : HashMap EntityUID SharedEntity S) (gone : UidValues) (L : List EntityView)
     (K : List EntityUID) (R : List Loss)
     → ((q : EntityUID) → is_member same_uid K q ≡ (is_member same_uid (uids_of L) q || set.contains gone q))
@@ -139,7 +139,7 @@ parents_written m n gone L K R all who is p q out =
     (option_map (left_by gone R q) (finmap.get D q)))
     ∙ parents_left D gone L K R all who q out (loses_uid R q) p (finmap.get D q) refl
 
--- what the steps of an edit leave is what it leaves
+-- The steps of an edit result in an edit.
 pub written_edit : {S : Type 0} (m n : HashMap EntityUID SharedEntity S) (gone : UidValues) (L : List EntityView)
     (K : List EntityUID) (R : List Loss)
     → ((q : EntityUID) → is_member same_uid K q ≡ (is_member same_uid (uids_of L) q || set.contains gone q))
@@ -153,7 +153,7 @@ written_edit m n gone L K R all who lost is = record {
       ∙ written_at (held_map m) gone L K R all who lost q (is_member same_uid K q) refl;
 }
 
--- and an edit leaves one thing
+-- An edit has only one result.
 pub edit_same : (D N M : Held) (gone : EntityUID → Bool) (put : EntityUID → Option EntityView) (K A : List EntityUID)
     → IsEdit D N gone put K → IsEdit D M gone put A → N ≡ M
 edit_same D N M gone put K A x y = finmap.same_map uid_order_total one_equal N M (λ q.
@@ -162,7 +162,7 @@ edit_same D N M gone put K A x y = finmap.same_map uid_order_total one_equal N M
           (λ w. not (any_alike (goes_with D e w) K A (λ u. x.applied u ∙ sym (y.applied u)) i));
     })) (finmap.get D q)))) ∙ sym (y.made q))
 
--- what is read of the map, of what is held
+-- The facts read from the map are the facts of the entity map.
 pub reading_of : {S T H : Type 0} (m : HashMap EntityUID SharedEntity S) (us ks : List EntityUID) (r : Reading T H)
     (anew : Bool) → r.uids.items ≡ ks → ((q : EntityUID) → is_member same_uid ks q ≡ is_member same_uid us q)
     → ((q : EntityUID) → contains same_uid r.touched q ≡ is_touched (held_map m) ks q)
@@ -184,7 +184,7 @@ pub gone_all : {S : Type 0} (l : HashMap EntityUID SharedEntity S) (D : Held) (U
     → filter (λ u. is_some (held l u)) U ≡ removed_from D U
 gone_all l D U is = ap (λ g. filter (λ u. is_some (g u)) U) (stored l D is)
 
--- the set of the listed uids that the map has is that of those that leave
+-- The listed uids that are in the map are the removed uids.
 pub gone_leaves : {S : Type 0} (l : HashMap EntityUID SharedEntity S) (D : Held) (U listed : List EntityUID)
     (gone : UidValues) → held_map l ≡ D
     → listed ≡ filter (λ u. is_some (held l u)) U → gone ≡ set.from_list listed → (q : EntityUID)
@@ -193,7 +193,7 @@ gone_leaves l D U listed gone is all made q =
     ap (λ s. set.contains s q) made ∙ contains_listed listed q
     ∙ ap (λ us. is_member same_uid us q) (all ∙ gone_all l D U is) ∙ removed_members D U q
 
--- what an edit touches is what it is known to touch in the map, by uids that are the same
+-- The affected entities depend only on the set of uids.
 pub known_touched : (D : Held) (A B : List EntityUID) (f : EntityUID → Bool)
     → ((q : EntityUID) → is_member same_uid A q ≡ is_member same_uid B q) → ((q : EntityUID) → f q ≡ is_touched D A q)
     → f ≡ is_touched D B
@@ -202,7 +202,7 @@ known_touched D A B f same known = λ i q. (
     ∙ ap (λ b. b || list_any (ancestry D q) A) (same q)
     ∙ ap (λ b. is_member same_uid B q || b) (any_alike (ancestry D q) A B same)) i
 
--- an adding touches in the map that has what was put in what it touches in the map before
+-- The affected entities of an addition are the same before and after the insertion.
 pub added_alike : {S : Type 0} (m : HashMap EntityUID SharedEntity S) (D : Held) (L : List EntityView)
     (A : List EntityUID) → held_map m ≡ with_first D L
     → ((q : EntityUID) → is_member same_uid A q ≡ is_member same_uid (inserted_in D L) q) → (q : EntityUID)
@@ -215,7 +215,7 @@ added_alike m D L A put same q = at (is_member same_uid A q) refl
     at false t = ap (λ o. is_member same_uid A q || list_any (is_ancestor_in o) A)
         (ap (λ (M : Held). finmap.get M q) put ∙ added_same D L q (sym (same q) ∙ t))
 
--- overwriting and removing are edits
+-- Overwritings and removals are edits.
 pub over_made : (D : Held) (L : List EntityView) (gone : UidValues) → gone ≡ set.empty
     → IsEdit D (put_over D L) (set.contains gone) (last_entity L) (uids_of L)
 over_made D L gone is = subst (λ f. IsEdit D (put_over D L) f (last_entity L) (uids_of L))

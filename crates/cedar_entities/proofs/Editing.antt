@@ -1,4 +1,4 @@
--- What the steps of an overwriting and a removal leave of the map.
+-- The steps of an overwriting and of a removal.
 use Rattle.std.specs.Prelude.{◌≡◌, ◌+◌, Bool, true, false, cond, ◌||◌, List, [], ◌∷◌, ◌++◌, Option, None}
 use Rattle.std.proofs.Common.{ap, sym, refl, ◌∙◌}
 use Rattle.std.specs.Option.{option_map}
@@ -10,7 +10,7 @@ use Rattle.cedar_entity_maps.specs.laws.Held.{shared}
 use Rattle.cedar_entity.specs.View.{EntityView}
 use Rattle.cedar_entity_maps.specs.laws.Lists.{member_push}
 
--- taking out
+-- A removal.
 out_at : (b : Bool) (o : Option SharedEntity) → option_map shared (cond b None o) ≡ cond b None (option_map shared o)
 out_at true o = refl
 out_at false o = refl
@@ -21,7 +21,7 @@ out_cases true false o = refl
 out_cases false true o = refl
 out_cases false false o = refl
 
--- one more entity is out
+-- One more entity is removed.
 pub out_push : (first now new : Option EntityView) (done : List EntityUID) (k q : EntityUID)
     → now ≡ cond (is_member same_uid done q) None first → new ≡ cond (same_uid k q) None now
     → new ≡ cond (is_member same_uid (done ++ k ∷ []) q) None first

@@ -1,4 +1,4 @@
--- What follows of how an edit ends, by the row of its mode.
+-- Consequences of the finalization of an edit.
 use Rattle.std.specs.Prelude.{◌≡◌, Bool, true, false, not, ◌&&◌, List, Result, Ok, Err}
 use Rattle.std.proofs.Common.{ap, subst, sym, ◌∙◌}
 use Rattle.std.specs.Bool.{OnFalse, OnTrue}
@@ -18,21 +18,21 @@ use Rattle.cedar_entity_maps.specs.declared.modes.Row.{Row}
 use Rattle.cedar_entity_maps.specs.laws.Ends.{Ends}
 use Rattle.cedar_entity_maps.specs.laws.Rows.{also_first, one_cases, where_so}
 
--- what it made of D
+-- The result is a repair of D, or D.
 pub ended_made : (row : Row) (touched : EntityUID → Bool) (D N : Held) → IsEnded row touched D N
     → IsMadeOf row.repairs touched D N
 ended_made row touched D N h = also_first (row.repairs && row.refuses_cycles) (IsMadeOf row.repairs touched D N)
     (IsAcyclicAt touched D) (also_first row.checks (Also (row.repairs && row.refuses_cycles)
     (IsMadeOf row.repairs touched D N) (IsAcyclicAt touched D)) (IsSound N) h)
 
--- or for want of memory
+-- The result if an allocation failed.
 pub ends_nothing : {X : Type 0} (row : Row) (touched : EntityUID → Bool) (D N : Held) (r : Result X EntitiesError)
     (e : EntitiesError) → e ≡ Memory → IsErrAnd r (λ x. x ≡ e) → Ends row touched D N r
 ends_nothing row touched D N (Ok x) e none h = absurd h
 ends_nothing {X} row touched D N (Err x) e none h = subst (λ f. Ends {A = X} row touched D N (Err f)) (sym (h ∙ none))
     (record { ok = tt; err = tt; named = where_so (computes row) _ tt })
 
--- what is not touched stays as it was
+-- Entities that are not affected do not change.
 pub ended_untouched : (row : Row) (A : List EntityUID) (D M N : Held) → StaysUntouched A D M
     → IsEnded row (is_touched D A) M N → StaysUntouched A D N
 ended_untouched row A D M N h ended = at row.repairs (ended_made row (is_touched D A) M N ended)
@@ -41,7 +41,7 @@ ended_untouched row A D M N h ended = at row.repairs (ended_made row (is_touched
     at true s q t = s.alone q t ∙ h q t
     at false s q t = ap (λ (E : Held). finmap.get E q) s ∙ h q t
 
--- how an edit ends changes of no entity more than its indirect ancestors
+-- A finalization changes only indirect ancestors.
 pub ended_kept : (row : Row) (touched : EntityUID → Bool) (D N : Held) → IsEnded row touched D N → (q : EntityUID)
     → option_map kept (finmap.get N q) ≡ option_map kept (finmap.get D q)
 ended_kept row touched D N ended q = at row.repairs (ended_made row touched D N ended)
@@ -50,7 +50,7 @@ ended_kept row touched D N ended q = at row.repairs (ended_made row touched D N 
     at true s = s.parts q
     at false s = ap (λ (M : Held). option_map kept (finmap.get M q)) s
 
--- what follows of a repair that refuses cycles follows where the row computes
+-- A consequence of a repair that reports cycles holds if the edit rules compute the closure.
 pub ended_computed : (row : Row) (touched : EntityUID → Bool) (D N : Held) (P : Type 0)
     → (IsRepairOf touched D N → IsAcyclicAt touched D → P) → IsEnded row touched D N → OnTrue (computes row) P
 ended_computed row touched D N P f = at row.repairs row.refuses_cycles row.checks
@@ -62,7 +62,7 @@ ended_computed row touched D N P f = at row.repairs row.refuses_cycles row.check
     at true false c h = tt
     at false b c h = tt
 
--- and what follows of a cycle, of its refusal there
+-- A consequence of a cycle holds for an error if the edit rules compute the closure.
 pub refused_computed : (row : Row) (touched : EntityUID → Bool) (D : Held) (t : TcError EntityUID) (P : Type 0)
     → (TellsCycle D t → P) → IsEndRefused row touched D t → OnTrue (computes row) P
 refused_computed row touched D t P f = at row.repairs row.refuses_cycles row.checks
@@ -74,7 +74,7 @@ refused_computed row touched D t P f = at row.repairs row.refuses_cycles row.che
     at true false c h = tt
     at false b c h = tt
 
--- what follows where nothing is repaired
+-- A consequence of an unchanged map holds if nothing is repaired.
 pub ended_taken : (row : Row) (touched : EntityUID → Bool) (D N : Held) (P : Type 0) → (N ≡ D → P)
     → IsEnded row touched D N → OnFalse row.repairs P
 ended_taken row touched D N P f ended = at row.repairs (ended_made row touched D N ended)
@@ -83,7 +83,7 @@ ended_taken row touched D N P f ended = at row.repairs (ended_made row touched D
     at true h = tt
     at false h = f h
 
--- a repair that finds no cycle and leaves what is sound is not refused
+-- A repair without a cycle and with a sound result has no error.
 pub never_refused : (row : Row) (touched : EntityUID → Bool) (D : Held) (t : TcError EntityUID) → (TellsCycle D t → ⊥)
     → ((N : Held) → IsRepairOf touched D N → TellsUnsound N t → ⊥) → IsEndRefused (mending row) touched D t → ⊥
 never_refused row touched D t f g = one_cases row.refuses_cycles row.checks (TellsCycle D t)

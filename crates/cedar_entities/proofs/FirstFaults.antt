@@ -1,4 +1,4 @@
--- The first entity of a store that is not valid.
+-- The first invalid entity of a store.
 use Rattle.std.specs.Prelude.{◌≡◌, Bool, true, false, List, [], ◌∷◌, ◌++◌, Option, Some, None, MatchOption, map}
 use Rattle.std.specs.Prelude.{if◌then◌else◌}
 use Rattle.std.proofs.Common.{ap, sym, refl, subst, inl, inr, ◌∙◌}
@@ -29,11 +29,11 @@ use Rattle.cedar_entity.specs.laws.UidOrder.{irreflexive, less}
 use Rattle.cedar_entities.proofs.StoreMaps.{seen_keyed}
 use Rattle.cedar_entity_maps.specs.laws.Seen.{get_seen}
 
--- what may hold of each uid that stands before u
+-- Holds if e is valid or its uid is not less than u.
 abbrev ValidBefore : EntityUID → EntityView → Type 0
 ValidBefore u e = uid_order e.uid u ≡ Less → IsValid e
 
--- what is the first of the entities of a list that is not valid, and held
+-- Holds if the entity is the invalid one with the least uid among the entities of a list.
 abbrev pub IsFirstOf : {Y : Type 0} → (EntityUID → Option EntityView) → (Y → EntityView) → List Y → Option EntityView
     → Type 0
 IsFirstOf o entity ys None = All (λ y. IsValid (entity y)) ys
@@ -71,7 +71,7 @@ module _ {Y : Type 0} (o : EntityUID → Option EntityView) (entity : Y → Enti
   )
   lesser_faulty (Some a) at faulty h = chosen a (is_lt (uid_order (entity y).uid a.uid)) refl at faulty h
 
-  -- one entity more
+  -- One more entity is checked.
   pub first_step : (r s : Option EntityView) → o (entity y).uid ≡ Some (entity y) → TakesFaulty (entity y) r s
       → IsFirstOf o entity ys r → IsFirstOf o entity (ys ++ y ∷ []) s
   first_step r s at (inl t) h = subst (IsFirstOf o entity (ys ++ y ∷ [])) (sym t.1) (kept r t.0 h)
@@ -88,7 +88,7 @@ before_at u q None l k h = tt
 before_at u q (Some e) l k h = h (ap (λ x. uid_order x u) k ∙ l)
 
 module _ {S : Type 0} (m : HashMap EntityUID SharedEntity S) where
-  -- what is held at its own uid, as the map has it
+  -- Each entity is at its own uid in the map.
   pub at_own_uid : UidsMatch m → (q : EntityUID) (n : SharedEntity) → get same_uid m q ≡ Some n
       → held m (shared n).uid ≡ Some (shared n)
   at_own_uid match q n is =
@@ -108,7 +108,7 @@ module _ {S : Type 0} (m : HashMap EntityUID SharedEntity S) where
       → IfSome (finmap.get (held_map m) q) P
   seen_so P h q = subst (λ o. IfSome o P) (sym (get_seen m q)) (h q)
 
-  -- the first of all entries
+  -- The first invalid entity of all entries.
   pub first_of_all : UidsMatch m → (ys : List (Bor EntityUID × Bor SharedEntity)) → map deref_pair ys ≡ m.entries
       → (r : Option EntityView) → IsFirstOf (held m) (λ p. shared p.1.now) ys r
       → MatchOption r (AreAllValid (held_map m)) (IsFirstFaulty (held_map m))
@@ -121,7 +121,7 @@ module _ {S : Type 0} (m : HashMap EntityUID SharedEntity S) where
         (seen_so (ValidBefore a.uid) (held_so (ValidBefore a.uid) ys whole h.2) q);
   }
 
--- what is wrong with an entity, where nothing is with the graph
+-- A fault of an entity is a fault of the store, if the ancestors have no fault.
 pub told_of_first : (D : Held) (r : EntitiesError) → IsSound D → IsFirstFault D r → IsStoreFault D r
 told_of_first D r h f =
     other_fault (TellsUnsound D) (λ e. IsSound D × IsFirstFault D e) (λ t g. absurd g.1.fault) r (h, f)

@@ -1,4 +1,4 @@
--- What becomes of the children that are listed, one uid after another and over a whole edit.
+-- The listed children after one uid after another, and after a whole edit.
 use Rattle.std.specs.Prelude.{◌≡◌, Bool, true, false, not, ◌&&◌, ◌||◌, List, Option, Some, None, map}
 use Rattle.std.proofs.Common.{ap, sym, refl, subst, ◌∙◌}
 use Rattle.std.proofs.lemmas.Map.Made.{is_member-filter}
@@ -31,7 +31,7 @@ use Rattle.cedar_entity_maps.specs.laws.LossLaws.{and_off}
 use Rattle.cedar_entities.proofs.Overwriting.{over_plain}
 use Rattle.cedar_entities.proofs.Removing.{mended_plain}
 
--- what is kept of an entity tells its parents
+-- The parents are part of the unchanged content.
 parent_kept : Option Kept → EntityUID → Bool
 parent_kept None p = false
 parent_kept (Some k) p = set.contains k.1.0.1 p
@@ -49,7 +49,7 @@ or_off : (b : Bool) → (b || false) ≡ b
 or_off true = refl
 or_off false = refl
 
--- the children after an edit: some were taken from the children, and as parents, and some put in
+-- The children after an edit.
 pub children_edited : (D M N : Held) (gone : EntityUID → Bool) (A K J G : List EntityUID)
     (was mid : EntityUID → Option EntityView)
     → ((p q : EntityUID) → is_member same_uid A q ≡ false
@@ -75,7 +75,7 @@ children_edited D M N gone A K J G was mid others left came goes old is keeps p 
         || ((came q ∙ t) i && is_parent_at (mid q) p))
         ∙ or_off (not (gone p) && is_parent_at (finmap.get D q) p) ∙ sym (others p q t)
 
--- after an adding
+-- The children after an addition.
 pub children_in : (D N : Held) (L : List EntityView) (A : List EntityUID) (mid : EntityUID → Option EntityView)
     → ((q : EntityUID) → is_member same_uid A q ≡ is_member same_uid (inserted_in D L) q)
     → ((p q : EntityUID) → is_parent_at (mid q) p ≡ is_parent_at (finmap.get (with_first D L) q) p)
@@ -106,13 +106,11 @@ children_in D N L A mid same is keeps p q = at (is_member same_uid (inserted_in 
     at false t = ap (λ b. parentage (finmap.get D) p q || (b && is_parent_at (mid q) p)) (same q ∙ t)
         ∙ or_off (parentage (finmap.get D) p q) ∙ ap (λ o. is_parent_at o p) (sym (added_same D L q t))
 
--- some fact of what was found follows from another
 pub if_some : {X : Type 0} (P Q : X → Type 0) (o : Option X) → ((x : X) → P x → Q x) → IfSome o P → IfSome o Q
 if_some P Q None f h = tt
 if_some P Q (Some x) f h = f x h
 
--- where entities are put over those of a plain store and what that touches is closed, they are those of a plain store
--- again
+-- If entities are overwritten in a plain store and the affected entities are closed, the store is plain again.
 pub plain_over : (D : Held) → IsPlainHeld D → (L : List EntityView) → AreBare L → (row : Row) → computes row ≡ true
     → (N : Held) → IsEnded row (is_touched D (uids_of L)) (put_over D L) N → IsPlainHeld N
 plain_over D held L bare row now N s =
@@ -123,7 +121,7 @@ plain_over D held L bare row now N s =
           (over_plain W (record { held = D; partial = W.partial }) L held.1 bare row S refl s),
     )
 
--- the same where they are added
+-- The same for an addition.
 pub plain_in : (D : Held) → IsPlainHeld D → (L : List EntityView) → AreBare L → (row : Row) → computes row ≡ true
     → (N : Held) → IsEnded row (is_touched D (inserted_in D L)) (with_first D L) N → IsPlainHeld N
 plain_in D held L bare row now N s =
@@ -134,7 +132,7 @@ plain_in D held L bare row now N s =
           (settled_plain W (record { held = D; partial = W.partial }) L held.1 bare row S refl s),
     )
 
--- and where some are taken out, in each mode
+-- The same for a removal, in every mode.
 pub plain_out : (D : Held) → IsPlainHeld D → (U : List EntityUID) (row : Row) (N : Held)
     → IsEnded (mending row) (is_touched D (removed_from D U)) (taken_out D U) N → IsPlainHeld N
 plain_out D held U row N s =
@@ -144,7 +142,7 @@ plain_out D held U row N s =
           (record { held = N; partial = W.partial }) refl s,
     )
 
--- a store is plain whether it is partial or not
+-- A store is plain whether it is partial or not.
 pub plain_held : (W : World) (S : StoreView) → IsPlainStore W S → IsPlainHeld S.held
 plain_held W S p = (
   W,
@@ -158,7 +156,7 @@ plain_held W S p = (
   },
 )
 
--- and with the flag of the store that it is the plain store of some world
+-- A store with a plain entity map is the plain store of some input store.
 pub plain_at : (S : StoreView) → IsPlainHeld S.held → (W : World) × IsPlainStore W S
 plain_at S h = (
   record h.0 { partial = S.partial },
@@ -172,7 +170,7 @@ plain_at S h = (
   },
 )
 
--- the children by what the map has are those by what is held
+-- The children in the map are the children in the entity map.
 pub children_seen : {S T H : Type 0} (n : HashMap EntityUID SharedEntity T) (o : Option (Children S H))
     → IfSome o (HasChildren (parentage (held n))) → IfSome o (HasChildren (parentage (finmap.get (held_map n))))
 children_seen n o = subst (λ f. IfSome o (HasChildren (parentage f))) (stored n (held_map n) refl)

@@ -1,4 +1,4 @@
--- The entities of a store as a list.
+-- The list of the entities of a store.
 use Rattle.std.specs.Prelude.{◌≡◌, true, List, [], ◌∷◌, Some, map}
 use Rattle.std.proofs.Common.{ap, sym, refl, subst, ◌∙◌}
 use Rattle.std.proofs.lemmas.List.{length-map}
@@ -26,7 +26,7 @@ listed_keyed m match (e ∷ es) h =
     subst (λ o. IfSome o (λ v. same_uid e.0 (shared v).uid ≡ true)) h.0 (match e.0) in
     λ i. (sym ((same_uid_decides e.0 (shared e.1).uid).0 same) i, shared e.1) ∷ listed_keyed m match es h.1 i
 
--- the entities of the entries, each once
+-- The entities of the entries, each once.
 pub lists_held : {S : Type 0} (m : HashMap EntityUID SharedEntity S) → UidsMatch m
     → All (λ e. get same_uid m e.0 ≡ Some e.1) m.entries → IsDistinct same_uid (keys m)
     → ListsHeld (held_map m) (map (λ e. shared e.1) m.entries)

@@ -1,4 +1,4 @@
--- Overwriting, over any store and over the plain store of a world.
+-- Overwritings of any store and of the plain store of an input store.
 use Rattle.std.specs.Prelude.{◌≡◌, ◌↔◌, ◌⊎◌, Bool, true, false, not, ◌&&◌, ◌||◌, List, [], ◌∷◌, ◌++◌, Option, Some}
 use Rattle.std.specs.Prelude.{None, map, ⊤}
 use Rattle.std.proofs.Common.{inl, inr, ap, sym, refl, subst, ◌∙◌}
@@ -27,7 +27,6 @@ use Rattle.cedar_entities.specs.Present.{first_entity}
 use Rattle.cedar_entity_maps.specs.Refusals.{MatchRefusal, IsOverwritingRefused}
 use Rattle.cedar_entity_maps.specs.laws.Refusals.{refusal_cases}
 use Rattle.cedar_entity_maps.specs.Touching.{is_touched, is_indirect_in, IsEnded, IsEndRefused, LosesBetween}
-use Rattle.cedar_entity_maps.specs.Touching.{StripsBetween}
 use Rattle.cedar_entity_maps.specs.World.{World, graph, entry_of, reversed, overwritten}
 use Rattle.cedar_entity_maps.specs.declared.modes.Row.{Row}
 use Rattle.cedar_entity_maps.specs.laws.Lists.{all_push}
@@ -40,11 +39,20 @@ use Rattle.cedar_entity_maps.specs.laws.AnyOf.{any_member, any_found, is_none, n
 use Rattle.cedar_entities.proofs.Ending.{ended_taken}
 use Rattle.cedar_entity_maps.specs.laws.PlainAncestors.{ancestry_plain}
 
+-- Holds if each entity of D loses exactly its stale indirect ancestors: w is stale if a uid of the list that W contains
+-- is w, or is between the entity and w.
+abbrev StripsBetween : World → List EntityUID → Held → Type 0
+StripsBetween W A D =
+    (q w : EntityUID) → (is_indirect_in (option_map (lessened D A) (finmap.get D q)) w ≡ true)
+    ↔ ((is_indirect_in (finmap.get D q) w ≡ true)
+    × ((u : EntityUID) → is_member same_uid A u ≡ true → finmap.contains_key W.entities u ≡ true → Reach (graph W) q u
+    → (u ≡ w) ⊎ Reach (graph W) u w → ⊥))
+
 map_reversed : {X Y : Type 0} (f : X → Y) (xs : List X) → reversed (map f xs) ≡ map f (reversed xs)
 map_reversed f [] = refl
 map_reversed f (x ∷ xs) = ap (λ l. l ++ f x ∷ []) (map_reversed f xs) ∙ sym (map-append f (reversed xs) (x ∷ []))
 
--- the last of a list is the first of it from its end
+-- The last entity of a list is the first of the reversed list.
 last_first : (L : List EntityView) (q : EntityUID) → last_entity L q ≡ first_entity (reversed L) q
 last_first L q = ap (finmap.find uid_order q) (map_reversed keyed L)
 
@@ -58,7 +66,8 @@ last_parts L q =
     ap (finmap.find uid_order q) (map_reversed entry_of (map given_of L) ∙ ap (map entry_of) (map_reversed given_of L))
     ∙ found_parts (reversed L) q ∙ ap (option_map parts_of) (sym (last_first L q))
 
--- the last of the list, or else what was held, lessened by the list
+-- After an overwriting, a uid has the last entity of the list or, if there is none, its old entity without the stale
+-- ancestors.
 pub get_put_over : (D : Held) (L : List EntityView) (q : EntityUID)
     → finmap.get (put_over D L) q ≡ option_or (last_entity L q) (option_map (lessened D (uids_of L)) (finmap.get D q))
 get_put_over D L q =
@@ -71,7 +80,7 @@ any_reversed f [] = refl
 any_reversed f (x ∷ xs) = list_any-append f (reversed xs) (x ∷ []) ∙ or_comm (list_any f (reversed xs)) (f x || false)
     ∙ (λ i. or-false (f x) i || any_reversed f xs i)
 
--- there is a last with a uid where the list has the uid
+-- There is a last entity with a uid if and only if the uid is in the list.
 pub last_some : (L : List EntityView) (q : EntityUID) → is_some (last_entity L q) ≡ is_member same_uid (uids_of L) q
 last_some L q =
     ap is_some (last_first L q) ∙ first_some (reversed L) q
@@ -87,7 +96,7 @@ lessened_remains D A None = refl
 lessened_remains D A (Some e) = ap Some
     (λ i. record (lessened D A e) { parents = sym (none_retained e.parents (λ _. false) (λ x t. refl)) i })
 
--- it is an edit from which nothing goes
+-- An overwriting is an edit that removes nothing.
 pub over_edit : (D : Held) (L : List EntityView) → IsEdit D (put_over D L) (λ _. false) (last_entity L) (uids_of L)
 over_edit D L = record {
   applied = λ q. sym (last_some L q) ∙ sym (or-false (is_some (last_entity L q)));
@@ -116,7 +125,7 @@ module _ (W : World) (S : StoreView) (plain : IsPlainStore W S) where
         ),
       )
 
-  -- what stays of the indirect ancestors
+  -- The indirect ancestors that remain.
   stays_at : (A : List EntityUID) (q w : EntityUID) (o : Option EntityView) → finmap.get S.held q ≡ o
       → (is_indirect_in (option_map (lessened S.held A) o) w ≡ true) ↔ ((is_indirect_in o w ≡ true)
       × ((u : EntityUID) → is_member same_uid A u ≡ true → finmap.contains_key W.entities u ≡ true → Reach (graph W) q u
@@ -138,15 +147,15 @@ module _ (W : World) (S : StoreView) (plain : IsPlainStore W S) where
             p.1 f.0 f.1 (sym (held_alike W S plain f.0) ∙ g.0) g.1.0 g.1.1))),
       )
 
-  -- so do the uids that were applied so far
-  pub so_far : (A : List EntityUID) → StripsBetween W A S.held
-  so_far A q w = stays_at A q w (finmap.get S.held q) refl
+  -- This is true of every list of uids.
+  strips_between : (A : List EntityUID) → StripsBetween W A S.held
+  strips_between A q w = stays_at A q w (finmap.get S.held q) refl
 
   between_at : (L : List EntityView) (N : Held) → N ≡ put_over S.held L → LosesBetween W (uids_of L) S.held N
   between_at L N s q w out =
       let is = ap (λ o. is_indirect_in o w) (ap (λ (E : Held). finmap.get E q) s ∙ get_put_over S.held L q
       ∙ ap (λ o. option_or o (option_map (lessened S.held (uids_of L)) (finmap.get S.held q))) (last_absent L q out)) in
-      (λ t. (so_far (uids_of L) q w).0 (sym is ∙ t), λ p. is ∙ (so_far (uids_of L) q w).1 p)
+      (λ t. (strips_between (uids_of L) q w).0 (sym is ∙ t), λ p. is ∙ (strips_between (uids_of L) q w).1 p)
 
   pub over_between : (row : Row) (L : List EntityView) (touched : EntityUID → Bool) (N : Held)
       → IsEnded row touched (put_over S.held L) N
@@ -171,7 +180,7 @@ module _ (W : World) (S : StoreView) (L : List EntityView) (plain : IsPlainStore
         ∙ sym (get_overwritten W (map given_of L) q);
   }
 
-  -- where ancestors are computed the plain store of the world that overwriting leaves comes
+  -- If ancestors are computed, the result is the plain store of the input store after the overwriting.
   pub over_plain : (row : Row) (N : StoreView) → N.partial ≡ S.partial
       → IsEnded row (is_touched S.held (uids_of L)) (put_over S.held L) N.held
       → OnTrue (computes row) (IsPlainStore (overwritten W (map given_of L)) N)

@@ -1,4 +1,4 @@
--- What an edit leaves, of any store and of the plain store of a world, as it follows of each edit alike.
+-- The effect of an edit on any store and on the plain store of an input store. This is common to all edits.
 use Rattle.std.specs.Prelude.{◌≡◌, ◌⊎◌, Bool, true, false, cond, not, ◌&&◌, ◌||◌, List, Option, Some, None}
 use Rattle.std.proofs.Common.{inl, inr, ap, sym, refl, subst, ◌∙◌}
 use Rattle.std.proofs.lemmas.Bool.{and_from, and_parts, both_ways, false_from_ne_true, false≢true, not-true, or_cases}
@@ -33,7 +33,7 @@ use Rattle.cedar_entities.proofs.Ending.{ended_computed, refused_computed}
 use Rattle.cedar_entities.proofs.PlainStores.{bare_apart, bare_leads, cycle_in, if_or, plain_from}
 use Rattle.cedar_entities.proofs.Reaching.{kept_past, untouched}
 
--- what remains of an entity
+-- An entity that remains.
 module _ (D : Held) (gone : EntityUID → Bool) (A : List EntityUID) where
   remained : (o : Option EntityView) (b : EntityUID) → is_ancestor_in (option_map (remains D gone A) o) b ≡ true
       → is_ancestor_in o b ≡ true
@@ -60,7 +60,7 @@ module _ (D : Held) (gone : EntityUID → Bool) (A : List EntityUID) where
       ∙ ap (λ b. b && not (list_any (goes_with D e y) A))
       (h y (and_parts (set.contains e.parents y) (not (gone y)) (sym (kept_in e.parents gone y) ∙ t)).0)
 
-  -- with none of the uids among its ancestors it remains as it is
+  -- An entity that has none of the uids as an ancestor does not change.
   remains_same : ((q : EntityUID) → gone q ≡ true → is_member same_uid A q ≡ true) → (o : Option EntityView)
       → list_any (is_ancestor_in o) A ≡ false → option_map (remains D gone A) o ≡ o
   remains_same among None h = refl
@@ -80,7 +80,7 @@ module _ {D M : Held} {gone : EntityUID → Bool} {put : EntityUID → Option En
   among : (q : EntityUID) → gone q ≡ true → is_member same_uid A q ≡ true
   among q g = x.applied q ∙ or_right (is_some (put q)) (gone q) g
 
-  -- outside the uids of an edit entities remain
+  -- Entities at other uids remain.
   pub made_outside : (q : EntityUID) → is_member same_uid A q ≡ false
       → finmap.get M q ≡ option_map (remains D gone A) (finmap.get D q)
   made_outside q out =
@@ -88,7 +88,7 @@ module _ {D M : Held} {gone : EntityUID → Bool} {put : EntityUID → Option En
       x.made q
       ∙ (λ i. option_or (is_none (put q) p.0 i) (cond (p.1 i) None (option_map (remains D gone A) (finmap.get D q))))
 
-  -- what is not touched is as it was
+  -- Entities that are not affected do not change.
   pub edit_untouched : StaysUntouched A D M
   edit_untouched q t =
       let p = or_parts (is_member same_uid A q) (list_any (ancestry D q) A) t in
@@ -98,7 +98,7 @@ module _ {D M : Held} {gone : EntityUID → Bool} {put : EntityUID → Option En
   edge_was a b out h = remained D gone A (finmap.get D a) b
       (sym (ap (λ o. is_ancestor_in o b) (made_outside a out)) ∙ h)
 
-  -- where nothing comes no edge does
+  -- If nothing is inserted, no edge is added.
   edge_was_all : ((q : EntityUID) → put q ≡ None) → (a b : EntityUID) → ancestry M a b ≡ true → ancestry D a b ≡ true
   edge_was_all none a b h = at (gone a) (sym (ap (λ o. is_ancestor_in o b) (x.made a
       ∙ ap (λ o. option_or o (cond (gone a) None (option_map (remains D gone A) (finmap.get D a)))) (none a))) ∙ h)
@@ -113,15 +113,15 @@ some_parts None = refl
 some_parts (Some e) = refl
 
 module _ (W : World) (S : StoreView) (plain : IsPlainStore W S) where
-  -- what the world holds the store does
+  -- The store has entities at the uids of the input store.
   pub held_alike : (u : EntityUID) → finmap.contains_key S.held u ≡ finmap.contains_key W.entities u
   held_alike u = sym (some_parts (finmap.get S.held u)) ∙ ap is_some (plain.holds u)
 
-  -- what reaches anything is held
+  -- A uid that reaches another has an entity.
   reaches_held : (u b : EntityUID) → Reach (graph W) u b → finmap.contains_key S.held u ≡ true
   reaches_held u b r = held_alike u ∙ first_key W u b r.0 r.1
 
-  -- what goes together with u: it lies between
+  -- An ancestor that an edit of u makes stale: u is between the entity and this ancestor.
   pub goes_between : (q : EntityUID) (e : EntityView) → finmap.get S.held q ≡ Some e → (w u : EntityUID)
       → Reach (graph W) q u → (u ≡ w) ⊎ Reach (graph W) u w → finmap.contains_key S.held u ≡ true
       → goes_with S.held e w u ≡ true
@@ -132,23 +132,23 @@ module _ (W : World) (S : StoreView) (plain : IsPlainStore W S) where
         | inr t ↦ or_right (same_uid u w) (ancestry S.held u w) ((ancestry_plain W S plain u w).1 t)
       ])
 
-  -- what is reached over ancestors is one
+  -- A uid reached over ancestors is an ancestor.
   closed : (a b : EntityUID) → Reach (ancestry S.held) a b → ancestry S.held a b ≡ true
   closed a b r = (ancestry_plain W S plain a b).1
       (reach_over_reach (graph W) (ancestry S.held) (λ c d h. (ancestry_plain W S plain c d).0 h) a b r)
 
--- an edit of the plain store of a world, from which only what is held goes
+-- An edit of a plain store that removes only entities of the store.
 module _ {W : World} {S : StoreView} (plain : IsPlainStore W S) {M : Held} {gone : EntityUID → Bool}
     {put : EntityUID → Option EntityView} {A : List EntityUID} (x : IsEdit S.held M gone put A)
     (held : (q : EntityUID) → gone q ≡ true → finmap.contains_key S.held q ≡ true) where
-  -- outside the uids a parent that does not go is one still
+  -- At other uids a parent that is not removed remains.
   pub parent_on : (a b : EntityUID) → is_member same_uid A a ≡ false → gone b ≡ false → graph W a b ≡ true
       → is_parent_in (option_map parts_of (finmap.get M a)) b ≡ true
   parent_on a b out off h =
       ap (λ o. is_parent_in (option_map parts_of o) b) (made_outside x a out)
       ∙ parent_remains S.held gone A (finmap.get S.held a) b off (ap (λ o. is_parent_in o b) (plain.holds a) ∙ h)
 
-  -- where H has such parents, an ancestor that stays is reached over it: no uid lies between
+  -- An ancestor that is not stale is still reached, because no edited uid is between.
   stays_reached : (H : EntityUID → EntityUID → Bool)
       → ((a b : EntityUID) → is_member same_uid A a ≡ false → gone b ≡ false → graph W a b ≡ true → H a b ≡ true)
       → (a b : EntityUID) (e : EntityView) → finmap.get S.held a ≡ Some e → is_member same_uid A a ≡ false
@@ -166,7 +166,7 @@ module _ {W : World} {S : StoreView} (plain : IsPlainStore W S) {M : Held} {gone
       (λ u r s. false_from_ne_true (is_member same_uid A u)
       (λ m. takes u m (reaches_held W S plain u b s) r (inr s))) whole
 
-  -- and so is each ancestor outside the uids
+  -- The same for each ancestor at other uids.
   pub reached_on : (H : EntityUID → EntityUID → Bool)
       → ((a b : EntityUID) → is_member same_uid A a ≡ false → gone b ≡ false → graph W a b ≡ true → H a b ≡ true)
       → (a b : EntityUID) → is_member same_uid A a ≡ false → ancestry M a b ≡ true → Reach H a b
@@ -187,7 +187,7 @@ module _ {W : World} {S : StoreView} (plain : IsPlainStore W S) {M : Held} {gone
             stays_reached H on a b e is out p.0 (not-true (list_any (goes_with S.held e b) A) p.1)
       ]
 
-  -- what is not touched reaches no more than it did: its ancestors
+  -- An entity that is not affected reaches only its old ancestors.
   was_ancestor : (a b : EntityUID) → is_touched S.held A a ≡ false → Reach (ancestry M) a b
       → ancestry S.held a b ≡ true
   was_ancestor a b t r =
@@ -196,11 +196,11 @@ module _ {W : World} {S : StoreView} (plain : IsPlainStore W S) {M : Held} {gone
       (λ u k. false_from_ne_true (is_member same_uid A u) (λ m. both_ways (list_any (ancestry S.held a) A) p.1
       (any_member (ancestry S.held a) A u m (closed W S plain a u k)))) r)
 
-  -- so it has all that it reaches
+  -- So it has all ancestors that it reaches.
   pub trusted : IsTrusted (is_touched S.held A) (ancestry M)
   trusted a b t r = ap (λ o. is_ancestor_in o b) (edit_untouched x a t) ∙ was_ancestor a b t r
 
-  -- where nothing comes none reaches itself
+  -- If nothing is inserted, no uid reaches itself.
   pub no_loop : ((q : EntityUID) → put q ≡ None) → (v : EntityUID) → Reach (ancestry M) v v → ⊥
   no_loop none v p = plain.acyclic v (reach_over_reach (graph W) (ancestry M)
       (λ a b h. (ancestry_plain W S plain a b).0 (edge_was_all x none a b h)) v v p)
@@ -210,7 +210,7 @@ module _ {W : World} {S : StoreView} (plain : IsPlainStore W S) {M : Held} {gone
   no_cycle c v p true t = c trusted v t p
   no_cycle c v p false t = plain.acyclic v ((ancestry_plain W S plain v v).0 (was_ancestor v v t p))
 
-  -- so the repair of what is touched is the closure
+  -- So the repair of the affected entities is the closure.
   repaired : (N : Held) → IsRepairOf (is_touched S.held A) M N → IsAcyclicAt (is_touched S.held A) M
       → IsClosureOf M N
   repaired N r c = record {
@@ -219,8 +219,8 @@ module _ {W : World} {S : StoreView} (plain : IsPlainStore W S) {M : Held} {gone
     acyclic = λ v p. no_cycle c v p (is_touched S.held A v) refl;
   }
 
--- an edit of the plain store of W that leaves the parts of V: only what is held goes, and what comes is as it was
--- handed in
+-- An edit of the plain store of W that results in the parts of V. It removes only entities of the store, and inserts
+-- only input entities.
 pub record IsPlainEdit (W V : World) (S : StoreView) (M : Held) (gone : EntityUID → Bool)
     (put : EntityUID → Option EntityView) (A : List EntityUID) : Type 0 where
   pub plain : IsPlainStore W S
@@ -230,7 +230,7 @@ pub record IsPlainEdit (W V : World) (S : StoreView) (M : Held) (gone : EntityUI
   pub keyed : (q : EntityUID) → IfSome (put q) (λ e. e.uid ≡ q)
   pub holds : (q : EntityUID) → option_map parts_of (finmap.get M q) ≡ finmap.get V.entities q
 
--- what comes is bare
+-- An inserted entity has no indirect ancestors.
 comes_bare : (p o : Option EntityView) (g : Bool) → IfSome p IsBare → (is_some p || g) ≡ true
     → IfSome (option_or p (cond g None o)) IsBare
 comes_bare (Some e) o g h t = h
@@ -251,7 +251,7 @@ module _ {W V : World} {S : StoreView} {M : Held} {gone : EntityUID → Bool} {p
   apart q = holds_in IsApart q (bare_apart (put q) (x.bare q))
       (apart_remains S.held gone A (finmap.get S.held q) (x.plain.apart q))
 
-  -- each ancestor is reached in V
+  -- Each ancestor is reached in V.
   only : AddsOnlyReached (graph V) (ancestry M)
   only a b h = at (is_member same_uid A a) refl
     where
@@ -263,19 +263,19 @@ module _ {W V : World} {S : StoreView} {M : Held} {gone : EntityUID → Bool} {p
           (λ c d o off k. ap (λ p. is_parent_in p d) (sym (x.holds c))
           ∙ parent_on x.plain x.made x.there c d o off k) a b out h
 
-  -- the repair of what it leaves is the plain store of V
+  -- The repair results in the plain store of V.
   pub edit_plain : (N : StoreView) → N.partial ≡ V.partial → IsRepairOf (is_touched S.held A) M N.held
       → IsAcyclicAt (is_touched S.held A) M → IsPlainStore V N
   edit_plain N same r c =
       plain_from V M N same x.holds keys apart only (repaired x.plain x.made x.there N.held r c)
 
-  -- so where ancestors are computed that comes
+  -- If ancestors are computed, the result is the plain store of V.
   pub ended_plain : (row : Row) (N : StoreView) → N.partial ≡ V.partial
       → IsEnded row (is_touched S.held A) M N.held → OnTrue (computes row) (IsPlainStore V N)
   ended_plain row N same =
       ended_computed row (is_touched S.held A) M N.held (IsPlainStore V N) (edit_plain N same)
 
-  -- and a refusal there names a cycle of V
+  -- An error then names a cycle of V.
   pub names_cycle : (row : Row) (touched : EntityUID → Bool) (t : TcError EntityUID) → IsEndRefused row touched M t
       → OnTrue (computes row) (NamesCycle V t)
   names_cycle row touched t = refused_computed row touched M t (NamesCycle V t) (cycle_in V M x.holds only t)

@@ -1,4 +1,4 @@
--- How many entities the plain store of a world has.
+-- The number of entities of a plain store.
 use Rattle.std.specs.Prelude.{◌≡◌, Option, Some, None, map}
 use Rattle.std.proofs.Common.{ap, sym, refl, subst, ◌∙◌}
 use Rattle.std.proofs.lemmas.List.{length-map}
@@ -26,7 +26,7 @@ unfolding node_parts
 parts_at None = refl
 parts_at (Some n) = refl
 
--- a map that is seen as a plain store has as many entries as the world
+-- The map of a plain store has as many entries as the input store.
 pub plain_len : {S : Type 0} (m : HashMap EntityUID SharedEntity S) (W : World) (T : StoreView) → held_map m ≡ T.held
     → IsDistinct same_uid (keys m) → IsPlainStore W T → hash_map_len m ≡ finmap.len W.entities
 plain_len m W T is distinct plain =

@@ -1,4 +1,4 @@
--- When a store is the plain store of a world.
+-- Conditions for a plain store.
 use Rattle.std.specs.Prelude.{◌≡◌, ◌↔◌, Bool, true, false, cond, List, [], ◌∷◌, Option, Some, None, map, ⊤, ◌||◌, ◌&&◌}
 use Rattle.std.proofs.Common.{ap, sym, refl, subst, ◌∙◌}
 use Rattle.std.proofs.Math.Bool.{or-false}
@@ -73,12 +73,13 @@ pub parent_leads : (o : Option EntityView) (b : EntityUID) → is_parent_in (opt
 parent_leads None b h = h
 parent_leads (Some e) b h = ap (λ p. p || set.contains e.indirect b) h
 
--- the parents are among the ancestors
+-- The parents are ancestors.
 parents_lead : (W : World) (D : Held) → ((q : EntityUID)
     → option_map parts_of (finmap.get D q) ≡ finmap.get W.entities q) → KeepsEdges (graph W) (ancestry D)
 parents_lead W D holds a b h = parent_leads (finmap.get D a) b (ap (λ o. is_parent_in o b) (holds a) ∙ h)
 
--- D has the world's parts, all of its ancestors are truly reached, and the store closes D
+-- If D has the parts of the input store and only reached ancestors, and the store is the closure of D, the store is
+-- plain.
 pub plain_from : (W : World) (D : Held) (S : StoreView) → S.partial ≡ W.partial
     → ((q : EntityUID) → option_map parts_of (finmap.get D q) ≡ finmap.get W.entities q)
     → IsKeyed D
@@ -99,7 +100,7 @@ plain_from W D S partial holds keys apart only closed =
       acyclic = λ q r. closed.acyclic q ((G q q).1 r);
     }
 
--- a uid that reaches itself over ancestors that are truly reached reaches itself over the parents
+-- If a uid reaches itself over reached ancestors, it reaches itself over parents.
 pub cycle_in : (W : World) (D : Held) → ((q : EntityUID)
     → option_map parts_of (finmap.get D q) ≡ finmap.get W.entities q) → AddsOnlyReached (graph W) (ancestry D)
     → (t : TcError EntityUID) → IsClosureFault t (λ _ _ _. ⊥) (λ v. Reach (ancestry D) v v)
@@ -109,7 +110,7 @@ cycle_in W D holds only (tc.HasCycle x) h =
     (reach_between (graph W) (ancestry D) (parents_lead W D holds) only x.vertex x.vertex).0 h
 cycle_in W D holds only tc.Memory h = h
 
--- the store without entities
+-- The empty store.
 no_path : (xs : List EntityUID) (a b : EntityUID) → Path (graph empty_world) a xs b → ⊥
 no_path xs a b p =
     false≢true (sym (ap is_some (finmap.get-empty {X = Parts} uid_order a)) ∙ first_key empty_world a b xs p)
@@ -128,7 +129,7 @@ plain_empty =
       acyclic = λ q r. no_path r.0 q q r.1;
     }
 
--- adding
+-- Additions.
 pub found_parts : (L : List EntityView) (q : EntityUID)
     → first (map given_of L) q ≡ option_map parts_of (first_entity L q)
 found_parts L q =
@@ -150,7 +151,7 @@ module _ (P : EntityView → Type 0) where
   if_cond true e o h k = h refl
   if_cond false e o h k = k
 
--- what holds of all of a list holds of the first with a uid
+-- A property of all entities of a list is a property of the first with a uid.
 pub first_all : (P : EntityView → Type 0) (L : List EntityView) → AllByRecursion P L → (q : EntityUID)
     → IfSome (first_entity L q) P
 first_all P [] h q = tt
@@ -170,7 +171,7 @@ pub parents_alone : (e : EntityView) (b : EntityUID) → set.contains e.indirect
     → has_ancestor e b ≡ set.contains e.parents b
 parents_alone e b h = ap (λ x. set.contains e.parents b || x) h ∙ or-false (set.contains e.parents b)
 
--- the ancestors of an entity without indirect ones are its parents
+-- The ancestors of an entity without indirect ancestors are its parents.
 pub bare_leads : (o : Option EntityView) (b : EntityUID) → IfSome o IsBare
     → is_ancestor_in o b ≡ is_parent_in (option_map parts_of o) b
 bare_leads None b h = refl

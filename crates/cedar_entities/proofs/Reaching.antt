@@ -1,4 +1,4 @@
--- What is reached after some rows of a graph have changed.
+-- Reachability after some edges of a graph have changed.
 use Rattle.std.specs.Prelude.{◌≡◌, Bool, true, false, List, [], ◌∷◌}
 use Rattle.cedar_graph.specs.Graph.{Reach, Path}
 
@@ -10,7 +10,7 @@ module _ {K : Type 0} where
       let step = same a x out p.0 in
       (step, untouched_path G H A same x b (none x ([], step)) (λ u r. none u (x ∷ r.0, (step, r.1))) xs p.1)
 
-  -- where H has no further edges but at keys of A, one that reaches none of A over G reaches nothing new over H
+  -- If H has new edges only from keys of A, a key that reaches no key of A in G reaches nothing new in H.
   pub untouched : (G H : K → K → Bool) (A : K → Bool) → ((a b : K) → A a ≡ false → H a b ≡ true → G a b ≡ true)
       → (a b : K) → A a ≡ false → ((u : K) → Reach G a u → A u ≡ false) → Reach H a b → Reach G a b
   untouched G H A same a b out none r = (r.0, untouched_path G H A same a b out none r.0 r.1)
@@ -26,8 +26,8 @@ module _ {K : Type 0} where
         past_path G H A B same off x b inner end (λ u r s. none u (x ∷ r.0, (p.0, r.1)) s) xs p.1,
       )
 
-  -- where H keeps the edges but at keys of A, and those that lead to keys of B, which are of A, what is reached over
-  -- none of A, and is none of B, is reached over H
+  -- Suppose that H keeps all edges except those from keys of A and those to keys of B. Then a key outside B that is
+  -- reached over no key of A is reached in H.
   pub kept_past : (G H : K → K → Bool) (A B : K → Bool)
       → ((a b : K) → A a ≡ false → B b ≡ false → G a b ≡ true → H a b ≡ true)
       → ((a : K) → A a ≡ false → B a ≡ false) → (a b : K) → A a ≡ false → B b ≡ false

@@ -1,4 +1,4 @@
--- Removing, over any store and over the plain store of a world.
+-- Removals from any store and from the plain store of an input store.
 use Rattle.std.specs.Prelude.{◌≡◌, Bool, true, false, cond, not, ◌&&◌, ◌||◌, List, Option, Some, None}
 use Rattle.std.proofs.Common.{ap, sym, refl, ◌∙◌}
 use Rattle.std.proofs.lemmas.Bool.{and_parts, both_ways, false_from_ne_true}
@@ -33,7 +33,7 @@ use Rattle.cedar_entity_maps.specs.laws.AnyOf.{any_filter}
 use Rattle.cedar_entity_maps.specs.laws.PlainAncestors.{ancestry_plain}
 use Rattle.cedar_entities.proofs.Ending.{ended_made, never_refused}
 
--- the uids that leave, as a list
+-- The members of the list of removed uids.
 pub removed_members : (D : Held) (U : List EntityUID) (q : EntityUID)
     → is_member same_uid (removed_from D U) q ≡ leaves D U q
 removed_members D U q =
@@ -44,7 +44,7 @@ absorbed : (k x y : Bool) → (k && ((k && x) && y)) ≡ ((k && x) && y)
 absorbed true x y = refl
 absorbed false x y = refl
 
--- what goes with the uids of the list goes with those that leave
+-- The stale ancestors of the listed uids are the stale ancestors of the removed uids.
 remains_left : (D : Held) (U : List EntityUID)
     → remains D (leaves D U) U ≡ remains D (leaves D U) (removed_from D U)
 remains_left D U = λ i e. parted (leaves D U) (record e {
@@ -58,7 +58,7 @@ out_at : {X Y : Type 0} (f g : X → Y) (d : Bool) (o : Option X) → f ≡ g
 out_at f g true o is = refl
 out_at f g false o is = ap (λ h. option_map h o) is
 
--- it is an edit by which nothing comes
+-- A removal is an edit that inserts nothing.
 pub out_edit : (D : Held) (U : List EntityUID) → IsEdit D (taken_out D U) (leaves D U) (λ _. None) (removed_from D U)
 out_edit D U = record {
   applied = removed_members D U;
@@ -74,7 +74,7 @@ without_parts D gone A q true o = refl
 without_parts D gone A q false None = refl
 without_parts D gone A q false (Some e) = refl
 
--- a plain store is sound
+-- A plain store is sound.
 pub plain_sound : (W : World) (S : StoreView) → IsPlainStore W S → IsSound S.held
 plain_sound W S plain = (
   λ a b c h k. (ancestry_plain W S plain a c).1
@@ -82,7 +82,7 @@ plain_sound W S plain = (
   λ v. false_from_ne_true (ancestry S.held v v) (λ t. plain.acyclic v ((ancestry_plain W S plain v v).0 t)),
 )
 
--- what is sound is not refused
+-- A sound store passes the check.
 sound_passes : (D : Held) → IsSound D → (t : TcError EntityUID) → TellsUnsound D t → ⊥
 sound_passes D s (tc.MissingTcEdge x) h =
     both_ways (ancestry D x.child x.grandparent) h.2 (s.0 x.child x.parent x.grandparent h.0 h.1)
@@ -110,7 +110,7 @@ module _ (W : World) (S : StoreView) (U : List EntityUID) (plain : IsPlainStore 
   none_loops : (v : EntityUID) → Reach (ancestry (taken_out S.held U)) v v → ⊥
   none_loops = no_loop plain (out_edit S.held U) removing.there (λ _. refl)
 
-  -- the repair of what is left of the plain store is the plain store of the world that deleting leaves
+  -- The repair results in the plain store of the input store after the removal.
   left_plain : (N : StoreView) → N.partial ≡ S.partial
       → IsRepairOf (is_touched S.held (removed_from S.held U)) (taken_out S.held U) N.held
       → IsPlainStore (deleted W U) N

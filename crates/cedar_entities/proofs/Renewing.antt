@@ -1,5 +1,5 @@
--- A repair over a plain store of what has lost all its indirect ancestors: it ends as the repair of what has lost those
--- alone that an edit takes.
+-- A repair of a plain store whose affected entities have lost all indirect ancestors. It has the same result as a
+-- repair after removing only the stale ancestors.
 use Rattle.std.specs.Prelude.{◌≡◌, ◌⊎◌, Bool, true, false, cond, not, ◌&&◌, ◌||◌, List, Option, Some, None, Result, Ok}
 use Rattle.std.specs.Prelude.{Err, [], length}
 use Rattle.std.proofs.Common.{ap, sym, refl, subst, inl, inr, ◌∙◌}
@@ -50,14 +50,14 @@ use Rattle.cedar_entities.proofs.PlainEdits.{apart_remains, edit_untouched, made
 use Rattle.cedar_entities.proofs.PlainEdits.{reached_on, trusted}
 use Rattle.cedar_entities.proofs.PlainStores.{none_both, parent_leads, parents_alone, parts_alike}
 
--- N is M, but that what is touched, and is none of the uids A, may be without its indirect ancestors
+-- N is M, except that affected entities outside the uids A may have lost their indirect ancestors.
 pub record Forgets (touched : EntityUID → Bool) (A : List EntityUID) (M N : Held) : Type 0 where
   pub alone : (q : EntityUID) → touched q ≡ false → finmap.get N q ≡ finmap.get M q
   pub either : (q : EntityUID) → (finmap.get N q ≡ finmap.get M q)
       ⊎ ((is_member same_uid A q ≡ false) × (finmap.get N q ≡ option_map bared (finmap.get M q)))
 
--- where what is not touched has all that it reaches, and N reaches what M does, having no more edges, a repair of N is
--- one of M, as long as it finds no cycle
+-- A repair of N is a repair of M, provided that it finds no cycle. The other entities have all ancestors that they
+-- reach, and N reaches the same uids as M.
 module _ (touched : EntityUID → Bool) (M N : Held)
     (parts : (q : EntityUID) → option_map kept (finmap.get N q) ≡ option_map kept (finmap.get M q))
     (alone : (q : EntityUID) → touched q ≡ false → finmap.get N q ≡ finmap.get M q)
@@ -85,7 +85,7 @@ module _ (touched : EntityUID → Bool) (M N : Held)
   tells_of (tc.HasCycle x) h = (same x.vertex x.vertex).1 h
   tells_of tc.Memory h = h
 
-  -- a row that repairs computes, or there is no cycle to be found
+  -- The edit rules compute the closure, or there is no cycle.
   abbrev FindsNone : Row → Type 0
   FindsNone row = (computes row ≡ true) ⊎ HasNoCycleAt touched (ancestry N)
 
@@ -127,7 +127,7 @@ module _ (touched : EntityUID → Bool) (M N : Held)
     named = ends.named;
   }
 
-  -- so the repair of N ends as one of M
+  -- The finalization of N is a finalization of M.
   pub ends_of : {X : Type 0} (row : Row) (E : Held) (r : Result X EntitiesError) → row.repairs ≡ true → FindsNone row
       → Ends row touched N E r → Ends row touched M E r
   ends_of row E r is why ends =
@@ -135,7 +135,7 @@ module _ (touched : EntityUID → Bool) (M N : Held)
       subst (λ f. Ends f touched M E r) whole
       (ends_mended row E r (subst FindsNone (sym whole) why) (subst (λ f. Ends f touched N E r) (sym whole) ends))
 
--- an entity without its indirect ancestors
+-- An entity without its indirect ancestors.
 bared_leads : (o : Option EntityView) (b : EntityUID) → is_ancestor_in (option_map bared o) b ≡ true
     → is_ancestor_in o b ≡ true
 bared_leads None b h = h
@@ -183,12 +183,12 @@ module _ {W : World} {S : StoreView} (plain : IsPlainStore W S) {M N : Held} {go
     | inr p ↦ bared_leads (finmap.get M a) b (sym (ap (λ o. is_ancestor_in o b) p.1) ∙ h)
   ]
 
-  -- what is not touched has all that it reaches
+  -- Entities that are not affected have all ancestors that they reach.
   trusted_on : IsTrusted (is_touched S.held A) (ancestry N)
   trusted_on a b t r = ap (λ o. is_ancestor_in o b) (f.alone a t)
       ∙ trusted plain x held a b t (reach_stays (ancestry N) (ancestry M) fewer_on a b r)
 
-  -- an edit of a plain store ends as a repair of that does, where it computes or nothing comes
+  -- An edit of a plain store is finalized as its repair is, if ancestors are computed or nothing is inserted.
   pub renewed : {X : Type 0} (row : Row) (E : Held) (r : Result X EntitiesError) → row.repairs ≡ true
       → (computes row ≡ true) ⊎ ((q : EntityUID) → put q ≡ None) → Ends row (is_touched S.held A) N E r
       → Ends row (is_touched S.held A) M E r
@@ -220,7 +220,7 @@ module _ {T : Type 0} (m n : HashMap EntityUID SharedEntity T) (gone : UidValues
   others q out = seen_written m n gone L R is q ∙ at_others D gone L K R all who q (alike q ∙ out)
       (option_map (left_by gone R q) (finmap.get D q))
 
-  -- what loses nothing is as the edit leaves it
+  -- An entity that loses nothing is as after the edit.
   quiet : (q : EntityUID) → is_member same_uid A q ≡ false → loses R q ≡ false
       → finmap.get (held_map n) q ≡ finmap.get M q
   quiet q out t =
@@ -236,7 +236,7 @@ module _ {T : Type 0} (m n : HashMap EntityUID SharedEntity T) (gone : UidValues
     indirect = sym (all_retained e.indirect (loses_uid R q) (λ w. loses_whole R whole q w ∙ t)) i;
   })
 
-  -- what is written where all goes
+  -- The map after all indirect ancestors were removed.
   pub written_forgets : Forgets (is_touched D A) A M (held_map n)
   written_forgets = record {
     alone = λ q t. let p = or_parts (is_member same_uid A q) (list_any (ancestry D q) A) t in
@@ -260,7 +260,7 @@ module _ {T : Type 0} (m n : HashMap EntityUID SharedEntity T) (gone : UidValues
 none_last : (L : List EntityView) → L ≡ [] → (q : EntityUID) → last_entity L q ≡ None
 none_last L none q = ap (λ l. last_entity l q) none
 
--- so an edit ends as what its steps leave does, whether they take what the edit takes or all
+-- An edit is finalized as its steps are, whether they remove only stale ancestors or all.
 pub edit_ends : {T X : Type 0} (anew : Bool) (m n : HashMap EntityUID SharedEntity T) (gone : UidValues)
     (L : List EntityView) (M : Held) (A K : List EntityUID) (R : List Loss) (row : Row) (E : Held)
     (r : Result X EntitiesError) (f : EntityUID → Bool)
@@ -284,7 +284,7 @@ edit_ends true m n gone L M A K R row E r f plain repairs acyclic there x all wh
     (elim (acyclic refl) [ inl t ↦ inl t | inr none ↦ inr (none_last L (nil_from_length L none)) ])
     (subst (λ g. Ends row g (held_map n) E r) same ends)
 
--- what a test has of a map stripped of all
+-- The map after all indirect ancestors were removed, by a test.
 forgets_by : (touched within : EntityUID → Bool) (A : List EntityUID) (M N : Held)
     → ((q : EntityUID) → within q ≡ is_member same_uid A q)
     → ((q : EntityUID) → finmap.get N q
@@ -302,7 +302,7 @@ forgets_by touched within A M N same is = record {
       is q ∙ ap (λ b. cond b (option_map bared (finmap.get M q)) (finmap.get M q)) s,
     )
 
--- what a map has after it forgot, of what is held
+-- The entity map after all indirect ancestors were removed.
 seen_forgot : {T : Type 0} (n o : HashMap EntityUID SharedEntity T) (b : EntityUID → Bool)
     → ((q : EntityUID) → held o q ≡ cond (b q) (option_map bared (held n q)) (held n q)) → (q : EntityUID)
     → finmap.get (held_map o) q

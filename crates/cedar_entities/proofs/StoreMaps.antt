@@ -1,4 +1,4 @@
--- The hashed map of a store, and the finite map that callers see.
+-- The hash map of a store, and the finite map in contracts.
 use Rattle.std.specs.Prelude.{◌≡◌, ◌+◌, true, false, cond, List, [], ◌∷◌, Option, Some, None, map, length}
 use Rattle.std.proofs.Common.{arith, ap, sym, refl, subst, ◌∙◌}
 use Rattle.std.proofs.lemmas.List.{length-map}
@@ -29,7 +29,7 @@ seen_empty m e =
 pub seen_keyed : {S : Type 0} (m : HashMap EntityUID SharedEntity S) → UidsMatch m → IsKeyed (held_map m)
 seen_keyed m h q = subst (λ o. IfSome o (λ e. e.uid ≡ q)) (sym (get_seen m q)) (key_at q (get same_uid m q) (h q))
 
--- what is held, or else the first of the list
+-- After an addition, a uid has its old entity or, if there is none, the first entity of the list.
 pub get_with_first : (D : Held) (L : List EntityView) (q : EntityUID)
     → finmap.get (with_first D L) q ≡ option_or (finmap.get D q) (first_entity L q)
 get_with_first D L q = get_joined (finmap.entries D) (map keyed L) q
@@ -42,7 +42,7 @@ absent_key k (e ∷ es) h =
     ap (λ f. cond (f k e.0) (Some e.1) (finmap.find uid_order k es)) same_tests
     ∙ ap (λ b. cond b (Some e.1) (finmap.find uid_order k es)) h.0 ∙ absent_key k es h.1
 
--- a finite map made of entries with distinct keys has as many
+-- A finite map from entries with distinct keys has as many entries.
 pub len_listed : {X : Type 0} (es : List (EntityUID × X)) → IsDistinct same_uid (keys_of es)
     → finmap.len (finmap.from_entries {R = uid_order} es) ≡ length es
 unfolding IsDistinct
@@ -56,7 +56,7 @@ len_listed (e ∷ es) h =
     ∙ ap (λ b. cond b (finmap.len (finmap.from_entries {R = uid_order} es))
     (finmap.len (finmap.from_entries {R = uid_order} es) + 1)) out ∙ more
 
--- the finite map that is seen has as many entries as the map
+-- The finite map has as many entries as the map.
 pub len_seen : {S : Type 0} (m : HashMap EntityUID SharedEntity S) → IsDistinct same_uid (keys m)
     → hash_map_len m ≡ finmap.len (held_map m)
 len_seen m distinct =

@@ -1,4 +1,4 @@
--- When two stores have the same uids and mode.
+-- Stores with the same uids.
 use Rattle.std.specs.Prelude.{◌≡◌, ◌↔◌, Bool, true, is_some}
 use Rattle.std.proofs.Common.{ap, sym, refl, ◌∙◌}
 use Rattle.std.proofs.lemmas.Bool.{and_from, and_parts}
@@ -49,7 +49,7 @@ same_uids_told S T = (
       (λ q. contains_uid S.held q ∙ k.uids q ∙ sym (contains_uid T.held q))))),
 )
 
--- the answer of a call that tells it
+-- The result of a call that compares the uids of two stores.
 pub answers_same : (r : Bool) (S T : StoreView) → (r ≡ true) ↔ HaveSameUids S T → r ≡ same_uids_and_mode S T
 answers_same r S T h = same_bool r (same_uids_and_mode S T) h (same_uids_told S T)
 

@@ -1,4 +1,4 @@
--- What is held after one more entity.
+-- The entity map after one more entity.
 use Rattle.std.specs.Prelude.{◌≡◌, Bool, true, false, cond, List, [], ◌∷◌, ◌++◌, Option, Some, None, map}
 use Rattle.std.proofs.Common.{ap, sym, refl, subst, ◌∙◌}
 use Rattle.std.specs.Option.{option_or, option_map, unwrap_or, IfSome}
@@ -51,7 +51,7 @@ pub map_cond : {X Y : Type 0} (g : X → Y) (b : Bool) (x : X) (o : Option X)
 map_cond g true x o = refl
 map_cond g false x o = refl
 
--- put_new
+-- ---- put_new
 pub put : {S : Type 0} (m n : HashMap EntityUID SharedEntity S) (k : EntityUID) (v : SharedEntity) (x : EntityView)
     → k ≡ x.uid → shared v ≡ x → get same_uid m k ≡ None
     → ((q : EntityUID) → get same_uid n q ≡ cond (same_uid k q) (Some v) (get same_uid m q)) → (q : EntityUID)
@@ -76,7 +76,7 @@ put_keys m n k v key step h q =
     subst (λ o. IfSome o (λ w. same_uid q (shared w).uid ≡ true)) (sym (step q))
     (put_key m k v q (same_uid k q) refl key h)
 
--- put_all
+-- ---- put_all
 or_assoc : {X : Type 0} (a b c : Option X) → option_or (option_or a b) c ≡ option_or a (option_or b c)
 or_assoc None b c = refl
 or_assoc (Some x) b c = refl
@@ -99,7 +99,7 @@ unwrapped : (o : Option EntityView) (e : EntityView) → unwrap_or (option_or o 
 unwrapped None e = refl
 unwrapped (Some x) e = refl
 
--- the present version is what the map holds by now, or else the entity itself
+-- The existing entity is the one in the map by now, or the entity itself.
 pub present_now : (f : Fn) (done : List EntityView) (e : EntityView) (rest items : List EntityView)
     → items ≡ done ++ e ∷ rest → present f items e ≡ unwrap_or (option_or (f e.uid) (first_entity done e.uid)) e
 present_now f done e rest items is =
@@ -155,7 +155,7 @@ weaker_refusal f now done e rest items is so agree r h =
       uid = sym k.0;
     }) (λ t n. absurd n) tt r h
 
--- overwrite
+-- ---- overwrite
 pub put_over : {S : Type 0} (m n : HashMap EntityUID SharedEntity S) (k : EntityUID) (v : SharedEntity) (x : EntityView)
     → k ≡ x.uid → shared v ≡ x
     → ((q : EntityUID) → get same_uid n q ≡ cond (same_uid k q) (Some v) (get same_uid m q)) → (q : EntityUID)

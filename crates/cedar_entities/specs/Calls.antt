@@ -1,4 +1,4 @@
--- A list of calls on a store, as steps from world to world.
+-- A sequence of calls on a store, and its effect on the input store.
 use Rattle.std.specs.Prelude.{◌≡◌, ℕ, List, [], ◌∷◌, ◌++◌, length, true}
 use Rattle.cedar_ids.specs.declared.entity.EntityUID.{EntityUID}
 use Rattle.cedar_entity_maps.specs.Refusals.{IsAddingRefused, IsOverwritingRefused}
@@ -6,7 +6,8 @@ use Rattle.cedar_entity_maps.specs.World.{World, Given, empty_world, added, over
 use Rattle.cedar_entity.specs.declared.err.EntitiesError.{EntitiesError}
 use Rattle.cedar_entity.specs.declared.err.EntitiesError.TheVariants.{Memory}
 
--- a store of a list; a list added; a list put over what is there; uids taken out; the flag raised
+-- A call: creating a store from a list, adding a list, overwriting with a list, removing uids, or making the store
+-- partial.
 pub data Call : Type 0 where
   From : List Given → Call
   Add : List Given → Call
@@ -14,7 +15,7 @@ pub data Call : Type 0 where
   Remove : List EntityUID → Call
   Partial : Call
 
--- the world that a call makes of W
+-- The input store after a call.
 abbrev pub made : World → Call → World
 made W (From L) = added empty_world L
 made W (Add L) = added W L
@@ -22,13 +23,14 @@ made W (Upsert L) = overwritten W L
 made W (Remove U) = deleted W U
 made W Partial = record W { partial = true }
 
--- the world that a list of calls makes of W, one after another
+-- The input store after a sequence of calls.
 abbrev pub all_made : World → List Call → World
 all_made W [] = W
 all_made W (c ∷ cs) = all_made (made W c) cs
 
--- nothing refuses the call: what is added agrees, and what is made has no cycle. A removal, which makes none,
--- and the flag are never refused
+-- Holds if the call succeeds, unless an allocation fails. The added entities must agree with the existing ones, and
+-- there must be no cycle afterwards. A removal creates no cycle, so it always succeeds, and so does making the store
+-- partial.
 abbrev pub Passes : World → Call → Type 0
 Passes W (From L) = AllAgree empty_world L × (IsCyclic (added empty_world L) → ⊥)
 Passes W (Add L) = AllAgree W L × (IsCyclic (added W L) → ⊥)
@@ -36,13 +38,13 @@ Passes W (Upsert L) = IsCyclic (overwritten W L) → ⊥
 Passes W (Remove U) = Unit {0}
 Passes W Partial = Unit {0}
 
--- nothing refuses any of the list
+-- Holds if all calls of the sequence succeed one after another.
 abbrev pub AllPass : World → List Call → Type 0
 AllPass W [] = Unit {0}
 AllPass W (c ∷ cs) = Passes W c × AllPass (made W c) cs
 
--- the call is refused as e. Of want of memory nothing is said, but that it alone refuses a removal, and that it
--- never refuses the flag
+-- Holds if e is a possible error of the call. An allocation failure is possible in every call except making the store
+-- partial. It is the only error of a removal.
 abbrev pub IsRefusedAs : World → Call → EntitiesError → Type 0
 IsRefusedAs W (From L) e = IsAddingRefused empty_world L e
 IsRefusedAs W (Add L) e = IsAddingRefused W L e
@@ -50,7 +52,8 @@ IsRefusedAs W (Upsert L) e = IsOverwritingRefused W L e
 IsRefusedAs W (Remove U) e = e ≡ Memory
 IsRefusedAs W Partial e = ⊥
 
--- the first n calls pass, there is a call behind them, and over the world that they make it is refused as e
+-- Holds if the first n calls succeed, and e is a possible error of the next call, on the input store after the first n
+-- calls.
 pub record StopsAt (cs : List Call) (n : ℕ) (e : EntitiesError) : Type 0 where
   pub before : List Call
   pub at : Call

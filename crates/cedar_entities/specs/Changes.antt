@@ -1,5 +1,6 @@
--- What adding, putting over and taking out do to a store and answer: in each mode, and over the plain store of a world.
-use Rattle.std.specs.Prelude.{◌≡◌, ℕ, List, take, Result, OnOk, IfOk, IfErr}
+-- The effect of additions, overwritings and removals on a store, and their errors. The definitions cover every mode,
+-- for any store and for the plain store of an input store.
+use Rattle.std.specs.Prelude.{◌≡◌, List, Result, OnOk, IfOk, IfErr}
 use Rattle.std.specs.Bool.{OnTrue}
 use Rattle.std.specs.FinMap as finmap
 use Rattle.cedar_ids.specs.declared.entity.EntityUID.{EntityUID}
@@ -12,14 +13,19 @@ use Rattle.cedar_entity_maps.specs.Plain.{StoreView, Held, IsPlainStore}
 use Rattle.cedar_entities.specs.Present.{with_first, AllMatch, FirstMismatch}
 use Rattle.cedar_entity_maps.specs.Refusals.{MatchRefusal, NamesOneOf, IsAddingRefused, IsOverwritingRefused}
 use Rattle.cedar_entity_maps.specs.Touching.{inserted_in, is_touched, removed_from, IsEnded, IsEndRefused, IsSettled}
-use Rattle.cedar_entity_maps.specs.Touching.{IsSettleRefused, LosesBetween, StaysUntouched, StripsBetween, WhereTaken}
+use Rattle.cedar_entity_maps.specs.Touching.{IsSettleRefused, LosesBetween, StaysUntouched, WhereTaken}
 use Rattle.cedar_entity_maps.specs.World.{World, Given, added, overwritten, deleted, AllAgree}
 use Rattle.cedar_entity_maps.specs.declared.modes.TCComputation.{TCComputation}
 use Rattle.cedar_entity_maps.specs.declared.modes.Row.{Row}
 
--- the list is added to what D holds: each of it matches, and what is then held is D and the first of the list with
--- each uid that D lacks. Refused for the first that does not match, else for the closure; where that is computed, for a
--- cycle at what is touched
+-- The effect of adding a list L to a store with the entity map D, and its errors.
+--
+-- - `agree`: if it succeeds, each entity of L is deeply equal to the existing one with its uid (see `AllMatch`).
+-- - `ok`: the new map is D with the first entity of L for each new uid, finalized by the mode.
+-- - `untouched`: entities that are not affected do not change.
+-- - `err`: the error is `Memory`, a duplicate with the uid of the first entity that differs, or an error of the
+--   finalization. The last is possible only if all entities agree.
+-- - `named`: if the mode computes the closure, a cycle names an affected uid.
 pub record AddsEntities {A : Type 0} (mode : TCComputation) (D : Held) (L : List EntityView)
     (answer : Result A EntitiesError) (held_of : A → Held) : Type 0 where
   pub agree : OnOk answer (AllMatch (finmap.get D) L)
@@ -29,16 +35,24 @@ pub record AddsEntities {A : Type 0} (mode : TCComputation) (D : Held) (L : List
       (λ t. AllMatch (finmap.get D) L × IsSettleRefused mode (is_touched D (inserted_in D L)) (with_first D L) t))
   pub named : IfErr answer (λ e. WhereComputed mode (NamesOneOf (is_touched D (inserted_in D L)) e))
 
--- to the plain store of W, a list of entities as they were handed in is added: each agrees with W and, where the
--- closure is computed, what comes is the plain store of what adding makes of W, and a refusal is that of W
+-- The effect of adding a list of input entities to the plain store of W.
+--
+-- - `agree`: if it succeeds, each entity of the list agrees with W (see `AllAgree`).
+-- - `ok`: if the mode computes the closure, the new store is the plain store of `added W L`.
+-- - `err`: if the mode computes the closure, the error is a possible error of adding L to W.
 pub record AddsPlain (mode : TCComputation) (W : World) (L : List Given) (answer : Result StoreView EntitiesError)
     : Type 0 where
   pub agree : OnOk answer (AllAgree W L)
   pub ok : IfOk answer (λ s. WhereComputed mode (IsPlainStore (added W L) s))
   pub err : IfErr answer (λ e. WhereComputed mode (IsAddingRefused W L e))
 
--- some uids are applied to D, which makes M of it, and that ends by a row. Refused for the closure alone; where that is
--- computed, for a cycle at what is touched
+-- The effect of an edit of the uids `applied` on a store with the entity map D, and its errors. M is the map after the
+-- edit and before its finalization by edit rules.
+--
+-- - `ok`: the new map is M, finalized by the edit rules.
+-- - `untouched`: entities that are not affected do not change.
+-- - `err`: the error is `Memory` or an error of the finalization.
+-- - `named`: if the edit rules compute the closure, a cycle names an affected uid.
 pub record EditsStore (row : Row) (applied : List EntityUID) (D M : Held) (answer : Result StoreView EntitiesError)
     : Type 0 where
   pub ok : IfOk answer (λ s. IsEnded row (is_touched D applied) M s.held)
@@ -46,32 +60,32 @@ pub record EditsStore (row : Row) (applied : List EntityUID) (D M : Held) (answe
   pub err : IfErr answer (λ e. MatchRefusal e (λ _. ⊥) (IsEndRefused row (is_touched D applied) M))
   pub named : IfErr answer (λ e. OnTrue (computes row) (NamesOneOf (is_touched D applied) e))
 
--- the list is put over what D holds: what is then held is the last of the list with each uid, and the others of D,
--- lessened. What is touched is repaired where the mode says so
+-- The effect of overwriting the entity map D with a list L. The new map has the last entity of L with each uid, and the
+-- other entities of D without their stale ancestors. It is then finalized by the edit rules of the mode.
 abbrev pub UpsertsEntities : TCComputation → Held → List EntityView → Result StoreView EntitiesError → Type 0
 UpsertsEntities mode D L answer = EditsStore (row_of mode) (uids_of L) D (put_over D L) answer
 
--- over the plain store of W, what the uids of a list strip from D is what has one of them between: of the first of the
--- list, however many, before any repair; and of all of it, where nothing is computed
-pub record StripsPlain (mode : TCComputation) (W : World) (D : Held) (uids : List EntityUID)
-    (answer : Result StoreView EntitiesError) : Type 0 where
-  pub so_far : OnOk answer ((k : ℕ) → StripsBetween W (take k uids) D)
-  pub between : IfOk answer (λ s. WhereTaken mode (LosesBetween W uids D s.held))
+-- The effect of overwriting the plain store of W in a mode that does not repair. Each entity that is not overwritten
+-- loses exactly its stale indirect ancestors: uids of the list that have an entity in W, and uids that it reaches over
+-- such a uid.
+abbrev pub StripsPlain : TCComputation → World → Held → List EntityUID → Result StoreView EntitiesError → Type 0
+StripsPlain mode W D uids answer = IfOk answer (λ s. WhereTaken mode (LosesBetween W uids D s.held))
 
--- over the plain store of W, a list of entities as they were handed in is put: where the closure is computed, what
--- comes is the plain store of what overwriting makes of W, and a refusal is that of W
+-- The effect of overwriting the plain store of W with a list of input entities. If the mode computes the closure, the
+-- new store is the plain store of `overwritten W L`. An error is then a possible error of overwriting W.
 pub record UpsertsPlain (mode : TCComputation) (W : World) (L : List Given) (answer : Result StoreView EntitiesError)
     : Type 0 where
   pub ok : IfOk answer (λ s. WhereComputed mode (IsPlainStore (overwritten W L) s))
   pub err : IfErr answer (λ e. WhereComputed mode (IsOverwritingRefused W L e))
 
--- the uids that D holds are taken out, as keys and as parents. What is touched is repaired in each mode
+-- The effect of removing uids from the entity map D. The uids that are in D are removed, also as parents, and the other
+-- entities lose their stale ancestors. The affected entities are repaired in every mode.
 abbrev pub RemovesEntities : TCComputation → Held → List EntityUID → Result StoreView EntitiesError → Type 0
 RemovesEntities mode D uids answer =
     EditsStore (mending (row_of mode)) (removed_from D uids) D (taken_out D uids) answer
 
--- from the plain store of W, uids are taken out as W says: what comes is the plain store of what deletion leaves of W,
--- and only want of memory refuses it
+-- The effect of removing uids from the plain store of W, in every mode. The new store is the plain store of `deleted W
+-- uids`. The only error is an allocation failure.
 pub record RemovesPlain (W : World) (uids : List EntityUID) (answer : Result StoreView EntitiesError) : Type 0 where
   pub ok : IfOk answer (λ s. IsPlainStore (deleted W uids) s)
   pub err : IfErr answer (λ e. e ≡ Memory)

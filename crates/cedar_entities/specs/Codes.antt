@@ -1,4 +1,4 @@
--- How a proof tells stores apart.
+-- The code by which a proof distinguishes stores.
 use Rattle.std.specs.Prelude.{Bool}
 use Rattle.std.proofs.Common.{refl}
 use Rattle.std.specs.Coded.{Coded, code_by, coded×, coded_bool}
@@ -7,7 +7,7 @@ use Rattle.cedar_ids.specs.Codes.{uid_code}
 use Rattle.cedar_entity.specs.Codes.{view_code}
 use Rattle.cedar_entity_maps.specs.Plain.{StoreView, Held}
 
--- a store: what it holds, and whether it is partial
+-- The code of a store: its entity map, and whether it is partial.
 abbrev pub store_code : Coded StoreView
 store_code = code_by (Held × Bool) (coded× (finmap.code uid_code view_code) coded_bool) (λ s. (s.held, s.partial))
     (λ p. record { held = p.0; partial = p.1 }) (λ _. refl)

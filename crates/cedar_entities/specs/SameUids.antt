@@ -1,4 +1,4 @@
--- When two stores have the same uids and mode.
+-- Stores with the same uids.
 use Rattle.std.specs.Prelude.{◌≡◌, Bool, List}
 use Rattle.std.proofs.Math.Bool.{beq}
 use Rattle.std.specs.Cmp.Lexicographic.{pointwise}
@@ -10,23 +10,23 @@ use Rattle.cedar_ids.specs.declared.entity.EntityUID.{EntityUID}
 use Rattle.cedar_entity_maps.specs.Plain.{StoreView, Held}
 use Rattle.cedar_uid_sets.specs.UidSets.{UidValues}
 
--- the uids under which there are entities
+-- The uids of an entity map.
 abbrev pub uids_held : Held → UidValues
 uids_held D = set.from_list (finmap.keys D)
 
--- the uids under which a store has entities, in their order
+-- The uids of the entities of a store, in ascending order.
 abbrev pub uids_in : StoreView → List EntityUID
 uids_in s = set.items (uids_held s.held)
 
--- whether a store is partial
+-- Whether a store is partial.
 abbrev pub mode_of : StoreView → Bool
 mode_of s = s.partial
 
--- whether both stores have the same uids and mode
+-- Whether two stores have the same uids, and both are partial or neither is.
 abbrev pub same_uids_and_mode : StoreView → StoreView → Bool
 same_uids_and_mode = eq_of_both (on mode_of beq) (on uids_in (pointwise same_uid))
 
--- both are partial or neither is, and both have entities under the same uids
+-- Holds if two stores have entities at the same uids, and both are partial or neither is.
 pub record HaveSameUids (S T : StoreView) : Type 0 where
   pub mode : S.partial ≡ T.partial
   pub uids : (q : EntityUID) → finmap.contains_key S.held q ≡ finmap.contains_key T.held q

@@ -1,4 +1,4 @@
--- When the entities of a store are valid, and which fault is answered where they are not.
+-- The validity of the entities of a store, and the error for an invalid store.
 use Rattle.std.specs.Prelude.{◌≡◌, ⊤, Some}
 use Rattle.std.specs.Option.{IfSome}
 use Rattle.std.specs.FinMap as finmap
@@ -13,33 +13,33 @@ use Rattle.cedar_entity.specs.View.{EntityView}
 use Rattle.cedar_entity.specs.declared.err.EntitiesError.{EntitiesError}
 use Rattle.cedar_entity.specs.declared.err.EntitiesError.TheVariants as errors
 
--- each entity is valid
+-- Holds if each entity is valid.
 abbrev pub AreAllValid : Held → Type 0
 AreAllValid D = (q : EntityUID) → IfSome (finmap.get D q) IsValid
 
--- e is held and not valid, and each entity whose uid stands before is valid
+-- Holds if e is an invalid entity of D, and each entity with a lesser uid is valid.
 pub record IsFirstFaulty (D : Held) (e : EntityView) : Type 0 where
   pub held : finmap.get D e.uid ≡ Some e
   pub faulty : IsValid e → ⊥
   pub before : (q : EntityUID) → uid_order q e.uid ≡ Less → IfSome (finmap.get D q) IsValid
 
--- the error tells what is wrong with the first that is not valid
+-- Holds if r is a fault of the invalid entity with the least uid.
 pub record IsFirstFault (D : Held) (r : EntitiesError) : Type 0 where
   pub at : EntityView
   pub first : IsFirstFaulty D at
   pub fault : IsFault at r
 
--- C of what the closure refused, and F of any other refusal; nothing is said of memory
+-- Holds if the error of the closure satisfies C, or any other error satisfies F. `Memory` satisfies it always.
 abbrev pub MatchStoreFault : EntitiesError → (TcError EntityUID → Type 0) → (EntitiesError → Type 0) → Type 0
 MatchStoreFault (errors.TransitiveClosureError t) C F = C t
 MatchStoreFault errors.Memory C F = ⊤
 MatchStoreFault e C F = F e
 
--- the graph of the ancestors is closed and without loop, and each entity is valid
+-- Holds if the store is valid: the ancestors are closed, no entity is its own ancestor, and each entity is valid.
 abbrev pub IsValidStore : Held → Type 0
 IsValidStore D = IsSound D × AreAllValid D
 
--- the error tells what is wrong with the store: with the graph or, only where nothing is wrong there, with the
--- entity that has the least uid of those that are not valid
+-- Holds if r is an error of an invalid store. It is a fault of the ancestors or, only if they have none, a fault of the
+-- invalid entity with the least uid.
 abbrev pub IsStoreFault : Held → EntitiesError → Type 0
 IsStoreFault D r = MatchStoreFault r (TellsUnsound D) (λ f. IsSound D × IsFirstFault D f)

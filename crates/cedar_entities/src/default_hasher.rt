@@ -1,4 +1,4 @@
-//! The constructors of stores that hash by the default builder of hashers.
+//! Constructors of stores with the default hasher builder.
 ghost use Rattle.std.specs.Prelude.{◌≡◌, false, map, IfOk};
 ghost use Rattle.std.specs.FinMap as finmap;
 ghost use Rattle.cedar_entities.specs.Changes.{AddsEntities, AddsPlain};
@@ -13,7 +13,7 @@ use std::alloc::Global;
 use std::hash::BuildHasherDefault;
 
 impl Entities {
-    /// The store without entities, not partial. It takes no memory.
+    /// Creates a store without entities, not partial. Does not allocate.
     pub fn new(alloc: Global) -> Entities
         ensures value { result ≡ record { held = finmap.empty; partial = false } }
         ensures plain { IsPlainStore empty_world result }
@@ -21,9 +21,11 @@ impl Entities {
         Entities::with_hasher(alloc, BuildHasherDefault::new())
     }
 
-    /// A store of these entities, not partial: what adding them to the store without entities gives.
+    /// Creates a store with these entities, not partial. The result is the same as adding them to an empty store.
     ///
-    /// Refused as [`Entities::add_entities`] is. It takes memory.
+    /// # Errors
+    ///
+    /// The errors of [`Entities::add_entities`].
     pub fn from_entities(
         alloc: Global,
         list: Vec<Entity>,

@@ -1,4 +1,4 @@
-//! The answer of a look-up.
+//! The result of a lookup of an entity.
 ghost use Rattle.std.specs.Prelude.{◌≡◌, IfOk};
 ghost use Rattle.cedar_entities.specs.Answers.{HasData, IsUnknownOf, WithData};
 
@@ -6,7 +6,7 @@ use cedar_ids::entity::EntityUID;
 use cedar_terms::{Expr, StaticallyTyped, Unknown};
 use std::alloc::{AllocError, Global};
 
-// The unknown that stands for the entity with a uid.
+// Creates the unknown for the entity with a uid.
 pub(crate) fn unknown_of(alloc: Global, uid: &EntityUID) -> Result<Expr, AllocError>
     ensures { IfOk result (IsUnknownOf uid.now) }
 {
@@ -15,19 +15,19 @@ pub(crate) fn unknown_of(alloc: Global, uid: &EntityUID) -> Result<Expr, AllocEr
     Expr::unknown(alloc, Unknown::new_with_type(name, ty))
 }
 
-/// What a look-up of a uid finds.
+/// The result of a lookup.
 #[derive(Debug, Drop)]
 pub enum Dereference<'a, T> {
-    /// There is nothing with that uid.
+    /// There is no entity with the uid.
     NoSuchEntity,
-    /// It is not known: the expression stands for what it will be.
+    /// The entity is not known. The expression is an unknown for it.
     Residual(Expr),
-    /// What was found.
+    /// The value that was found.
     Data(&'a T),
 }
 
 impl<'a, T> Dereference<'a, T> {
-    /// What was found. The caller sees to it that something was. It takes no memory.
+    /// Returns the value. The caller must ensure that the variant is `Data`. Does not allocate.
     pub fn unwrap(self) -> &'a T
         requires { HasData self }
         ensures { WithData self.entry (λ x. result.now ≡ x) }
@@ -39,8 +39,8 @@ impl<'a, T> Dereference<'a, T> {
         }
     }
 
-    /// What was found, as [`Dereference::unwrap`] gives it; the text is for the reader of the call alone, as
-    /// nothing stops.
+    /// Returns the value, as [`Dereference::unwrap`] does. The text is documentation for readers of the call; it is not
+    /// used, because the call cannot fail.
     pub fn expect(self, _msg: &str) -> &'a T
         requires { HasData self }
         ensures { WithData self.entry (λ x. result.now ≡ x) }
@@ -52,8 +52,11 @@ impl<'a, T> Dereference<'a, T> {
 impl<'a, T> Clone for Dereference<'a, T> {
     ghost is_clone = { λ x y. y ≡ x };
 
-    /// A copy of the answer: what was found is not copied, the expression of a residual is. It is refused
-    /// only there, where memory is.
+    /// Returns a copy. A found value is not copied, because it is a reference. The expression of a residual is copied.
+    ///
+    /// # Errors
+    ///
+    /// Returns `AllocError` if the allocation for an expression fails.
     fn clone(&self) -> Result<Dereference<'a, T>, AllocError> {
         match self {
             Dereference::NoSuchEntity => Ok(Dereference::NoSuchEntity),

@@ -1,5 +1,5 @@
-//! One edit of the entities of a store: some go, some come, and what had one of either among its ancestors is stripped
-//! of what goes with it. Overwriting is an edit by which none goes, removing one by which none comes.
+//! An edit of the entities of a store. It removes entities, inserts entities, and removes the stale ancestors of
+//! affected entities. An overwriting removes no entity, and a removal inserts none.
 ghost use Rattle.std.specs.Prelude.{◌≡◌, ◌⊎◌, ◌||◌, ◌&&◌, List, None, Some, cond, length, true, IfErr, IfOk, IsTrue, OnOk};
 ghost use Rattle.std.specs.FinSet as set;
 ghost use Rattle.std.specs.FinMap as finmap;
@@ -21,13 +21,13 @@ ghost use Rattle.cedar_entities.specs.laws.Readings.{IsReadingOf};
 
 use crate::incoming::{Incoming, uids_in};
 use crate::lists::{held_uids, pointers_of};
+use cedar_children::listed;
 use cedar_entity::err::EntitiesError;
 use cedar_entity::node::SharedEntity;
 use cedar_entity_maps::TCComputation;
 use cedar_entity_maps::index::{Index, join, list_if_it_pays, part, touched_by};
 use cedar_entity_maps::modes::{Row, mending, row_computes, row_of};
 use cedar_entity_maps::settling::finish;
-use cedar_entity_maps::sought::listed;
 use cedar_entity_maps::touching::{Loss, losses_by, note_all, strip_each};
 use cedar_ids::entity::EntityUID;
 use cedar_uid_sets::{SharedUid, UidSet};
@@ -35,7 +35,7 @@ use std::alloc::Global;
 use std::collections::{HashMap, HashSet};
 use std::hash::BuildHasher;
 
-// What goes, what comes, and the uids of both.
+// The uids of the entities to remove, the entities to insert, and the uids of both.
 #[derive(Drop)]
 struct Change {
     pub(crate) gone: UidSet,
@@ -43,7 +43,8 @@ struct Change {
     pub(crate) uids: Vec<SharedUid>,
 }
 
-// What an edit reads before anything changes: its uids, each once, what it touches, and what goes from that.
+// The facts that an edit reads before it changes anything: its uids, each once, the affected entities, and their stale
+// ancestors.
 #[derive(Drop)]
 pub(crate) struct Reading<S: BuildHasher> {
     pub(crate) uids: Vec<SharedUid>,
@@ -51,10 +52,10 @@ pub(crate) struct Reading<S: BuildHasher> {
     pub(crate) losses: Vec<Loss>,
 }
 
-// Whether all indirect ancestors go from what an edit touches, for its repair to write them anew from the parents. In a
-// plain store they are what is reached over the parents that stay, so that what is reached then, and whether that has
-// a cycle, is the same as where those alone go that the edit takes. That a repair refuses what has a cycle, or that
-// nothing comes that could make one, sees to it that all of them are written.
+// Returns whether the edit removes all indirect ancestors of the affected entities, so that the repair recomputes them
+// from the parents. In a plain store the indirect ancestors are exactly the uids reached over parents. So the result,
+// and whether there is a cycle, is the same as after removing only stale ancestors. All ancestors are written again,
+// because the repair reports cycles or nothing is inserted that could create one.
 fn renews<S: BuildHasher>(index: &Index<S>, coming: &[Incoming], row: Row) -> bool
     ensures plain { IsTrue result → IsTrue index.now.plain }
     ensures repairs { IsTrue result → row.repairs ≡ true }
@@ -69,7 +70,7 @@ fn renews<S: BuildHasher>(index: &Index<S>, coming: &[Incoming], row: Row) -> bo
     row_computes(row) || coming.is_empty()
 }
 
-// Whether all indirect ancestors go from what an adding touches, for the same reason.
+// Returns whether an addition removes all indirect ancestors of the affected entities, for the same reason.
 pub(crate) fn renews_adding<S: BuildHasher>(index: &Index<S>, row: Row) -> bool
     ensures { IsTrue result → IsTrue index.now.plain × (computes row ≡ true) }
 {
@@ -79,7 +80,7 @@ pub(crate) fn renews_adding<S: BuildHasher>(index: &Index<S>, row: Row) -> bool
     row_computes(row)
 }
 
-// What an edit of some uids reads. The children are listed where that pays.
+// Reads the facts for an edit of the uids. Lists the children in the index if that pays.
 fn read<S: BuildHasher + Clone>(
     alloc: Global,
     entities: &HashMap<SharedUid, SharedEntity, S>,
@@ -106,7 +107,7 @@ fn read<S: BuildHasher + Clone>(
     })
 }
 
-// Puts in an entity, over one with its uid.
+// Inserts an entity, or replaces the entity with its uid.
 fn put_over<S: BuildHasher>(
     entities: &mut HashMap<SharedUid, SharedEntity, S>,
     coming: Incoming,
@@ -122,7 +123,7 @@ fn put_over<S: BuildHasher>(
     Ok(())
 }
 
-// Puts in the entities in turn, each over one with its uid.
+// Inserts the entities one after another. Each replaces the entity with its uid.
 fn overwrite_all<S: BuildHasher>(
     entities: &mut HashMap<SharedUid, SharedEntity, S>,
     list: Vec<Incoming>,
@@ -139,7 +140,7 @@ fn overwrite_all<S: BuildHasher>(
     Ok(())
 }
 
-// Takes out the entity with a uid, if there is one.
+// Removes the entity with a uid, if there is one.
 fn take_at<S: BuildHasher>(entities: &mut HashMap<SharedUid, SharedEntity, S>, uid: &SharedUid)
     ensures { (q : EntityUID) → held entities.new q
         ≡ cond (same_uid uid.now q) None (held entities.old q) }
@@ -147,7 +148,7 @@ fn take_at<S: BuildHasher>(entities: &mut HashMap<SharedUid, SharedEntity, S>, u
     entities.remove(uid);
 }
 
-// Takes out the entities with these uids.
+// Removes the entities with the uids.
 fn take_out<S: BuildHasher>(
     entities: &mut HashMap<SharedUid, SharedEntity, S>,
     gone: Vec<SharedUid>,
@@ -162,7 +163,7 @@ fn take_out<S: BuildHasher>(
     }
 }
 
-// Strips what loses something, takes out what goes, and puts in what comes.
+// Removes stale ancestors, removes entities, and inserts entities.
 fn write<S: BuildHasher>(
     entities: &mut HashMap<SharedUid, SharedEntity, S>,
     losses: Vec<Loss>,
@@ -182,7 +183,7 @@ fn write<S: BuildHasher>(
     overwrite_all(entities, coming)
 }
 
-// Makes an edit, and ends it as the row says. Of a refused one nothing is left.
+// Makes an edit and finalizes it by the edit rules. After an error the map must not be used.
 fn edit<S: BuildHasher + Clone>(
     alloc: Global,
     entities: &mut HashMap<SharedUid, SharedEntity, S>,
@@ -217,7 +218,7 @@ fn edit<S: BuildHasher + Clone>(
     finish(alloc, entities, &touched, row)
 }
 
-// Puts entities over those with their uids, and ends that as the mode says.
+// Overwrites entities, and finalizes the edit by the edit rules of the mode.
 pub(crate) fn put_all_over<S: BuildHasher + Clone>(
     alloc: Global,
     entities: &mut HashMap<SharedUid, SharedEntity, S>,
@@ -239,7 +240,7 @@ pub(crate) fn put_all_over<S: BuildHasher + Clone>(
     edit(alloc, entities, index, change, row_of(tc_computation))
 }
 
-// Takes entities out, also as parents, and ends that as the mode says.
+// Removes entities, also as parents, and finalizes the edit by the edit rules of the mode.
 pub(crate) fn take_all_out<S: BuildHasher + Clone>(
     alloc: Global,
     entities: &mut HashMap<SharedUid, SharedEntity, S>,

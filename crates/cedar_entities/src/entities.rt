@@ -27,6 +27,7 @@ use crate::lists::absent_uids;
 use crate::store_iters::{IntoIter, Iter};
 use crate::store_same::{have_deep_equals, have_keys_of};
 use crate::store_valid::check_each;
+use cedar_children::listed;
 use cedar_entity::entity::Entity;
 use cedar_entity::err::EntitiesError;
 use cedar_entity::node::SharedEntity;
@@ -34,7 +35,6 @@ pub use cedar_entity_maps::TCComputation;
 use cedar_entity_maps::index::{Index, join, list_if_it_pays, touched_by};
 use cedar_entity_maps::modes::row_of;
 use cedar_entity_maps::settling::{check, settle_touched, settle_whole};
-use cedar_entity_maps::sought::listed;
 use cedar_entity_maps::touching::{forget_each, note_all};
 use cedar_ids::entity::EntityUID;
 use cedar_uid_sets::SharedUid;
@@ -45,21 +45,28 @@ use std::hash::{BuildHasher, BuildHasherDefault, FoldHasher};
 use std::marker::Model;
 use std::rc::Rc;
 
-/// A store of entities under their uids, in one of two modes: in a partial store an absent entity is not
-/// known, in any other there is none.
+/// A store of entities, keyed by uid. A store is partial or not. In a partial store, an entity that is absent is
+/// unknown; otherwise it does not exist.
 ///
-/// Entities are shared: copying a store copies none of them.
+/// Entities are shared: a copy of a store copies no entity.
 ///
-/// An edit finds what it touches by a walk over all entities, with up to 16 looks at each or one for each of its
-/// ancestors. A store that `ComputeNow` calls made of entities without indirect ancestors, and removals, knows that its
-/// ancestors are what the parents imply. Where it has 40 entities or more it lists the children of each uid once edits
-/// have walked over it sixteen times, and from then on an edit goes down from its own uids alone. The list takes 8 to
-/// 16 bytes for each parent of each entity and a set for each uid that is a parent; a copy of the store begins without
-/// it. Where memory for it is refused the store goes on without: no edit is refused for it.
+/// # Complexity
 ///
-/// Its map hashes uids by the hashers that `S` builds, and so do the sets that its calls make. By default they have a
-/// fixed seed, so that whoever picks the uids can make them collide, and each call slow: a store of uids that strangers
-/// pick is made by [`Entities::with_hasher`] with a builder that has a random key. No contract sees the builder.
+/// An edit finds the affected entities by scanning all entities. It makes up to 16 lookups in each entity, or one
+/// lookup for each of its ancestors.
+///
+/// A store of 40 or more entities uses an index instead, if all of its edits were calls with `ComputeNow`, of entities
+/// without indirect ancestors, or removals. Such a store is known to be plain: its ancestors are exactly what the
+/// parents imply. After edits have scanned it sixteen times, it lists the children of each uid. From then on an edit
+/// searches down from its own uids. The list needs 8 to 16 bytes for each parent of each entity, and a set for each uid
+/// that is a parent. A copy of the store has no list at first. If an allocation for the list fails, the store continues
+/// without it, and no edit fails because of it.
+///
+/// # Hashing
+///
+/// The map, and the sets of its calls, hash uids with hashers of `S`. The default hasher has a fixed seed. If untrusted
+/// parties choose the uids, they can force collisions and slow every call down. Use [`Entities::with_hasher`] with a
+/// randomly keyed builder in that case. The choice of hasher never changes a result.
 #[derive(Drop)]
 pub struct Entities<S: BuildHasher = BuildHasherDefault<FoldHasher>> {
     pub(crate) entities: HashMap<SharedUid, SharedEntity, S>,
@@ -82,7 +89,8 @@ impl<S: BuildHasher> Model for Entities<S> {
     ghost invariant = { λ s. UidsMatch s.entities × IsIndexOf s.index (held_map s.entities) };
 }
 
-// Puts in an entity whose uid is absent; one that is present has to be deeply equal. One that is not comes back.
+// Inserts an entity if its uid is new. Otherwise the existing entity must be deeply equal to it. If it is not, the new
+// entity is returned.
 fn put_new<S: BuildHasher>(
     entities: &mut HashMap<SharedUid, SharedEntity, S>,
     coming: Incoming,
@@ -111,7 +119,7 @@ fn put_new<S: BuildHasher>(
     }
 }
 
-// Puts in the entities in turn.
+// Inserts the entities one after another.
 fn put_all<S: BuildHasher>(
     entities: &mut HashMap<SharedUid, SharedEntity, S>,
     list: Vec<Incoming>,
@@ -132,7 +140,7 @@ fn put_all<S: BuildHasher>(
     Ok(())
 }
 
-// Makes room for so many entities more.
+// Reserves space for `count` more entities.
 fn make_room<S: BuildHasher>(
     entities: &mut HashMap<SharedUid, SharedEntity, S>,
     count: usize,
@@ -144,7 +152,7 @@ fn make_room<S: BuildHasher>(
     entities.reserve(count)
 }
 
-// Adds entities to an empty map, in which all that is put is touched.
+// Adds entities to an empty map. All of them are affected.
 fn fill<S: BuildHasher + Clone>(
     alloc: Global,
     entities: &mut HashMap<SharedUid, SharedEntity, S>,
@@ -162,8 +170,8 @@ fn fill<S: BuildHasher + Clone>(
     settle_whole(alloc, entities, tc_computation)
 }
 
-// Adds entities, and closes what is inserted and what has one of that among its ancestors. In a plain store all
-// indirect ancestors of the latter go before, to be written anew from the parents.
+// Adds entities, and finalizes the affected entities. In a plain store, all indirect ancestors of the affected entities
+// are removed first and recomputed from the parents.
 fn add_to<S: BuildHasher + Clone>(
     alloc: Global,
     entities: &mut HashMap<SharedUid, SharedEntity, S>,
@@ -216,7 +224,7 @@ fn add_all<S: BuildHasher + Clone>(
     add_to(alloc, entities, index, list, tc_computation)
 }
 
-// A copy of the map, with the same entities.
+// Copies the map. The copy shares the entities.
 fn copy_of_map<S: BuildHasher + Clone>(
     entities: &HashMap<SharedUid, SharedEntity, S>,
 ) -> Result<HashMap<SharedUid, SharedEntity, S>, AllocError>
@@ -229,9 +237,11 @@ fn copy_of_map<S: BuildHasher + Clone>(
 }
 
 impl<S: BuildHasher + Clone> Entities<S> {
-    /// The store without entities, not partial, which hashes uids by what `hasher` builds. It takes no memory.
+    /// Creates a store without entities, not partial. It hashes uids with hashers of `hasher`. Does not allocate.
     ///
-    /// The original has one way of hashing.
+    /// # Differences from cedar-policy-core
+    ///
+    /// The original has a fixed hasher.
     pub fn with_hasher(alloc: Global, hasher: S) -> Entities<S>
         ensures value { result ≡ record { held = finmap.empty; partial = false } }
         ensures plain { IsPlainStore empty_world result }
@@ -243,12 +253,12 @@ impl<S: BuildHasher + Clone> Entities<S> {
         }
     }
 
-    /// What builds the store's hashers. It takes no memory.
+    /// Returns the hasher builder of the store. Does not allocate.
     pub fn hasher(&self) -> &S {
         self.entities.hasher()
     }
 
-    /// The store with the same entities, now partial. It takes no memory.
+    /// Returns the store with the same entities, now partial. Does not allocate.
     pub fn partial(self) -> Entities<S>
         ensures value { result ≡ record { held = self.held; partial = true } }
         ensures plain { (W : World) → IsPlainStore W self →
@@ -261,10 +271,13 @@ impl<S: BuildHasher + Clone> Entities<S> {
         }
     }
 
-    /// The store as it is, which from here on knows that its ancestors are what the parents imply, where `other` knows
-    /// that of its own: then edits of it cost what edits of `other` do. It is for who makes a store of a part of another,
-    /// and is to be called only where a part of a plain store is a plain store. It takes no memory. This is the
-    /// project's own.
+    /// Marks the store as known to be plain, if `other` is. Edits of it then cost as much as edits of `other`. Use it
+    /// for a store that consists of a part of `other`. The caller must ensure that the store is plain if `other` is.
+    /// Does not allocate.
+    ///
+    /// # Differences from cedar-policy-core
+    ///
+    /// The original has no such function.
     pub fn known_plain_with(self, other: &Entities<S>) -> Entities<S>
         requires { (W : World) → IsPlainStore W other.now → (V : World) × IsPlainStore V self }
         ensures { result ≡ self }
@@ -276,17 +289,19 @@ impl<S: BuildHasher + Clone> Entities<S> {
         }
     }
 
-    /// Whether the store is partial. It takes no memory.
+    /// Returns whether the store is partial. Does not allocate.
     pub fn is_partial(&self) -> bool
         ensures { result ≡ self.now.partial }
     {
         self.partial
     }
 
-    /// A store of these entities, not partial, which hashes uids by what `hasher` builds: what adding them to the store
-    /// without entities gives.
+    /// Creates a store with these entities, not partial. It hashes uids with hashers of `hasher`. The result is the
+    /// same as adding the entities to an empty store.
     ///
-    /// Refused as [`Entities::add_entities`] is. It takes memory.
+    /// # Errors
+    ///
+    /// The errors of [`Entities::add_entities`].
     pub fn from_entities_with_hasher(
         alloc: Global,
         hasher: S,
@@ -302,19 +317,26 @@ impl<S: BuildHasher + Clone> Entities<S> {
         Entities::with_hasher(alloc, hasher).add_entities(alloc, list, tc_computation)
     }
 
-    /// The store with these entities too, in the order of the list. Of a uid that the store lacks the first
-    /// of the list goes in; any other has to be deeply equal to the one that stands, which stays.
+    /// Adds entities to the store, in list order. If a uid is new, the first entity with that uid is inserted. Every
+    /// later entity with the same uid must be deeply equal to the stored one, which is kept.
     ///
-    /// Refused by [`EntitiesError::Duplicate`], with the uid of the first of the list that differs, before
-    /// any work on the closure; then by [`EntitiesError::TransitiveClosureError`] as the mode says; and by
-    /// `Memory`. A refusal gives no store back.
+    /// An indirect ancestor that an entity of the list already has counts as an ancestor. The call affects the inserted
+    /// entities, and the entities that have one of them as an ancestor. All other entities are unchanged in every mode.
     ///
-    /// An indirect ancestor that an entity was given with counts as one that it has. What is touched is what was
-    /// inserted, and what has one of that among its ancestors; the others stay as they are in every mode. It takes
-    /// memory. It looks up each entity of the list a few times and finds what is touched, as [`Entities`] says; then it
-    /// closes that, or checks the whole. A store without entities is closed as a whole. Where the store is known to be
-    /// plain and the mode computes, the parents alone are read of what was touched and not inserted, and its indirect
-    /// ancestors are written anew.
+    /// # Errors
+    ///
+    /// - `Duplicate`: an entity of the list differs from the stored one. The error names the first such uid. This is
+    ///   checked before the closure.
+    /// - `TransitiveClosureError`: the repair or the check of the mode fails; see [`TCComputation`].
+    /// - `Memory`: an allocation failed.
+    ///
+    /// After an error the store is dropped.
+    ///
+    /// # Complexity
+    ///
+    /// Looks up each entity of the list a few times, finds the affected entities (see [`Entities`]), and closes them or
+    /// checks the whole store. An empty store is closed as a whole. If the store is known to be plain and the mode
+    /// computes, only the parents of affected stored entities are read, and their indirect ancestors are recomputed.
     pub fn add_entities(
         self,
         alloc: Global,
@@ -341,20 +363,33 @@ impl<S: BuildHasher + Clone> Entities<S> {
         })
     }
 
-    /// The store with these entities, each in the place of any with its uid; of several with one uid the last
-    /// counts. An entity that had one of the uids among its ancestors is touched: it loses, from its indirect
-    /// ancestors, each of these uids that the store held and the ancestors which that had. Computing gives it
-    /// back what it still reaches; the other modes do not. What is not touched stays as it is.
+    /// Overwrites entities. Each entity of the list is inserted, and replaces the entity with its uid. If several have
+    /// the same uid, the last one is used.
     ///
-    /// Refused by [`EntitiesError::TransitiveClosureError`] as the mode says, and by `Memory`; a refusal gives no store
-    /// back. An indirect ancestor that one of these entities was given with counts as one that it has. It takes memory.
-    /// It finds what is touched, as [`Entities`] says, once for the whole list. For an entity that is touched and none
-    /// of the list it gathers what goes with the uids that this has as ancestors, in memory for a pointer each, and
-    /// takes that out at once. Then it closes what is touched, or checks the whole. Where the store is known to be plain
-    /// and the mode computes, it takes out all indirect ancestors of these entities instead, reads their parents alone,
-    /// and writes the ancestors anew: then an edit costs about what it costs to build what it touches.
+    /// The call affects the overwritten entities, and the entities that have one of the uids as an ancestor. An
+    /// affected entity loses its stale indirect ancestors: the uids of the list that the store contained, and the
+    /// ancestors of their old entities. In a mode that computes, it gets back all that it still reaches; in the other
+    /// modes it does not. All other entities are unchanged. An indirect ancestor that an entity of the list already has
+    /// counts as an ancestor.
     ///
-    /// Unlike the original it takes neither a schema nor extensions.
+    /// # Errors
+    ///
+    /// - `TransitiveClosureError`: the repair or the check of the mode fails; see [`TCComputation`].
+    /// - `Memory`: an allocation failed.
+    ///
+    /// After an error the store is dropped.
+    ///
+    /// # Complexity
+    ///
+    /// Finds all affected entities once for the whole list (see [`Entities`]). From each affected entity that is not
+    /// itself in the list, it removes the stale ancestors in one pass. Then it closes the affected entities or checks
+    /// the whole store. If the store is known to be plain and the mode computes, it removes all of their indirect
+    /// ancestors instead, reads only their parents, and recomputes the ancestors. The edit then costs about as much as
+    /// building the affected entities. Allocates one pointer per stale ancestor.
+    ///
+    /// # Differences from cedar-policy-core
+    ///
+    /// The original takes a schema and extensions.
     pub fn upsert_entities(
         self,
         alloc: Global,
@@ -383,15 +418,25 @@ impl<S: BuildHasher + Clone> Entities<S> {
         })
     }
 
-    /// The store without the entities with these uids, which then are no parents either. Uids that are not
-    /// in the store change nothing, so they stay where they are parents. What had one of the others among its
-    /// ancestors is touched: it loses it and the ancestors which that had, and is given back, in each mode,
-    /// what it still reaches. What is not touched stays as it is.
+    /// Removes the entities with the uids, also as parents. A uid that is not in the store has no effect: it remains a
+    /// parent where it is one.
     ///
-    /// Refused by [`EntitiesError::TransitiveClosureError`] as the mode says, which over a computed store is
-    /// never, and by `Memory`; a refusal gives no store back. It takes memory, and finds and strips what is touched as
-    /// [`Entities::upsert_entities`] does, once for the whole list, in each mode as where it computes; then it closes
-    /// that, or checks the whole.
+    /// The call affects the entities that have a removed uid as an ancestor. An affected entity loses its stale
+    /// ancestors: the removed uids, and the ancestors of their entities. In every mode it gets back all that it still
+    /// reaches. All other entities are unchanged.
+    ///
+    /// # Errors
+    ///
+    /// - `TransitiveClosureError`: the repair or the check of the mode fails; see [`TCComputation`]. This never happens
+    ///   in a plain store.
+    /// - `Memory`: an allocation failed.
+    ///
+    /// After an error the store is dropped.
+    ///
+    /// # Complexity
+    ///
+    /// As in [`Entities::upsert_entities`] in a mode that computes, once for the whole list. In a mode that checks, it
+    /// then checks the whole store.
     pub fn remove_entities(
         self,
         alloc: Global,
@@ -415,7 +460,7 @@ impl<S: BuildHasher + Clone> Entities<S> {
         })
     }
 
-    /// How many entities there are. It takes no memory.
+    /// Returns the number of entities. Does not allocate.
     pub fn len(&self) -> usize
         ensures value { result ≡ finmap.len self.now.held }
         ensures plain { (W : World) → IsPlainStore W self.now → result ≡ finmap.len W.entities }
@@ -423,14 +468,18 @@ impl<S: BuildHasher + Clone> Entities<S> {
         self.entities.len()
     }
 
-    /// Whether there is no entity. It takes no memory.
+    /// Returns whether the store has no entities. Does not allocate.
     pub fn is_empty(&self) -> bool
         ensures { IsTrue result ↔ (self.now.held ≡ no_entities) }
     {
         self.len() == 0
     }
 
-    /// The entity that the store has with a uid, if there is one. It takes no memory. This is the project's own.
+    /// Returns the entity with a uid, if the store has one. Does not allocate.
+    ///
+    /// # Differences from cedar-policy-core
+    ///
+    /// The original has no such function.
     pub fn stored(&self, uid: &EntityUID) -> Option<&Entity>
         ensures value { option_map (λ e. e.now) result ≡ finmap.get self.now.held uid.now }
         ensures keyed { IsKeyed self.now.held }
@@ -441,10 +490,12 @@ impl<S: BuildHasher + Clone> Entities<S> {
         }
     }
 
-    /// What the store has with a uid: the entity or, where there is none, nothing or, in a partial store, an
-    /// unknown that is named by the printed uid and typed by its entity type.
+    /// Looks up the entity with a uid. If there is none, the result is `NoSuchEntity`, or in a partial store a
+    /// residual. The residual is an unknown whose name is the printed uid and whose type is the entity type.
     ///
-    /// It takes memory for an unknown alone, and is refused only there.
+    /// # Errors
+    ///
+    /// Returns `AllocError` if the allocation of an unknown fails. There is no other allocation.
     pub fn entity(
         &self,
         alloc: Global,
@@ -466,7 +517,7 @@ impl<S: BuildHasher + Clone> Entities<S> {
         }
     }
 
-    /// The entities, each once, in an order of their own. It takes no memory.
+    /// Iterates over the entities, each once, in no specified order. Does not allocate.
     pub fn iter(&self) -> Iter<'_>
         ensures lists { ListsHeld self.now.held result }
         ensures keyed { IsKeyed self.now.held }
@@ -474,8 +525,8 @@ impl<S: BuildHasher + Clone> Entities<S> {
         Iter::of(&self.entities)
     }
 
-    /// Whether both are partial or neither is, and both have the same uids, under each of them entities that
-    /// are equal by [`Entity::deep_eq`]. It takes no memory; it looks each uid of the one up in the other.
+    /// Returns whether both stores are partial or neither is, and both have the same uids with entities that are equal
+    /// by [`Entity::deep_eq`]. Looks up each uid of one store in the other. Does not allocate.
     pub fn deep_eq(&self, other: &Entities<S>) -> bool
         ensures equal { IsTrue result ↔ AreDeepEqual self.now other.now }
         ensures equivalence { IsEquivalenceRelation AreDeepEqual }
@@ -489,18 +540,26 @@ impl<S: BuildHasher + Clone> Entities<S> {
         have_keys_of(&self.entities, &other.entities)
     }
 
-    /// The store as it is, where nothing is wrong with it, and else an error and no store. What is looked
-    /// for, in this order:
+    /// Returns the store itself if it is valid.
     ///
-    /// - `TransitiveClosureError`: the graph of the ancestors is not closed or, where it is closed, an entity
-    ///   is among its own ancestors, as under [`TCComputation::EnforceAlreadyComputed`];
-    /// - what [`Entity::validate`] finds wrong with an entity; of several such entities the one with the least
-    ///   uid is told of, where the original tells of any;
-    /// - `Memory`: a growth was refused. The check of the graph takes memory, the checks of the entities do
-    ///   not, and the error takes what that of [`Entity::validate`] takes.
+    /// # Errors
     ///
-    /// It checks the closure of the whole store, then looks each entity over once, and one that it tells of
+    /// The checks are made in this order. After an error the store is dropped.
+    ///
+    /// - `TransitiveClosureError`: the ancestors are not closed. If they are closed, an entity is its own ancestor.
+    ///   This is the check of [`TCComputation::EnforceAlreadyComputed`].
+    /// - The error of [`Entity::validate`] for the invalid entity with the least uid.
+    /// - `Memory`: an allocation failed. The check of the closure allocates; the check of the entities allocates only
+    ///   for an error.
+    ///
+    /// # Complexity
+    ///
+    /// Checks the closure of the whole store, and then each entity once. An invalid entity that is reported is checked
     /// twice.
+    ///
+    /// # Differences from cedar-policy-core
+    ///
+    /// If several entities are invalid, the original reports any of them.
     pub fn try_validate(self, alloc: Global) -> Result<Entities<S>, EntitiesError>
         ensures ok { IfOk result (λ s. (s ≡ self) × IsValidStore self.held) }
         ensures err { IfErr result (IsStoreFault self.held) }
@@ -510,7 +569,7 @@ impl<S: BuildHasher + Clone> Entities<S> {
         Ok(self)
     }
 
-    // Whether both have the same uids and mode.
+    // Checks whether both have the same uids and are both partial or both not.
     fn has_same_uids(&self, other: &Entities<S>) -> bool
         ensures { IsTrue result ↔ HaveSameUids self.now other.now }
     {
@@ -533,8 +592,8 @@ impl<S: BuildHasher + Clone> PartialEq for Entities<S> {
 
     ghost laws = { partial_equiv_from_equiv same_uids_and_mode_equiv };
 
-    /// Whether both have the same uids and both are partial or neither is. What the entities hold is not
-    /// looked at. It takes no memory; it looks each uid of either up in the other.
+    /// Returns whether both have the same uids, and both are partial or neither is. The content of the entities is not
+    /// compared. Looks up each uid of either store in the other. Does not allocate.
     fn eq(&self, other: &Entities<S>) -> bool
         ensures value { result ≡ same_uids_and_mode self.now other.now }
         ensures uids { IsTrue result ↔ HaveSameUids self.now other.now }
@@ -552,7 +611,11 @@ impl<S: BuildHasher + Clone> Eq for Entities<S> {
 impl<S: BuildHasher + Clone> Clone for Entities<S> {
     ghost is_clone = { λ x y. y ≡ x };
 
-    /// A copy of the store, which shares its entities. It is refused only where memory is.
+    /// Returns a copy that shares the entities.
+    ///
+    /// # Errors
+    ///
+    /// Returns `AllocError` if an allocation fails.
     fn clone(&self) -> Result<Entities<S>, AllocError> {
         Ok(Entities {
             entities: copy_of_map(&self.entities)?,
@@ -569,7 +632,7 @@ impl<S: BuildHasher + Clone> IntoIterator for Entities<S> {
 
     ghost into_iter_gives = { λ s r. ListsHeld s.held r };
 
-    /// The entities, each once. It takes no memory; each item may.
+    /// Iterates over the entities, each once, in no specified order. This call does not allocate, but each item may.
     fn into_iter(self) -> IntoIter {
         IntoIter::of(self.entities)
     }

@@ -1,4 +1,5 @@
-//! Entities that a call puts in, each with its uid to be shared: one copy of the uid serves the map and all notes.
+//! Entities that a call inserts. Each has its shared uid, so one copy of the uid serves the map and all sets of the
+//! call.
 ghost use Rattle.std.specs.Prelude.{◌≡◌, IfOk, IsTrue};
 ghost use Rattle.cedar_entity_maps.specs.Edits.{uids_of};
 ghost use Rattle.cedar_entity_maps.specs.Modes.{computes, row_of};
@@ -12,7 +13,7 @@ use std::alloc::{AllocError, Global};
 use std::marker::Model;
 use std::rc::Rc;
 
-// An entity that is to be put in, and its uid. Contracts see the entity.
+// An entity to insert, and its uid. In contracts it is the entity.
 #[derive(Drop)]
 pub(crate) struct Incoming {
     pub(crate) uid: SharedUid,
@@ -33,7 +34,7 @@ impl Model for Incoming {
     ghost invariant = { λ i. i.uid ≡ i.entity.value.uid };
 }
 
-// The entities, to be shared.
+// Moves the entities into shared pointers.
 pub(crate) fn shared_all(alloc: Global, list: Vec<Entity>) -> Result<Vec<Rc<Entity>>, AllocError>
     ensures { IfOk result (λ v. entities_in v.items ≡ list.items) }
 {
@@ -44,7 +45,7 @@ pub(crate) fn shared_all(alloc: Global, list: Vec<Entity>) -> Result<Vec<Rc<Enti
     Ok(shared)
 }
 
-// The entity with a copy of its uid.
+// Pairs the entity with a copy of its uid.
 fn with_uid(alloc: Global, entity: Rc<Entity>) -> Result<Incoming, AllocError>
     ensures { IfOk result (λ i. i ≡ entity.value) }
 {
@@ -52,7 +53,7 @@ fn with_uid(alloc: Global, entity: Rc<Entity>) -> Result<Incoming, AllocError>
     Ok(Incoming { uid, entity })
 }
 
-// The entities, each with a copy of its uid.
+// Pairs each entity with a copy of its uid.
 pub(crate) fn with_uids(alloc: Global, list: Vec<Rc<Entity>>) -> Result<Vec<Incoming>, AllocError>
     ensures { IfOk result (λ v. v.items ≡ entities_in list.items) }
 {
@@ -63,7 +64,7 @@ pub(crate) fn with_uids(alloc: Global, list: Vec<Rc<Entity>>) -> Result<Vec<Inco
     Ok(coming)
 }
 
-// The uids of the entities, shared once more.
+// Returns the shared uids of the entities.
 pub(crate) fn uids_in(alloc: Global, list: &[Incoming]) -> Result<Vec<SharedUid>, AllocError>
     ensures { IfOk result (λ v. v.items ≡ uids_of list.now) }
 {
@@ -74,14 +75,14 @@ pub(crate) fn uids_in(alloc: Global, list: &[Incoming]) -> Result<Vec<SharedUid>
     Ok(uids)
 }
 
-// Whether an entity has no indirect ancestors.
+// Checks whether an entity has no indirect ancestors.
 fn is_bare(entity: &Entity) -> bool
     ensures { IsTrue result → IsBare entity.now }
 {
     entity.indirect_ancestors().next().is_none()
 }
 
-// Whether no entity has indirect ancestors.
+// Checks whether none of the entities has indirect ancestors.
 fn are_bare(list: &[Incoming]) -> bool
     ensures { IsTrue result → AreBare list.now }
 {
@@ -93,8 +94,8 @@ fn are_bare(list: &[Incoming]) -> bool
     true
 }
 
-// Whether an adding or an overwriting of these leaves a plain store plain: the closure is computed, and none has
-// indirect ancestors.
+// Returns `true` only if adding or overwriting the entities keeps a plain store plain: the mode computes the closure,
+// and no entity has indirect ancestors.
 pub(crate) fn stays_plain(tc_computation: TCComputation, list: &[Incoming]) -> bool
     ensures { IsTrue result → IsTrue (computes (row_of tc_computation)) × AreBare list.now }
 {

@@ -1,8 +1,9 @@
-//! The store of entities: building, adding, overwriting, removing, looking up, comparing and checking.
+//! The store of entities: creation, addition, overwriting, removal, lookup, comparison and validation.
 //!
-//! Proved: what each call makes of any store and, over a world of entities that bring no indirect ancestors, that it
-//! leaves the plain store of the world that plain adding, overwriting or deletion makes. The entity itself is of
-//! `cedar_entity`, whose names stand here too.
+//! Proved, for any store: the effect of each call. Proved, for entities without indirect ancestors: after each call the
+//! store is the plain store of the input store that plain addition, overwriting or deletion results in.
+//!
+//! The entity itself is in `cedar_entity`; its names are exported here too.
 #![tactic(auto, using(cedar_ids::specs::laws::UidOfLaws::same_uid_decides))]
 
 mod default_hasher;

@@ -1,4 +1,4 @@
-//! Lists of uids for an edit: those of a set, and those that a map holds or does not.
+//! Lists of uids for an edit: the uids of a set, and the uids that a map contains or does not contain.
 ghost use Rattle.std.specs.Prelude.{◌≡◌, is_some, not, IfOk};
 ghost use Rattle.std.specs.FinSet as set;
 ghost use Rattle.std.specs.List.{filter};
@@ -14,7 +14,7 @@ use std::alloc::{AllocError, Global};
 use std::collections::HashMap;
 use std::hash::BuildHasher;
 
-// The uids of a set, each shared once more. It takes memory for the list.
+// Lists the shared uids of a set.
 pub(crate) fn pointers_of(uids: &UidSet) -> Result<Vec<SharedUid>, AllocError>
     ensures { IfOk result (λ v. (q : EntityUID) → is_member same_uid v.items q ≡ set.contains uids.now q) }
 {
@@ -22,7 +22,7 @@ pub(crate) fn pointers_of(uids: &UidSet) -> Result<Vec<SharedUid>, AllocError>
     Ok(copy.into_pointers())
 }
 
-// The uids of a list that the map holds, in their order, to be shared. It takes memory for these and for the list.
+// Returns the uids of a list that the map contains, in order, as shared uids.
 pub(crate) fn held_uids<S: BuildHasher>(
     alloc: Global,
     entities: &HashMap<SharedUid, SharedEntity, S>,
@@ -39,7 +39,7 @@ pub(crate) fn held_uids<S: BuildHasher>(
     Ok(kept)
 }
 
-// The uids of a list that the map does not hold, in their order. It takes memory for the list.
+// Returns the uids of a list that the map does not contain, in order.
 pub(crate) fn absent_uids<S: BuildHasher>(
     alloc: Global,
     entities: &HashMap<SharedUid, SharedEntity, S>,

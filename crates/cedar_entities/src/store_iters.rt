@@ -1,4 +1,4 @@
-//! The iterators of a store. Contracts see each as the list of what it has left.
+//! The iterators of a store. In contracts, an iterator is the list of its remaining items.
 ghost use Rattle.std.specs.Prelude.{◌≡◌, List, map};
 ghost use Rattle.std.specs.Iterator.{YieldsFirstRef, item_count};
 ghost use Rattle.std.specs.List.{IsDistinct};
@@ -17,7 +17,7 @@ use std::hash::BuildHasher;
 use std::marker::Model;
 use std::rc::Rc;
 
-/// The entities of a store, each once, in an order of their own.
+/// An iterator over the entities of a store, each once, in no specified order.
 #[derive(Drop)]
 pub struct Iter<'a> {
     inner: hash_map::Iter<'a, SharedUid, SharedEntity>,
@@ -38,7 +38,6 @@ impl<'a> Model for Iter<'a> {
 }
 
 impl<'a> Iter<'a> {
-    // The entities of a map.
     pub(crate) fn of<S: BuildHasher>(entities: &'a HashMap<SharedUid, SharedEntity, S>) -> Iter<'a>
         requires { UidsMatch entities.now }
         ensures { ListsHeld (held_map entities.now) result }
@@ -62,8 +61,8 @@ impl<'a> Iterator for Iter<'a> {
     }
 }
 
-/// The entities of a store, each once, in an order of their own. One that is shared elsewhere is copied: that
-/// takes memory, and its item is a refusal where that is.
+/// An iterator over the entities of a store, each once, in no specified order. An entity that is shared elsewhere is
+/// copied. If the allocation of a copy fails, the item is an error.
 #[derive(Drop)]
 pub struct IntoIter {
     inner: hash_map::IntoIter<SharedUid, SharedEntity>,
@@ -84,14 +83,13 @@ impl Model for IntoIter {
 }
 
 impl IntoIter {
-    // The entities of a map.
     pub(crate) fn of<S: BuildHasher + Drop>(
         entities: HashMap<SharedUid, SharedEntity, S>,
     ) -> IntoIter
         requires { UidsMatch entities }
         ensures { ListsHeld (held_map entities) result }
     {
-        // No effect at run time: this call says that each entry is found.
+        // No effect at run time: the contract of this call states that each entry is found in the map.
         let _ = entities.iter();
         IntoIter {
             inner: entities.into_iter(),

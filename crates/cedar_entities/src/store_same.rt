@@ -1,4 +1,4 @@
-//! What two stores have in common: deeply equal entities, and uids.
+//! The comparison of two stores: deeply equal entities, and equal uids.
 ghost use Rattle.std.specs.Prelude.{◌≡◌, true, Some, IsTrue, is_some, ◌↔◌};
 ghost use Rattle.std.specs.HashMap.{get};
 ghost use Rattle.std.specs.Option.{IfSome};
@@ -13,7 +13,7 @@ use cedar_uid_sets::SharedUid;
 use std::collections::HashMap;
 use std::hash::BuildHasher;
 
-// Whether the map has a deeply equal entity at a uid.
+// Checks whether the map has a deeply equal entity at a uid.
 fn has_deep_equal_at<S: BuildHasher>(
     entity: &Entity,
     uid: &SharedUid,
@@ -27,7 +27,7 @@ fn has_deep_equal_at<S: BuildHasher>(
     }
 }
 
-// Whether the one map has each entity of the other, or a deeply equal one.
+// Checks whether `other` has a deeply equal entity for each entity of `one`.
 pub(crate) fn have_deep_equals<S: BuildHasher>(
     one: &HashMap<SharedUid, SharedEntity, S>,
     other: &HashMap<SharedUid, SharedEntity, S>,
@@ -43,7 +43,7 @@ pub(crate) fn have_deep_equals<S: BuildHasher>(
     true
 }
 
-// Whether the one map has each uid of the other.
+// Checks whether `one` has each uid of `other`.
 pub(crate) fn have_keys_of<S: BuildHasher>(
     one: &HashMap<SharedUid, SharedEntity, S>,
     other: &HashMap<SharedUid, SharedEntity, S>,

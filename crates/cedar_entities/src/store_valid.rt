@@ -1,4 +1,4 @@
-//! Which entity of a store is not valid.
+//! The first invalid entity of a store.
 ghost use Rattle.std.specs.Prelude.{MatchOption, OnOk, IfErr};
 ghost use Rattle.std.specs.Option.{option_copied};
 ghost use Rattle.cedar_entity_maps.specs.laws.Held.{held_map, UidsMatch};
@@ -14,7 +14,7 @@ use std::alloc::Global;
 use std::collections::HashMap;
 use std::hash::BuildHasher;
 
-// An entity that is not valid, where it is the first or stands before the one so far, and that one elsewhere.
+// Returns the lesser of an invalid entity and the least one so far.
 fn lesser_faulty<'a>(entity: &'a Entity, least: Option<&'a Entity>) -> Option<&'a Entity>
     ensures { TakesFaulty entity.now (option_copied least.entry) (option_copied result) }
 {
@@ -33,7 +33,7 @@ fn lesser_faulty<'a>(entity: &'a Entity, least: Option<&'a Entity>) -> Option<&'
     }
 }
 
-// Of the entities that are not valid the one with the least uid.
+// Returns the invalid entity with the least uid.
 fn first_faulty<'a, S: BuildHasher>(
     entities: &'a HashMap<SharedUid, SharedEntity, S>,
 ) -> Option<&'a Entity>
@@ -48,7 +48,7 @@ fn first_faulty<'a, S: BuildHasher>(
     least
 }
 
-// Refuses a store of which an entity is not valid.
+// Returns the fault of the invalid entity with the least uid, if there is one.
 pub(crate) fn check_each<S: BuildHasher>(
     alloc: Global,
     entities: &HashMap<SharedUid, SharedEntity, S>,

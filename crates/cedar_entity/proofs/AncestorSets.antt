@@ -1,4 +1,4 @@
--- What an entity's ancestors are, and what they are after a change.
+-- The ancestors of an entity, and the ancestors after a change.
 use Rattle.std.specs.Prelude.{◌≡◌, Bool, true, false, cond, List, not, ◌||◌, ◌&&◌, Result, Ok, Err, OnOk, OnErr}
 use Rattle.std.proofs.Common.{ap, sym, refl, ◌∙◌}
 use Rattle.std.specs.FinSet as set
@@ -12,7 +12,7 @@ use Rattle.cedar_graph.specs.Graph.{Grows}
 use Rattle.cedar_entity.specs.View.{EntityView, has_ancestor, overlap}
 use Rattle.cedar_entity.specs.laws.Views.{AreNewTo}
 
--- an entity with one ancestor more, unless it is a parent
+-- The entity with one more indirect ancestor, unless the uid is a parent.
 abbrev pub with_ancestor : EntityView → EntityUID → EntityView
 with_ancestor e k = record e { indirect = cond (set.contains e.parents k) e.indirect (set.insert e.indirect k) }
 
@@ -48,12 +48,12 @@ more e k q false h =
     ∙ sym (same_uid_equiv.symm k q))
     ∙ or_turn (set.contains e.parents q) (set.contains e.indirect q) (same_uid k q)
 
--- the ancestors after one more
+-- The ancestors after one is added.
 pub ancestors_with : (e : EntityView) (k q : EntityUID)
     → has_ancestor (with_ancestor e k) q ≡ (has_ancestor e q || same_uid k q)
 ancestors_with e k q = more e k q (set.contains e.parents k) refl
 
--- the ancestors where there are only parents
+-- The ancestors if there are only parents.
 pub ancestors_reset : (e : EntityView) (q : EntityUID)
     → (set.contains e.parents q || set.contains (set.empty {R = uid_order}) q) ≡ set.contains e.parents q
 ancestors_reset e q = ap (λ b. set.contains e.parents q || b) (set.contains-empty uid_order q)
@@ -75,7 +75,7 @@ overlap_at e k q true h = refl
 overlap_at e k q false h = ap (λ b. set.contains e.parents q && b) (set.contains-insert uid_order_total e.indirect k q)
     ∙ overlap_new e k q (eq_by_cmp uid_order q k) refl h
 
--- one ancestor more leaves the overlap
+-- Adding an ancestor does not change the overlap.
 pub overlap_with : (e : EntityView) (k : EntityUID) → overlap (with_ancestor e k) ≡ overlap e
 overlap_with e k = set.same_set uid_order_total one_equal _ _ (λ q.
     set.contains-intersection uid_order_total e.parents
@@ -83,7 +83,7 @@ overlap_with e k = set.same_set uid_order_total one_equal _ _ (λ q.
     ∙ overlap_at e k q (set.contains e.parents k) refl
     ∙ sym (set.contains-intersection uid_order_total e.parents e.indirect q))
 
--- what reads the same of an entity with one ancestor more reads the same after it was added or refused
+-- A property that adding an ancestor does not change is the same after a call that adds one or fails.
 pub same_after : {T E X : Type 0} (f : EntityView → X)
     → ((e : EntityView) (k : EntityUID) → f (with_ancestor e k) ≡ f e)
     → (r : Result T E) (old new : EntityView) (k : EntityUID)
@@ -91,7 +91,7 @@ pub same_after : {T E X : Type 0} (f : EntityView → X)
 same_after f same (Ok x) old new k h g = ap f h ∙ same old k
 same_after f same (Err x) old new k h g = ap f g
 
--- two tests that pass alike are the same
+-- Two Booleans that imply each other are equal.
 pub same_bool : (x y : Bool) → (x ≡ true → y ≡ true) → (y ≡ true → x ≡ true) → x ≡ y
 same_bool true y f g = sym (f refl)
 same_bool false true f g = g refl
@@ -109,7 +109,7 @@ none_common true false true = refl
 none_common true false false = refl
 none_common false i k = refl
 
--- an entity with a row of ancestors more, but for parents
+-- The entity with several more indirect ancestors, except parents.
 abbrev pub with_row : EntityView → List EntityUID → EntityView
 with_row e ks = record e { indirect = set.union e.indirect (set.difference (set.from_list ks) e.parents) }
 
@@ -118,7 +118,7 @@ none_left false p i f = refl
 none_left true true i f = sym (f refl)
 none_left true false i f = refl
 
--- a row of uids that are no ancestors has no parent to leave out
+-- Uids that are not ancestors contain no parent.
 pub no_parent_in_row : (e : EntityView) (ks : List EntityUID) → AreNewTo e ks
     → set.from_list ks ≡ set.difference (set.from_list ks) e.parents
 no_parent_in_row e ks new = set.same_set uid_order_total one_equal _ _ (λ q.
@@ -135,13 +135,13 @@ in_row e ks q =
     ∙ ap (λ b. set.contains e.indirect q || b) (set.contains-difference uid_order_total (set.from_list ks) e.parents q
     ∙ ap (λ b. b && not (set.contains e.parents q)) (contains_listed ks q))
 
--- the ancestors after a row more
+-- The ancestors after several are added.
 pub ancestors_with_row : (e : EntityView) (ks : List EntityUID) (q : EntityUID)
     → has_ancestor (with_row e ks) q ≡ (has_ancestor e q || is_member same_uid ks q)
 ancestors_with_row e ks q = ap (λ b. set.contains e.parents q || b) (in_row e ks q)
     ∙ left_out (set.contains e.parents q) (set.contains e.indirect q) (is_member same_uid ks q)
 
--- a row more leaves the overlap
+-- Adding several ancestors does not change the overlap.
 pub overlap_with_row : (e : EntityView) (ks : List EntityUID) → overlap (with_row e ks) ≡ overlap e
 overlap_with_row e ks = set.same_set uid_order_total one_equal _ _ (λ q.
     set.contains-intersection uid_order_total e.parents
@@ -153,7 +153,7 @@ overlap_with_row e ks = set.same_set uid_order_total one_equal _ _ (λ q.
 held_of : (x y : Bool) → x ≡ true → (x || y) ≡ true
 held_of x y h = ap (λ b. b || y) h
 
--- what a row leaves where it was added or refused
+-- The ancestors grow by the uids that a call adds, also if it fails.
 pub grows_by_row : {T E : Type 0} (r : Result T E) (old new : EntityView) (ks : List EntityUID)
     → OnOk r (new ≡ with_row old ks) → OnErr r (new ≡ old)
     → Grows (has_ancestor old) (has_ancestor new) (is_member same_uid ks)
@@ -170,7 +170,7 @@ grows_by_row (Err x) old new ks h g =
           (sym (ap (λ (e : EntityView). has_ancestor e q) g) ∙ e);
     }
 
--- what reads the same of an entity with a row more reads the same after it was added or refused
+-- A property that adding several ancestors does not change is the same after a call that adds them or fails.
 pub same_after_row : {T E X : Type 0} (f : EntityView → X)
     → ((e : EntityView) (ks : List EntityUID) → f (with_row e ks) ≡ f e)
     → (r : Result T E) (old new : EntityView) (ks : List EntityUID)
@@ -178,7 +178,7 @@ pub same_after_row : {T E X : Type 0} (f : EntityView → X)
 same_after_row f same (Ok x) old new ks h g = ap f h ∙ same old ks
 same_after_row f same (Err x) old new ks h g = ap f g
 
--- no parents and no indirect ancestors are no ancestors
+-- An entity without parents and without indirect ancestors has no ancestors.
 pub none_above : (parents indirect : set.FinSet uid_order) (i : Bool) → parents ≡ set.empty
     → (i ≡ true → indirect ≡ set.empty) → not i ≡ false
     → (q : EntityUID) → (set.contains parents q || set.contains indirect q) ≡ false

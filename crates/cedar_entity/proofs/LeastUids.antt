@@ -1,4 +1,4 @@
--- The least of the listed uids that pass a test.
+-- The least uid of a list that passes a test.
 use Rattle.std.specs.Prelude.{◌≡◌, Bool, true, false, cond, List, [], ◌∷◌, ◌||◌, ◌&&◌, Option, Some, None, MatchOption}
 use Rattle.std.proofs.Common.{ap, sym, refl, subst, inr, ◌∙◌}
 use Rattle.std.proofs.lemmas.Bool.{false≢true}
@@ -41,7 +41,7 @@ right true y h = refl
 right false y h = h
 
 module _ (p : EntityUID → Bool) where
-  -- listed, and passes
+  -- Whether a uid is in the list and passes the test.
   abbrev passes : List EntityUID → EntityUID → Bool
   passes us q = is_member same_uid us q && p q
 
@@ -80,20 +80,20 @@ module _ (p : EntityUID → Bool) where
         (both (is_member same_uid us q) (p q) k (second_so (same_uid q u || is_member same_uid us q) (p q) r)) g);
   }
 
-  -- the first that passes of a list that ascends is the least that does
+  -- In an ascending list, the first uid that passes is the least one.
   pub first_least : (us : List EntityUID) → Ascend us → LeastOf (passes us) (find p us)
   unfolding IsStrictlySortedBy
   first_least [] h = λ q. refl
   first_least (u ∷ us) h = at u us (p u) (find p us) refl h.0 (first_least us h.1)
 
-  -- the same of a list that has the members of a set
+  -- The same for a list of the members of a set.
   pub first_least_of : (s : UidValues) (us : List EntityUID) (o : Option EntityUID)
       → ((q : EntityUID) → is_member same_uid us q ≡ set.contains s q) → Ascend us → o ≡ find p us
       → LeastOf (λ q. set.contains s q && p q) o
   first_least_of s us o h a e =
       subst (λ t. LeastOf t o) (λ i q. h q i && p q) (subst (LeastOf (passes us)) (sym e) (first_least us a))
 
--- where each parent is an action, the least indirect ancestor that is none is the one to be named
+-- If all parents are actions, the error names the least indirect ancestor that is not an action.
 pub non_action_ancestor : (e : EntityView) (o : Option EntityUID) → NonePasses (is_non_action_parent e)
     → LeastOf (is_non_action_ancestor e) o → MatchOption o (HasOnlyActionAncestors e) (IsLeastNonAction e)
 non_action_ancestor e None h g = (h, g)

@@ -16,18 +16,18 @@ use Rattle.cedar_entity.specs.Listing.{Lists}
 use Rattle.cedar_entity.specs.laws.UidOrder.{irreflexive}
 use Rattle.cedar_uid_sets.specs.laws.Sets.{same_tests, contains_listed, is_member-append}
 
--- a list that ascends and has the members of a set lists it
+-- An ascending list with the members of a set lists the set.
 pub lists_ascending : (s : UidValues) (us : List EntityUID)
     → ((q : EntityUID) → is_member same_uid us q ≡ set.contains s q) → Ascend us → Lists s us
 lists_ascending s us h a =
     record { members = h; once = subst (λ t. IsDistinct t us) same_tests (IsDistinct-from_sorted uid_order us a) }
 
--- what one of two tests says
+-- A case distinction on the operands of a disjunction.
 pub either : (x y : Bool) {P : Type 0} → (x || y) ≡ true → (x ≡ true → P) → (y ≡ true → P) → P
 either true y h f g = f refl
 either false y h f g = g h
 
--- each member stands above what all are above
+-- A uid less than all uids of a list is less than each member.
 pub above_member : (u q : EntityUID) (us : List EntityUID) → AllByRecursion (λ y. uid_order u y ≡ Less) us
     → is_member same_uid us q ≡ true → uid_order u q ≡ Less
 above_member u q [] h m = absurd (cc)
@@ -46,7 +46,7 @@ absent : (u : EntityUID) (us : List EntityUID) (b : Bool) → is_member same_uid
 absent u us true e a = absurd (irreflexive u (above_member u u us a e))
 absent u us false e a = refl
 
--- what is below all of a list is not in it
+-- A uid less than all uids of a list is not in it.
 not_in : (u : EntityUID) (us : List EntityUID) → AllByRecursion (λ y. uid_order u y ≡ Less) us
     → is_member same_uid us u ≡ false
 not_in u us a = absent u us (is_member same_uid us u) refl a
@@ -70,7 +70,7 @@ tails x q us vs false e f g h = h
 first_in : (u : EntityUID) (us : List EntityUID) → (same_uid u u || is_member same_uid us u) ≡ true
 first_in u us = ap (λ b. b || is_member same_uid us u) (itself u)
 
--- two lists that ascend and have the same members are the same
+-- Two ascending lists with the same members are equal.
 pub same_ascending : (us vs : List EntityUID) → Ascend us → Ascend vs
     → ((q : EntityUID) → is_member same_uid us q ≡ is_member same_uid vs q) → us ≡ vs
 unfolding IsStrictlySortedBy
@@ -85,7 +85,7 @@ same_ascending (u ∷ us) (v ∷ vs) a b h =
     ∙ ap (λ z. same_uid q z || is_member same_uid vs q) (sym e))) in
     λ i. e i ∷ rest i
 
--- two lists in turn have what their sets have
+-- The members of two appended lists are the members of both sets.
 pub both_listed : (ps is : List EntityUID) (s t : UidValues) → set.from_list ps ≡ s → set.from_list is ≡ t
     → (q : EntityUID) → is_member same_uid (ps ++ is) q ≡ (set.contains s q || set.contains t q)
 both_listed ps is s t f g q =

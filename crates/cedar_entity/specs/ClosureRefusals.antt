@@ -1,4 +1,4 @@
--- How a fault of the closure is told.
+-- The conversion of errors of the closure.
 use Rattle.std.specs.Prelude.{◌≡◌, ◌⊎◌}
 use Rattle.cedar_graph.specs.declared.err.TcError.{TcError}
 use Rattle.cedar_graph.specs.declared.err.TcError.TheVariants as tc
@@ -6,12 +6,13 @@ use Rattle.cedar_ids.specs.declared.entity.EntityUID.{EntityUID}
 use Rattle.cedar_entity.specs.declared.err.EntitiesError.{EntitiesError}
 use Rattle.cedar_entity.specs.declared.err.EntitiesError.TheVariants as errors
 
--- the refusal for a fault of the closure: want of memory is told as what it is, anything else as the fault
+-- The store's error for an error of the closure. `Memory` becomes `Memory`, and any other error becomes
+-- `TransitiveClosureError`.
 abbrev pub refusal_of : TcError EntityUID → EntitiesError
 refusal_of (tc.MissingTcEdge e) = errors.TransitiveClosureError (tc.MissingTcEdge e)
 refusal_of (tc.HasCycle c) = errors.TransitiveClosureError (tc.HasCycle c)
 refusal_of tc.Memory = errors.Memory
 
--- the refusal is that for the fault, or tells want of memory
+-- Holds if `e` is the store's error for `t`, or is `Memory`.
 abbrev pub Tells : TcError EntityUID → EntitiesError → Type 0
 Tells t e = (e ≡ refusal_of t) ⊎ (e ≡ errors.Memory)

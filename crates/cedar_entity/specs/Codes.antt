@@ -1,4 +1,4 @@
--- How a proof tells fields and entities apart.
+-- The codes by which a proof distinguishes fields and entities.
 use Rattle.std.specs.Prelude.{◌≡◌, ◌⊎◌}
 use Rattle.std.proofs.Common.{refl, inl, inr}
 use Rattle.std.specs.Coded.{Coded, code_by, coded×, coded⊎, coded_list}
@@ -14,34 +14,34 @@ use Rattle.cedar_terms.specs.declared.partial_value.PartialValue.TheVariants as 
 use Rattle.cedar_entity.specs.Fields.{Fields}
 use Rattle.cedar_entity.specs.View.{EntityView}
 
--- the value or the expression that a partial value is
+-- The value or the expression of a partial value.
 abbrev pub either_of : PartialValue → ValueTree ⊎ ExprTree
 either_of (partials.Value v) = inl v
 either_of (partials.Residual e) = inr e
 
--- the partial value of a value or an expression
+-- The partial value of a value or an expression.
 abbrev pub partial_of : ValueTree ⊎ ExprTree → PartialValue
 partial_of (inl v) = partials.Value v
 partial_of (inr e) = partials.Residual e
 
--- what a partial value is makes it again
+-- Converting a partial value to its content and back results in the same partial value.
 pub partial_of-either_of : (p : PartialValue) → partial_of (either_of p) ≡ p
 partial_of-either_of (partials.Value v) = refl
 partial_of-either_of (partials.Residual e) = refl
 
--- a partial value: a value or an expression
+-- The code of a partial value: a value or an expression.
 abbrev pub partial_code : Coded PartialValue
 partial_code = code_by (ValueTree ⊎ ExprTree) (coded⊎ value_code expr_code) either_of partial_of partial_of-either_of
 
--- fields: the text and the value of each
+-- The code of fields: the text and the value of each field.
 abbrev pub fields_code : Coded Fields
 fields_code = coded_list (coded× text_code partial_code)
 
--- the parts of an entity, in pairs
+-- The parts of an entity, in pairs.
 abbrev pub Flat : Type 0
 Flat = EntityUID × ((Fields × Fields) × (UidValues × UidValues))
 
--- an entity: its parts
+-- The code of an entity: its parts.
 abbrev pub view_code : Coded EntityView
 view_code =
     code_by Flat (coded× uid_code (coded× (coded× fields_code fields_code) (coded× uid_set_code uid_set_code)))

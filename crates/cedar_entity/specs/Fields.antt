@@ -1,4 +1,4 @@
--- Attributes and tags: what stands at each key.
+-- Attributes and tags: the value at each key.
 use Rattle.std.specs.Prelude.{◌≡◌, ℕ, List, [], ◌∷◌, map, Option, Some, None, if◌then◌else◌, String, string_bytes}
 use Rattle.std.specs.Option.{option_or}
 use Rattle.std.specs.Str.{bytes_eq}
@@ -8,33 +8,34 @@ use Rattle.std.specs.List.Sorted.{IsStrictlySortedBy}
 use Rattle.std.specs.declared.alloc.Global.{Global}
 use Rattle.cedar_terms.specs.declared.partial_value.PartialValue.{PartialValue}
 
--- keys by their bytes, each with its value
+-- A list of keys with values. A key is a list of bytes.
 abbrev pub Fields : Type 0
 Fields = List (List ℕ × PartialValue)
 
--- the value of the first pair with a key
+-- The value of the first pair with a key.
 abbrev pub field_at : List ℕ → Fields → Option PartialValue
 field_at key [] = None
 field_at key (f ∷ fs) = if bytes_eq f.0 key then Some f.1 else field_at key fs
 
--- the value of the last pair with a key
+-- The value of the last pair with a key.
 abbrev pub last_at : List ℕ → Fields → Option PartialValue
 last_at key [] = None
 last_at key (f ∷ fs) = option_or (last_at key fs) (if bytes_eq f.0 key then Some f.1 else None)
 
--- the keys
+-- The keys of fields, in order.
 abbrev pub field_keys : Fields → List (List ℕ)
 field_keys fs = map (λ f. f.0) fs
 
--- the keys ascend by bytes, and so each stands once
+-- Holds if the keys are in ascending byte order. Then no key occurs twice.
 abbrev pub KeysAscend : Fields → Type 0
 KeysAscend fs = IsStrictlySortedBy (slice_cmp nat_cmp) (field_keys fs)
 
--- the fields of the pairs: their keys ascend, and at each key stands what the last pair with it gives
+-- Holds if the fields are collected from the pairs: their keys ascend, and each key has the value of the last pair with
+-- the key.
 pub record AreFieldsOf (pairs fields : Fields) : Type 0 where
   pub ascending : KeysAscend fields
   pub last : (key : List ℕ) → field_at key fields ≡ last_at key pairs
 
--- pairs of a text and a value, as fields
+-- The fields of pairs of a text and a value.
 abbrev pub fields_of : List (String Global × PartialValue) → Fields
 fields_of ps = map (λ p. (string_bytes p.0, p.1)) ps

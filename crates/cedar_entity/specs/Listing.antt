@@ -1,4 +1,4 @@
--- What the iterators over uids list.
+-- The lists of the iterators over uids.
 use Rattle.std.specs.Prelude.{◌≡◌, List, ◌++◌}
 use Rattle.std.specs.FinSet as set
 use Rattle.std.specs.List.{IsDistinct}
@@ -8,12 +8,13 @@ use Rattle.cedar_ids.specs.declared.entity.EntityUID.{EntityUID}
 use Rattle.cedar_uid_sets.specs.UidSets.{Ascend, UidValues}
 use Rattle.cedar_entity.specs.View.{EntityView}
 
--- the list has the uids of the set, each once
+-- Holds if the list has the uids of the set, each once.
 pub record Lists (s : UidValues) (us : List EntityUID) : Type 0 where
   pub members : (q : EntityUID) → is_member same_uid us q ≡ set.contains s q
   pub once : IsDistinct same_uid us
 
--- the list has the uids of one set, then those of another, each in their order
+-- Holds if the list has the uids of the first set and then the uids of the second set, each set in ascending order
+-- without repetition.
 pub record ListsBoth (s t : UidValues) (us : List EntityUID) : Type 0 where
   pub first : List EntityUID
   pub others : List EntityUID
@@ -23,6 +24,6 @@ pub record ListsBoth (s t : UidValues) (us : List EntityUID) : Type 0 where
   pub parents_ascend : Ascend first
   pub indirect_ascend : Ascend others
 
--- the list has the parents, each once, then the indirect ancestors, each once, each in their order
+-- Holds if the list has the parents and then the indirect ancestors, each in ascending order without repetition.
 abbrev pub ListsAncestors : EntityView → List EntityUID → Type 0
 ListsAncestors e us = ListsBoth e.parents e.indirect us

@@ -1,4 +1,4 @@
--- What is wrong with an entity, in the order in which it is looked for.
+-- The faults of an entity, in the order in which `validate` checks them.
 use Rattle.std.specs.Prelude.{◌≡◌, ◌⊎◌, ℕ, List, [], ◌∷◌, Bool, true, false, not, ◌&&◌, Option, Some, None}
 use Rattle.std.specs.Prelude.{if◌then◌else◌, string_bytes, IsTrue}
 use Rattle.cedar_entity.specs.declared.err.EntitiesError.{EntitiesError}
@@ -17,8 +17,8 @@ use Rattle.cedar_entity.specs.Fields.{Fields}
 use Rattle.cedar_entity.specs.Least.{IsLeast, NonePasses}
 use Rattle.cedar_entity.specs.View.{EntityView, has_ancestor}
 
--- the first reserved key that a walk of a value meets: a record is walked key by key, each key tested before
--- its value is walked, and a set element by element
+-- The first reserved key in a value. In a record, each key is checked before its value is searched. In a set, the
+-- elements are searched in order.
 abbrev mutual
   pub reserved_in : ValueTree → Option (List ℕ)
   reserved_in (literal_value l) = None
@@ -26,73 +26,76 @@ abbrev mutual
   reserved_in (record_value fs) = reserved_in_record fs
   reserved_in (extension_value f a) = None
 
-  -- the first reserved key in a list of values
+  -- The first reserved key in a list of values.
   pub reserved_in_all : ValueTrees → Option (List ℕ)
   reserved_in_all no_values = None
   reserved_in_all (value_then v vs) = option_or (reserved_in v) (reserved_in_all vs)
 
-  -- the first reserved key among those of a record and in its values
+  -- The first reserved key among the keys of a record and in its values.
   pub reserved_in_record : FieldTrees → Option (List ℕ)
   reserved_in_record no_fields = None
   reserved_in_record (field_then k v fs) = if is_reserved_key k then Some k else option_or (reserved_in v)
       (reserved_in_record fs)
 
--- the first reserved key that a walk of a value or a residual meets; a residual is skipped
+-- The first reserved key in a partial value. A residual is skipped.
 abbrev pub reserved_in_partial : PartialValue → Option (List ℕ)
 reserved_in_partial (partials.Value v) = reserved_in v
 reserved_in_partial (partials.Residual e) = None
 
--- the first reserved key that a walk of attributes or tags meets, key by key; their own keys are not tested
+-- The first reserved key in the values of attributes or tags, in the order of their keys. The keys of the attributes or
+-- tags themselves are not checked.
 abbrev pub reserved_in_fields : Fields → Option (List ℕ)
 reserved_in_fields [] = None
 reserved_in_fields (f ∷ fs) = option_or (reserved_in_partial f.1) (reserved_in_fields fs)
 
--- the first reserved key of an entity: in its attributes, then in its tags
+-- The first reserved key of an entity: attributes are searched before tags.
 abbrev pub reserved_key : EntityView → Option (List ℕ)
 reserved_key e = option_or (reserved_in_fields e.attrs) (reserved_in_fields e.tags)
 
--- the last component of its type's name is Action
+-- Whether a uid is an action: the last component of the name of its type is `Action`.
 abbrev pub is_action : EntityUID → Bool
 is_action u = is_action_uid (uid_parts u)
 
--- a parent and an indirect ancestor at once
+-- Whether q is both a parent and an indirect ancestor.
 abbrev pub is_in_both : EntityView → EntityUID → Bool
 is_in_both e q = set.contains e.parents q && set.contains e.indirect q
 
--- a parent that is no action
+-- Whether q is a parent that is not an action.
 abbrev pub is_non_action_parent : EntityView → EntityUID → Bool
 is_non_action_parent e q = set.contains e.parents q && not (is_action q)
 
--- an indirect ancestor that is no action
+-- Whether q is an indirect ancestor that is not an action.
 abbrev pub is_non_action_ancestor : EntityView → EntityUID → Bool
 is_non_action_ancestor e q = set.contains e.indirect q && not (is_action q)
 
--- it is not its own ancestor
+-- Holds if the entity is not its own ancestor.
 abbrev pub PassesSelf : EntityView → Type 0
 PassesSelf e = has_ancestor e e.uid ≡ false
 
--- it is not its own ancestor, and no uid is a parent and an indirect ancestor at once
+-- Holds if the entity is not its own ancestor, and no uid is both a parent and an indirect ancestor.
 abbrev pub PassesDuplicates : EntityView → Type 0
 PassesDuplicates e = PassesSelf e × NonePasses (is_in_both e)
 
--- no parent and no indirect ancestor is other than an action
+-- Holds if all parents and all indirect ancestors are actions.
 abbrev pub HasOnlyActionAncestors : EntityView → Type 0
 HasOnlyActionAncestors e = NonePasses (is_non_action_parent e) × NonePasses (is_non_action_ancestor e)
 
--- it passes what is looked for before actions and, where it is an action, all its ancestors are actions
+-- Holds if the entity passes `PassesDuplicates` and, if it is an action, all its ancestors are actions.
 abbrev pub PassesActions : EntityView → Type 0
 PassesActions e = PassesDuplicates e × (IsTrue (is_action e.uid) → HasOnlyActionAncestors e)
 
--- p is the least parent that is no action or, where there is none, the least indirect ancestor that is none
+-- Holds if p is the least parent that is not an action or, if there is none, the least indirect ancestor that is not an
+-- action.
 abbrev pub IsLeastNonAction : EntityView → EntityUID → Type 0
 IsLeastNonAction e p = IsLeast (is_non_action_parent e) p
     ⊎ (NonePasses (is_non_action_parent e) × IsLeast (is_non_action_ancestor e) p)
 
--- none of the four is wrong
+-- Holds if the entity is valid: it passes the checks of ancestors and has no reserved key.
 abbrev pub IsValid : EntityView → Type 0
 IsValid e = PassesActions e × (reserved_key e ≡ None)
 
--- the error tells what is wrong, and what is looked for before it is right; want of memory tells nothing
+-- Holds if the error reports a fault of the entity, and the entity passes all checks before that one. `Memory`
+-- satisfies it always.
 abbrev pub IsFault : EntityView → EntitiesError → Type 0
 IsFault e (errors.SelfAncestor u) = (u ≡ e.uid) × (has_ancestor e e.uid ≡ true)
 IsFault e (errors.DuplicateAncestor u a) = (u ≡ e.uid) × PassesSelf e × IsLeast (is_in_both e) a

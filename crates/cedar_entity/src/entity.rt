@@ -1,4 +1,4 @@
-//! An entity: making, reading, changing, comparing and checking it.
+//! An entity: creation, access, changes, comparison and validation.
 ghost use Rattle.std.specs.Prelude.{◌≡◌, IfOk, OnOk, IfErr, OnErr, MatchOption, None, IsTrue, ◌↔◌, [], false, length};
 ghost use Rattle.std.specs.Option.{option_map, option_copied};
 ghost use Rattle.std.specs.FinSet as set;
@@ -24,18 +24,18 @@ use crate::least::{least_common, least_non_action};
 use crate::reserved::in_fields;
 use cedar_ids::entity::EntityUID;
 use cedar_terms::{PartialValue, StaticType, StaticallyTyped};
-use cedar_uid_sets::{SharedUid, UidSet, Uids, Union};
+use cedar_uid_sets::{SharedUid, UidSet, Uids, Union, are_equal};
 use std::alloc::{AllocError, Global};
 use std::collections::{BTreeMap, HashSet};
 use std::hash::{BuildHasher, Hash, Hasher};
 use std::marker::Model;
 
-/// An entity: its uid, its attributes and tags, its parents, and the indirect ancestors that it has.
+/// An entity: its uid, its attributes and tags, its parents and its indirect ancestors.
 ///
-/// `==` and the hash look at the uid alone; [`Entity::deep_eq`] looks at the rest too.
+/// `==` and the hash use only the uid. [`Entity::deep_eq`] compares the rest too.
 ///
-/// A key is looked up in the logarithm of the number of keys. A uid is looked for among at most sixteen one by
-/// one, and among more in the logarithm of their number. The iterators give references and copy nothing.
+/// A lookup of a key takes O(log n), where n is the number of keys. A lookup of a uid in a set compares with each uid
+/// if there are at most sixteen, and takes O(log n) otherwise. The iterators return references and copy nothing.
 #[derive(Debug, Drop)]
 pub struct Entity {
     uid: EntityUID,
@@ -66,7 +66,11 @@ impl Model for Entity {
 impl Clone for Entity {
     ghost is_clone = { λ x y. y ≡ x };
 
-    /// A copy. It is refused only where memory is.
+    /// Returns a copy.
+    ///
+    /// # Errors
+    ///
+    /// Returns `AllocError` if an allocation fails.
     fn clone(&self) -> Result<Entity, AllocError> {
         Ok(Entity {
             uid: self.uid.clone()?,
@@ -87,7 +91,7 @@ impl PartialEq for Entity {
 
     ghost laws = { on_per (λ (e : EntityView). e.uid) (partial_equiv_from_equiv same_uid_equiv) };
 
-    /// Whether both have the same uid. The rest is not looked at.
+    /// Returns whether both have the same uid. Compares nothing else.
     fn eq(&self, other: &Entity) -> bool {
         self.uid == other.uid
     }
@@ -118,13 +122,17 @@ impl StaticallyTyped for Entity {
 
     ghost static_name = { λ e. (uid_parts e.uid).name };
 
-    /// The type of the uid. It takes memory as that does, and is refused only where that is.
+    /// Returns the type of the uid.
+    ///
+    /// # Errors
+    ///
+    /// Returns `AllocError` if an allocation fails.
     fn type_of(&self, alloc: Global) -> Result<StaticType, AllocError> {
         self.uid.type_of(alloc)
     }
 }
 
-// A copy of attributes or tags.
+// Copies attributes or tags.
 fn copy_of_fields(
     fields: &BTreeMap<String, PartialValue>,
 ) -> Result<BTreeMap<String, PartialValue>, AllocError>
@@ -133,21 +141,14 @@ fn copy_of_fields(
     fields.clone()
 }
 
-// Whether attributes or tags are the same: the same keys with the same values.
+// Checks whether two maps of attributes or tags have the same keys and the same values.
 fn same_fields(one: &BTreeMap<String, PartialValue>, other: &BTreeMap<String, PartialValue>) -> bool
     ensures { IsTrue result ↔ (fields_of one.now.entries ≡ fields_of other.now.entries) }
 {
     one == other
 }
 
-// Whether two uids are equal. Their eids are looked at first, since they differ where their types do not.
-fn are_equal(one: &EntityUID, other: &EntityUID) -> bool
-    ensures { result ≡ same_uid one.now other.now }
-{
-    one.eid().as_ref() == other.eid().as_ref() && one == other
-}
-
-// Whether two walks give equal uids in turn.
+// Checks whether two iterators return equal uids in the same order.
 fn give_same(one: Union<'_>, mut other: Union<'_>) -> bool
     ensures { result ≡ pointwise same_uid one.entry other.entry }
 {
@@ -164,7 +165,7 @@ fn give_same(one: Union<'_>, mut other: Union<'_>) -> bool
     other.next().is_none()
 }
 
-// The fields of some pairs, of which the last with a key counts.
+// Collects pairs into a map. For a repeated key the last pair is used.
 fn fields(
     alloc: Global,
     pairs: Vec<(String, PartialValue)>,
@@ -179,11 +180,17 @@ fn fields(
 }
 
 impl Entity {
-    /// An entity with these attributes and tags, indirect ancestors and parents. Of several pairs with one
-    /// key the last counts. Whether parents and indirect ancestors are apart is not looked at.
+    /// Creates an entity from attributes, tags, indirect ancestors and parents. If several pairs have the same key, the
+    /// last one is used. It is not checked whether a uid is both a parent and an indirect ancestor; see
+    /// [`Entity::validate`].
     ///
-    /// It takes memory, and is refused only where that is; it looks a key up for each pair, and sorts the
-    /// uids of both sets.
+    /// # Errors
+    ///
+    /// Returns `AllocError` if an allocation fails.
+    ///
+    /// # Complexity
+    ///
+    /// Makes one lookup for each pair, and sorts the uids of both sets.
     pub fn new_with_attr_partial_value<S: BuildHasher + Drop>(
         alloc: Global,
         uid: EntityUID,
@@ -209,7 +216,7 @@ impl Entity {
         })
     }
 
-    /// An entity with a uid and nothing else. It takes no memory.
+    /// Creates an entity with a uid and nothing else. Does not allocate.
     pub fn with_uid(alloc: Global, uid: EntityUID) -> Entity
         ensures { result ≡ record {
           uid = uid;
@@ -229,11 +236,21 @@ impl Entity {
         }
     }
 
-    /// An entity with a uid, these parents and nothing else. The parents stand in any order, and some may be equal.
+    /// Creates an entity with a uid and parents, and nothing else. The parents may be in any order, and may contain
+    /// duplicates.
     ///
-    /// Where they ascend, each once, the vector is taken as it is, after a comparison a parent, and no memory is taken.
-    /// Else they are sorted and put in one after another, which takes memory and is refused only where that is. It is
-    /// our own: the original makes an entity of a hash set of parents.
+    /// # Errors
+    ///
+    /// Returns `AllocError` if an allocation fails.
+    ///
+    /// # Complexity
+    ///
+    /// O(n) comparisons for n parents in ascending order without duplicates. The vector is then taken over, and nothing
+    /// is allocated. Otherwise the parents are sorted. Duplicates require an allocation.
+    ///
+    /// # Differences from cedar-policy-core
+    ///
+    /// The original creates an entity from a hash set of parents.
     pub fn with_shared_parents(
         alloc: Global,
         uid: EntityUID,
@@ -251,8 +268,9 @@ impl Entity {
         Ok(Entity::with_parent_set(alloc, uid, parents))
     }
 
-    /// An entity with a uid, these parents and nothing else. It takes no memory, and costs the same however many
-    /// parents there are. It is our own.
+    /// Creates an entity with a uid and parents, and nothing else. Takes constant time. Does not allocate.
+    ///
+    /// Differs from cedar-policy-core: the original has no such function.
     pub fn with_parent_set(alloc: Global, uid: EntityUID, parents: UidSet) -> Entity
         ensures { result ≡ record {
           uid = uid;
@@ -271,7 +289,7 @@ impl Entity {
         }
     }
 
-    /// The uid. It takes no memory.
+    /// Returns the uid. Does not allocate.
     pub fn uid(&self) -> &EntityUID
         ensures { result.now ≡ self.now.uid }
     {
@@ -279,64 +297,64 @@ impl Entity {
         uid
     }
 
-    /// The attribute at a key. It takes no memory.
+    /// Returns the attribute with a key. Does not allocate.
     pub fn get(&self, key: &str) -> Option<&PartialValue>
         ensures { option_map (λ v. v.now) result ≡ field_at key.now self.now.attrs }
     {
         self.attrs.get(key)
     }
 
-    /// The tag at a key. It takes no memory.
+    /// Returns the tag with a key. Does not allocate.
     pub fn get_tag(&self, key: &str) -> Option<&PartialValue>
         ensures { option_map (λ v. v.now) result ≡ field_at key.now self.now.tags }
     {
         self.tags.get(key)
     }
 
-    /// How many attributes there are. It takes no memory.
+    /// Returns the number of attributes. Does not allocate.
     pub fn attrs_len(&self) -> usize
         ensures { result ≡ length self.now.attrs }
     {
         self.attrs.len()
     }
 
-    /// How many tags there are. It takes no memory.
+    /// Returns the number of tags. Does not allocate.
     pub fn tags_len(&self) -> usize
         ensures { result ≡ length self.now.tags }
     {
         self.tags.len()
     }
 
-    /// Whether a uid is a parent: one look-up. It takes no memory.
+    /// Returns whether a uid is a parent. Makes one lookup. Does not allocate.
     pub fn is_child_of(&self, other: &EntityUID) -> bool
         ensures { result ≡ set.contains self.now.parents other.now }
     {
         self.parents.contains(other)
     }
 
-    /// Whether a uid is an indirect ancestor: one look-up. It takes no memory.
+    /// Returns whether a uid is an indirect ancestor. Makes one lookup. Does not allocate.
     pub fn is_indirect_descendant_of(&self, other: &EntityUID) -> bool
         ensures { result ≡ set.contains self.now.indirect other.now }
     {
         self.indirect_ancestors.contains(other)
     }
 
-    /// Whether a uid is an ancestor, a parent or an indirect one: at most two look-ups. It takes no memory.
+    /// Returns whether a uid is a parent or an indirect ancestor. Makes at most two lookups. Does not allocate.
     pub fn is_descendant_of(&self, other: &EntityUID) -> bool
         ensures { result ≡ has_ancestor self.now other.now }
     {
         self.is_child_of(other) || self.is_indirect_descendant_of(other)
     }
 
-    /// Whether a uid that is shared is an ancestor, a parent or an indirect one. It takes no memory; its look-ups cost
-    /// less than those of [`Entity::is_descendant_of`].
+    /// Returns whether a shared uid is a parent or an indirect ancestor. Its lookups are cheaper than the lookups of
+    /// [`Entity::is_descendant_of`]. Does not allocate.
     pub fn is_descendant_of_shared(&self, other: &SharedUid) -> bool
         ensures { result ≡ has_ancestor self.now other.now }
     {
         UidSet::either_contains(&self.parents, &self.indirect_ancestors, other)
     }
 
-    // Whether there is an ancestor. It takes no memory.
+    // Returns `false` only if the entity has no ancestor. Does not allocate.
     pub(crate) fn has_ancestors(&self) -> bool
         ensures { result ≡ false → (q : EntityUID) → has_ancestor self.now q ≡ false }
     {
@@ -346,7 +364,7 @@ impl Entity {
         !self.indirect_ancestors.is_empty()
     }
 
-    /// The keys of the attributes, in byte order. It takes no memory.
+    /// Iterates over the keys of the attributes, in byte order. Does not allocate.
     pub fn keys(&self) -> Keys<'_>
         ensures keys { result ≡ field_keys self.now.attrs }
         ensures ascending { KeysAscend self.now.attrs }
@@ -354,7 +372,7 @@ impl Entity {
         Keys::of(&self.attrs)
     }
 
-    /// The keys of the tags, in byte order. It takes no memory.
+    /// Iterates over the keys of the tags, in byte order. Does not allocate.
     pub fn tag_keys(&self) -> Keys<'_>
         ensures keys { result ≡ field_keys self.now.tags }
         ensures ascending { KeysAscend self.now.tags }
@@ -362,7 +380,7 @@ impl Entity {
         Keys::of(&self.tags)
     }
 
-    /// The attributes with their keys, in byte order of the keys. It takes no memory.
+    /// Iterates over the attributes with their keys, in byte order of the keys. Does not allocate.
     pub fn attrs(&self) -> Pairs<'_>
         ensures pairs { result ≡ self.now.attrs }
         ensures ascending { KeysAscend self.now.attrs }
@@ -370,7 +388,7 @@ impl Entity {
         Pairs::of(&self.attrs)
     }
 
-    /// The tags with their keys, in byte order of the keys. It takes no memory.
+    /// Iterates over the tags with their keys, in byte order of the keys. Does not allocate.
     pub fn tags(&self) -> Pairs<'_>
         ensures pairs { result ≡ self.now.tags }
         ensures ascending { KeysAscend self.now.tags }
@@ -378,7 +396,7 @@ impl Entity {
         Pairs::of(&self.tags)
     }
 
-    /// The parents, each once, in the order of uids. It takes no memory.
+    /// Iterates over the parents: each once, in ascending order of uid. Does not allocate.
     pub fn parents(&self) -> Uids<'_>
         ensures lists { Lists self.now.parents result }
         ensures ascending { Ascend result }
@@ -386,7 +404,7 @@ impl Entity {
         self.parents.iter()
     }
 
-    /// The indirect ancestors, each once, in the order of uids. It takes no memory.
+    /// Iterates over the indirect ancestors: each once, in ascending order of uid. Does not allocate.
     pub fn indirect_ancestors(&self) -> Uids<'_>
         ensures lists { Lists self.now.indirect result }
         ensures ascending { Ascend result }
@@ -394,39 +412,46 @@ impl Entity {
         self.indirect_ancestors.iter()
     }
 
-    /// The parents, then the indirect ancestors, each in the order of uids; what is both comes twice. It takes
-    /// no memory.
+    /// Iterates over the parents and then over the indirect ancestors. Each of the two groups is in ascending order of
+    /// uid. A uid that is in both groups is returned twice. Does not allocate.
     pub fn ancestors(&self) -> Ancestors<'_>
         ensures { ListsAncestors self.now result }
     {
         Ancestors::of(&self.parents, &self.indirect_ancestors)
     }
 
-    /// The parents, as they are shared, in the order of uids. It takes no memory. This is the project's own.
+    /// Iterates over the parents as shared uids: each once, in ascending order of uid. Does not allocate.
+    ///
+    /// Differs from cedar-policy-core: the original has no such function.
     pub fn shared_parents(&self) -> SharedUids<'_>
-        ensures { (q : EntityUID) → is_member same_uid result q ≡ set.contains self.now.parents q }
+        ensures lists { Lists self.now.parents result }
+        ensures ascending { Ascend result }
     {
         SharedUids::of(self.parents.pointers(), &[])
     }
 
-    /// The parents, then the indirect ancestors, as they are shared, each in the order of uids; what is both comes
-    /// twice. It takes no memory. This is the project's own.
+    /// Iterates over the parents and then over the indirect ancestors, as shared uids. Each of the two groups is in
+    /// ascending order of uid. A uid that is in both groups is returned twice. Does not allocate.
+    ///
+    /// Differs from cedar-policy-core: the original has no such function.
     pub fn shared_ancestors(&self) -> SharedUids<'_>
-        ensures { (q : EntityUID) → is_member same_uid result q ≡ has_ancestor self.now q }
+        ensures { ListsAncestors self.now result }
     {
         SharedUids::of(self.parents.pointers(), self.indirect_ancestors.pointers())
     }
 
-    // The indirect ancestors, then the parents, as they are shared. A closure takes up first what is listed last, and
-    // with the parents all that they reach: then most of the others are there already.
+    // Iterates over the indirect ancestors and then over the parents, as shared uids. A closure processes the last
+    // edges first. The parents reach most of the other ancestors, so these are then known already.
     pub(crate) fn ancestors_parents_last(&self) -> SharedUids<'_>
         ensures { (q : EntityUID) → is_member same_uid result q ≡ has_ancestor self.now q }
     {
         SharedUids::of(self.indirect_ancestors.pointers(), self.parents.pointers())
     }
 
-    /// The parents and the indirect ancestors, each once, in the order of uids: a walk through both at a time, of a
-    /// comparison or two a uid. It takes no memory. This is the project's own.
+    /// Iterates over the parents and the indirect ancestors together: each once, in ascending order of uid. Makes one
+    /// or two comparisons per uid. Does not allocate.
+    ///
+    /// Differs from cedar-policy-core: the original has no such function.
     pub fn ancestors_in_order(&self) -> Union<'_>
         ensures members { (q : EntityUID) → is_member same_uid result q ≡ has_ancestor self.now q }
         ensures ascending { Ascend result }
@@ -434,7 +459,7 @@ impl Entity {
         self.parents.union(&self.indirect_ancestors)
     }
 
-    // Whether both have the same ancestors.
+    // Checks whether both have the same ancestors.
     fn has_same_ancestors(&self, other: &Entity) -> bool
         ensures { IsTrue result ↔
             ((q : EntityUID) → has_ancestor self.now q ≡ has_ancestor other.now q) }
@@ -442,8 +467,8 @@ impl Entity {
         give_same(self.ancestors_in_order(), other.ancestors_in_order())
     }
 
-    /// Whether both have the same uid, attributes, tags and ancestors. Which ancestors are parents is not
-    /// looked at. It takes no memory; it walks the ancestors of both once, in their order.
+    /// Returns whether both have the same uid, attributes, tags and ancestors. It does not matter which ancestors are
+    /// parents. Iterates over the ancestors of both once, in order. Does not allocate.
     pub fn deep_eq(&self, other: &Entity) -> bool
         ensures equal { IsTrue result ↔ IsDeepEqual self.now other.now }
         ensures equivalence { IsEquivalenceRelation IsDeepEqual }
@@ -461,8 +486,11 @@ impl Entity {
         self.has_same_ancestors(other)
     }
 
-    /// The uid, the attributes, the indirect ancestors, the parents and the tags. It takes no memory. The original
-    /// gives hashed sets.
+    /// Returns the uid, the attributes, the indirect ancestors, the parents and the tags. Does not allocate.
+    ///
+    /// # Differences from cedar-policy-core
+    ///
+    /// The original returns hash sets.
     pub fn into_inner(
         self,
     ) -> (
@@ -488,14 +516,15 @@ impl Entity {
         (uid, attrs, indirect_ancestors, parents, tags)
     }
 
-    // The least uid that is a parent and an indirect ancestor at once.
+    // Returns the least uid that is both a parent and an indirect ancestor.
     fn least_duplicate(&self) -> Option<&EntityUID>
         ensures { LeastOf (is_in_both self.now) (option_copied result) }
     {
         least_common(&self.parents, &self.indirect_ancestors)
     }
 
-    // The least parent that is no action or, where there is none, the least such indirect ancestor.
+    // Returns the least parent that is not an action. If there is none, returns the least indirect ancestor that is not
+    // an action.
     fn least_non_action_ancestor(&self) -> Option<&EntityUID>
         ensures { MatchOption (option_copied result) (HasOnlyActionAncestors self.now) (IsLeastNonAction self.now) }
     {
@@ -505,7 +534,8 @@ impl Entity {
         }
     }
 
-    // Of an action, the ancestor that is none and that a refusal names.
+    // Returns the ancestor that an error for an action names: an ancestor that is not an action. Returns `None` if the
+    // entity is not an action.
     fn misfit(&self) -> Option<&EntityUID>
         ensures { MatchOption (option_copied result)
             (IsTrue (is_action self.now.uid) → HasOnlyActionAncestors self.now)
@@ -517,7 +547,7 @@ impl Entity {
         self.least_non_action_ancestor()
     }
 
-    // The first reserved key in an attribute or, where there is none, in a tag.
+    // Returns the first reserved key in the attributes. If there is none, returns the first reserved key in the tags.
     fn reserved_key(&self) -> Option<&str>
         ensures { option_copied result ≡ reserved_key self.now }
     {
@@ -527,7 +557,7 @@ impl Entity {
         in_fields(&self.tags)
     }
 
-    // What is wrong with the entity: the first that is found, in the order that `validate` states.
+    // Returns the first fault of the entity, in the order of `validate`.
     fn fault(&self) -> Option<Fault<'_>>
         ensures { MatchOption result (IsValid self.now) (IsFound self.now) }
     {
@@ -546,7 +576,7 @@ impl Entity {
         }
     }
 
-    // Refuses the entity for this fault.
+    // Creates the error for a fault.
     fn refuse(&self, alloc: Global, fault: Fault<'_>) -> Result<(), EntitiesError>
         ensures ok { OnOk result ⊥ }
         ensures err { IfErr result (λ e. IsFound self.now fault.entry → IsFault self.now e) }
@@ -573,20 +603,29 @@ impl Entity {
         }
     }
 
-    /// Looks for what an entity may not have, and answers the first that it finds, in this order:
+    /// Checks whether an entity is valid. Reports the first fault.
     ///
-    /// - `SelfAncestor`: the entity is among its parents or its indirect ancestors;
-    /// - `DuplicateAncestor`: a parent is an indirect ancestor too; the least is named;
-    /// - `ActionParentIsNotAction`: the entity is an action, and an ancestor is none; the least such
-    ///   parent is named or, where there is none, the least such indirect ancestor;
-    /// - `ReservedKey`: a record in a value has a reserved key. The attributes are walked key by key, then
-    ///   the tags: a record key by key, each key tested before its value is walked, and a set element by
-    ///   element. The keys of attributes and tags themselves are not tested, and residuals are skipped;
-    /// - `Memory`: the copy of a uid or a key was refused.
+    /// # Errors
     ///
-    /// It takes memory for those copies alone, so that a valid entity takes none; it walks the values by recursion, a
-    /// small frame a level, and carries 10,000 levels.
-    /// Where several uids would do, the original names any of them.
+    /// The checks are made in this order, and the first that fails determines the error:
+    ///
+    /// - `SelfAncestor`: the entity is one of its own ancestors.
+    /// - `DuplicateAncestor`: a uid is both a parent and an indirect ancestor. The error names the least such uid.
+    /// - `ActionParentIsNotAction`: the entity is an action and has an ancestor that is not. The error names the least
+    ///   such parent. If there is none, it names the least such indirect ancestor.
+    /// - `ReservedKey`: a record in a value has a reserved key. Attributes are searched before tags, each in byte order
+    ///   of keys. In a record, each key is checked before its value; in a set, the elements are searched in order. The
+    ///   keys of attributes and tags themselves are not checked. Residuals are skipped.
+    /// - `Memory`: an allocation for the copy of a uid or a key failed.
+    ///
+    /// # Complexity
+    ///
+    /// Recurses into values with a small stack frame per level. 10,000 levels are supported. Allocates only for an
+    /// error.
+    ///
+    /// # Differences from cedar-policy-core
+    ///
+    /// If several uids violate a rule, the original names any of them.
     pub fn validate(&self, alloc: Global) -> Result<(), EntitiesError>
         ensures ok { OnOk result (IsValid self.now) }
         ensures err { IfErr result (IsFault self.now) }
@@ -598,17 +637,20 @@ impl Entity {
         }
     }
 
-    /// Whether [`Entity::validate`] finds nothing. It takes no memory, and walks the values as that does.
+    /// Returns whether [`Entity::validate`] finds no fault. Recurses into values as that does. Does not allocate.
     ///
-    /// The original has no such call.
+    /// Differs from cedar-policy-core: the original has no such function.
     pub fn is_valid(&self) -> bool
         ensures { IsTrue result ↔ IsValid self.now }
     {
         self.fault().is_none()
     }
 
-    /// The entity as it is, where [`Entity::validate`] finds nothing, and else its error; the entity is let go
-    /// then. It takes memory as that does.
+    /// Returns the entity itself if [`Entity::validate`] finds no fault.
+    ///
+    /// # Errors
+    ///
+    /// Returns the error of [`Entity::validate`]. The entity is then dropped.
     pub fn try_validate(self, alloc: Global) -> Result<Entity, EntitiesError>
         ensures ok { IfOk result (λ e. (e ≡ self) × IsValid self) }
         ensures err { IfErr result (IsFault self) }
@@ -618,7 +660,7 @@ impl Entity {
         Ok(self)
     }
 
-    // Takes in an indirect ancestor that is shared.
+    // Inserts a shared uid as an indirect ancestor, unless it is a parent.
     pub(crate) fn add_shared_ancestor(&mut self, shared: SharedUid) -> Result<(), AllocError>
         ensures ok { OnOk result (self.new ≡ with_indirect_ancestor self.old shared) }
         ensures err { OnErr result (self.new ≡ self.old) }
@@ -629,9 +671,11 @@ impl Entity {
         self.indirect_ancestors.insert(shared)
     }
 
-    /// Adds indirect ancestors that are shared, but for those that are parents. The parents stay.
+    /// Inserts shared uids as indirect ancestors, except uids that are parents. The parents do not change.
     ///
-    /// It takes memory, and where that is refused the entity stays as it was.
+    /// # Errors
+    ///
+    /// Returns `AllocError` if an allocation fails, and then leaves the entity unchanged.
     pub fn add_shared_ancestors(&mut self, shared: Vec<SharedUid>) -> Result<(), AllocError>
         ensures ok { OnOk result (self.new ≡ record self.old {
           indirect = set.union self.old.indirect
@@ -645,7 +689,8 @@ impl Entity {
             .extend_ascending(added.into_pointers())
     }
 
-    // As that, of uids none of which is an ancestor: no parent is looked for among them.
+    // Inserts shared uids as indirect ancestors. None of them may be an ancestor already, so they are not compared with
+    // the parents.
     pub(crate) fn add_new_ancestors(&mut self, shared: Vec<SharedUid>) -> Result<(), AllocError>
         requires { AreNewTo self.old shared.items }
         ensures ok { OnOk result (self.new ≡ record self.old {
@@ -658,9 +703,11 @@ impl Entity {
         self.indirect_ancestors.extend_ascending(added)
     }
 
-    /// Takes in an indirect ancestor; a uid that is a parent or one already changes nothing.
+    /// Inserts an indirect ancestor. A uid that is a parent or an indirect ancestor already has no effect.
     ///
-    /// It takes memory, and where that is refused the entity stays as it was.
+    /// # Errors
+    ///
+    /// Returns `AllocError` if an allocation fails, and then leaves the entity unchanged.
     pub fn add_indirect_ancestor(&mut self, uid: EntityUID) -> Result<(), AllocError>
         ensures ok { OnOk result (self.new ≡ with_indirect_ancestor self.old uid) }
         ensures err { OnErr result (self.new ≡ self.old) }
@@ -669,9 +716,11 @@ impl Entity {
         self.add_shared_ancestor(shared)
     }
 
-    /// Takes in a parent, which is then no indirect ancestor; a parent already changes nothing but that.
+    /// Inserts a parent. Removes it from the indirect ancestors.
     ///
-    /// It takes memory, and where that is refused the entity stays as it was.
+    /// # Errors
+    ///
+    /// Returns `AllocError` if an allocation fails, and then leaves the entity unchanged.
     pub fn add_parent(&mut self, uid: EntityUID) -> Result<(), AllocError>
         ensures ok { OnOk result (self.new ≡ record self.old {
           parents = set.insert self.old.parents uid;
@@ -683,10 +732,11 @@ impl Entity {
         self.add_shared_parent(shared)
     }
 
-    /// Takes in a parent that is shared already, which is not copied; it is then no indirect ancestor. A parent already
-    /// changes nothing but that.
+    /// Inserts a shared uid as a parent, without copying the uid. Removes it from the indirect ancestors.
     ///
-    /// It takes memory, and where that is refused the entity stays as it was.
+    /// # Errors
+    ///
+    /// Returns `AllocError` if an allocation fails, and then leaves the entity unchanged.
     pub fn add_shared_parent(&mut self, shared: SharedUid) -> Result<(), AllocError>
         ensures ok { OnOk result (self.new ≡ record self.old {
           parents = set.insert self.old.parents shared;
@@ -700,37 +750,41 @@ impl Entity {
         Ok(())
     }
 
-    /// Takes a uid out of the indirect ancestors; the parents stay. It takes no memory.
+    /// Removes a uid from the indirect ancestors. The parents do not change. Does not allocate.
     pub fn remove_indirect_ancestor(&mut self, uid: &EntityUID)
         ensures { self.new ≡ record self.old { indirect = set.remove self.old.indirect uid.now } }
     {
         self.indirect_ancestors.remove(uid);
     }
 
-    /// Takes a uid out of the parents; the indirect ancestors stay. It takes no memory.
+    /// Removes a uid from the parents. The indirect ancestors do not change. Does not allocate.
     pub fn remove_parent(&mut self, uid: &EntityUID)
         ensures { self.new ≡ record self.old { parents = set.remove self.old.parents uid.now } }
     {
         self.parents.remove(uid);
     }
 
-    /// Takes the uids of a set out of the indirect ancestors, as [`UidSet::difference`] does; the parents stay. It
-    /// takes no memory. This is the project's own.
+    /// Removes the uids of a set from the indirect ancestors; see [`UidSet::difference`]. The parents do not change.
+    /// Does not allocate.
+    ///
+    /// Differs from cedar-policy-core: the original has no such function.
     pub fn remove_ancestors_of(&mut self, uids: &UidSet)
         ensures { self.new ≡ record self.old { indirect = set.difference self.old.indirect uids.now } }
     {
         self.indirect_ancestors.difference(uids);
     }
 
-    /// Takes the uids of a set out of the parents, as [`UidSet::difference`] does; the indirect ancestors stay. It
-    /// takes no memory. This is the project's own.
+    /// Removes the uids of a set from the parents; see [`UidSet::difference`]. The indirect ancestors do not change.
+    /// Does not allocate.
+    ///
+    /// Differs from cedar-policy-core: the original has no such function.
     pub fn remove_parents_of(&mut self, uids: &UidSet)
         ensures { self.new ≡ record self.old { parents = set.difference self.old.parents uids.now } }
     {
         self.parents.difference(uids);
     }
 
-    /// Takes all uids out of the indirect ancestors; the parents stay. It takes no memory.
+    /// Removes all indirect ancestors. The parents do not change. Does not allocate.
     pub fn remove_all_indirect_ancestors(&mut self)
         ensures { self.new ≡ record self.old { indirect = set.empty } }
     {

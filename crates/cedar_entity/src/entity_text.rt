@@ -1,16 +1,22 @@
-//! How entities are written.
+//! The text form of entities.
 
 use crate::entity::Entity;
 use crate::iters::Pairs;
 use std::fmt;
 
 impl fmt::Display for Entity {
-    /// Writes three lines without a last newline: the uid and `:`; `  attrs:` and the attributes as
-    /// `key: value`, joined by `; `; `  ancestors:` and the ancestors in the order of uids, each once,
-    /// joined by `, `. Keys are written as they are. Tags are not written.
+    /// Writes three lines, without a newline at the end:
     ///
-    /// It takes no memory, and walks the ancestors once. The original writes the ancestors in no order, and twice what
-    /// is a parent and an indirect one.
+    /// - the uid and `:`
+    /// - `  attrs:` and the attributes as `key: value`, separated by `; `
+    /// - `  ancestors:` and the ancestors in ascending order of uid, each once, separated by `, `
+    ///
+    /// Keys are written without escapes. Tags are not written. Iterates over the ancestors once. Does not allocate.
+    ///
+    /// # Differences from cedar-policy-core
+    ///
+    /// The original writes the ancestors in no specific order, and writes a uid twice that is both a parent and an
+    /// indirect ancestor.
     fn fmt<W: fmt::Write>(&self, f: &mut fmt::Formatter<W>) -> fmt::Result {
         let uid = self.uid();
         write!(f, "{uid}:\n  attrs:")?;
@@ -20,7 +26,7 @@ impl fmt::Display for Entity {
     }
 }
 
-// Writes pairs, joined by a semicolon and a blank.
+// Writes pairs, separated by a semicolon and a blank.
 fn show_pairs<W: fmt::Write>(pairs: Pairs<'_>, f: &mut fmt::Formatter<W>) -> fmt::Result {
     let mut is_first = true;
     for (key, value) in pairs {
@@ -33,7 +39,7 @@ fn show_pairs<W: fmt::Write>(pairs: Pairs<'_>, f: &mut fmt::Formatter<W>) -> fmt
     Ok(())
 }
 
-// Writes the ancestors in their order, joined by a comma and a blank.
+// Writes the ancestors in order, separated by a comma and a blank.
 fn show_ancestors<W: fmt::Write>(entity: &Entity, f: &mut fmt::Formatter<W>) -> fmt::Result {
     let mut is_first = true;
     for uid in entity.ancestors_in_order() {

@@ -1,4 +1,4 @@
-//! The refusals of entities and of their store.
+//! The errors of entities and of stores of entities.
 ghost use Rattle.std.specs.Prelude.{◌≡◌, IfOk};
 ghost use Rattle.cedar_entity.specs.declared.err.EntitiesError.TheVariants.{Memory};
 ghost use Rattle.cedar_entity.specs.ClosureRefusals.{refusal_of, Tells};
@@ -9,43 +9,45 @@ use cedar_uid_sets::SharedUid;
 use std::alloc::{AllocError, AllocFailed};
 use thiserror::Error;
 
-/// Why an entity is not valid, or why a call on the store was refused.
+/// The error of an invalid entity, or of a call on a store of entities.
 ///
-/// The original nests these and has further kinds for its JSON forms.
+/// # Differences from cedar-policy-core
+///
+/// The original nests the errors, and has further kinds for its JSON formats.
 #[derive(Debug, Drop, Error)]
 pub enum EntitiesError {
-    /// Two versions of an entity differ by `Entity::deep_eq`.
+    /// Two entities with this uid differ by `Entity::deep_eq`.
     #[error("duplicate entity `{0}`")]
     Duplicate(EntityUID),
-    /// The closure of the store was refused. Want of memory is never told here by a call on the store.
+    /// The check of the closure failed. A call on a store reports a failed allocation as `Memory` instead.
     #[error("{0}")]
     TransitiveClosureError(TcError<EntityUID>),
-    /// The entity is among its own ancestors.
+    /// An entity is one of its own ancestors.
     #[error("entity `{uid}` is its own ancestor")]
     SelfAncestor {
-        /// The entity.
+        /// The uid of the entity.
         uid: EntityUID,
     },
-    /// An ancestor stands among the parents and among the indirect ancestors.
+    /// A uid is both a parent and an indirect ancestor.
     #[error("entity `{uid}` has `{ancestor}` as parent and as indirect ancestor")]
     DuplicateAncestor {
-        /// The entity.
+        /// The uid of the entity.
         uid: EntityUID,
-        /// The ancestor: the least that stands in both sets.
+        /// The least uid that is both.
         ancestor: EntityUID,
     },
-    /// An action has an ancestor that is none.
+    /// An action has an ancestor that is not an action.
     #[error("action `{uid}` has the ancestor `{parent}`, which is not an action")]
     ActionParentIsNotAction {
-        /// The action.
+        /// The uid of the action.
         uid: EntityUID,
-        /// The ancestor: the least among the parents or, where there is none, among the indirect ancestors.
+        /// The least parent that is not an action or, if there is none, the least such indirect ancestor.
         parent: EntityUID,
     },
     /// A record in an attribute or a tag has a reserved key.
     #[error("the key `{0}` is reserved")]
     ReservedKey(String),
-    /// A growth was refused.
+    /// An allocation failed.
     #[error("out of memory")]
     Memory,
 }
@@ -66,7 +68,7 @@ impl<T: Drop> From<AllocFailed<T>> for EntitiesError {
     }
 }
 
-/// Want of memory is told as `Memory`, any other fault of the closure as it is.
+/// Converts an error of the closure. `Memory` becomes `Memory`. Any other error becomes `TransitiveClosureError`.
 impl From<TcError<EntityUID>> for EntitiesError {
     ghost from_gives = { λ t e. e ≡ refusal_of t };
 
@@ -83,7 +85,7 @@ impl From<TcError<EntityUID>> for EntitiesError {
     }
 }
 
-// The fault with plain uids.
+// Converts the shared uids of an error to plain uids.
 fn unshared(fault: TcError<SharedUid>) -> Result<TcError<EntityUID>, AllocError>
     ensures { IfOk result (λ t. t ≡ fault) }
 {
@@ -111,8 +113,10 @@ fn unshared(fault: TcError<SharedUid>) -> Result<TcError<EntityUID>, AllocError>
     }
 }
 
-/// Want of memory is told as `Memory`, any other fault of the closure as it is with plain uids. A uid that is still
-/// shared is copied: where memory is wanted for that, `Memory` is told.
+/// Converts an error of the closure, with plain uids in place of the shared ones. A uid that is still shared is copied.
+///
+/// `Memory` becomes `Memory`. Any other error becomes `TransitiveClosureError`. If the allocation of a copy fails, the
+/// result is `Memory` too.
 impl From<TcError<SharedUid>> for EntitiesError {
     ghost from_gives = { λ t e. Tells t e };
 

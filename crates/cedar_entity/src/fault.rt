@@ -1,16 +1,15 @@
-//! What may be wrong with an entity, as one list of checks tells it: what `Entity::validate` refuses and
-//! `Entity::is_valid` looks for.
+//! The faults of an entity. `Entity::validate` and `Entity::is_valid` search for the first one.
 
 use cedar_ids::entity::EntityUID;
 
-// What is wrong with an entity, in the order in which it is looked for; nothing is copied.
+// A fault of an entity, in the order of the checks. Nothing is copied.
 #[derive(Debug, Drop)]
 pub(crate) enum Fault<'a> {
-    // It is its own ancestor.
+    // The entity is its own ancestor.
     SelfAncestor,
-    // This parent is an indirect ancestor too.
+    // This parent is also an indirect ancestor.
     DuplicateAncestor(&'a EntityUID),
-    // It is an action, and this ancestor is none.
+    // The entity is an action, and this ancestor is not.
     ActionParentIsNotAction(&'a EntityUID),
     // A record in a value has this key.
     ReservedKey(&'a str),

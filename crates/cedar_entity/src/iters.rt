@@ -1,4 +1,4 @@
-//! The iterators of an entity. Contracts see each as the list of what it has left.
+//! The iterators of an entity. In contracts, an iterator is the list of its remaining items.
 ghost use Rattle.std.specs.Prelude.{◌≡◌, ◌++◌, List, string_bytes, map};
 ghost use Rattle.std.specs.Iterator.{YieldsFirstRef, YieldsFirstBy, item_count};
 ghost use Rattle.cedar_entity.specs.Fields.{KeysAscend, fields_of, field_keys};
@@ -12,7 +12,7 @@ use std::collections::{BTreeMap, btree_map};
 use std::marker::Model;
 use std::slice;
 
-/// The keys of attributes or of tags, in byte order.
+/// An iterator over the keys of attributes or tags, in byte order.
 #[derive(Drop)]
 pub struct Keys<'a> {
     inner: btree_map::Keys<'a, String, PartialValue>,
@@ -27,7 +27,6 @@ impl<'a> Model for Keys<'a> {
 }
 
 impl<'a> Keys<'a> {
-    // The keys of these.
     pub(crate) fn of(fields: &'a BTreeMap<String, PartialValue>) -> Keys<'a>
         ensures keys { result ≡ field_keys (fields_of fields.now.entries) }
         ensures ascending { KeysAscend (fields_of fields.now.entries) }
@@ -51,7 +50,7 @@ impl<'a> Iterator for Keys<'a> {
     }
 }
 
-/// Attributes or tags with their keys, in byte order of the keys.
+/// An iterator over attributes or tags with their keys, in byte order of the keys.
 #[derive(Drop)]
 pub struct Pairs<'a> {
     inner: btree_map::Iter<'a, String, PartialValue>,
@@ -69,7 +68,6 @@ impl<'a> Model for Pairs<'a> {
 }
 
 impl<'a> Pairs<'a> {
-    // The pairs of these.
     pub(crate) fn of(fields: &'a BTreeMap<String, PartialValue>) -> Pairs<'a>
         ensures pairs { result ≡ fields_of fields.now.entries }
         ensures ascending { KeysAscend (fields_of fields.now.entries) }
@@ -93,7 +91,7 @@ impl<'a> Iterator for Pairs<'a> {
     }
 }
 
-/// The shared uids of one set, then those of another, each in the order of uids.
+/// An iterator over the shared uids of two sets, one after the other, each in ascending order of uid.
 #[derive(Drop)]
 pub struct SharedUids<'a> {
     first: slice::Iter<'a, SharedUid>,
@@ -115,7 +113,6 @@ impl<'a> Model for SharedUids<'a> {
 }
 
 impl<'a> SharedUids<'a> {
-    // Those of one list, then those of the other.
     pub(crate) fn of(first: &'a [SharedUid], others: &'a [SharedUid]) -> SharedUids<'a>
         ensures { result ≡ first.now ++ others.now }
     {
@@ -147,7 +144,7 @@ impl<'a> Iterator for SharedUids<'a> {
     }
 }
 
-/// The uids of one set, then those of another, each in the order of uids.
+/// An iterator over the uids of two sets, one after the other, each in ascending order of uid.
 #[derive(Drop)]
 pub struct Ancestors<'a> {
     parents: Uids<'a>,
@@ -168,7 +165,6 @@ impl<'a> Model for Ancestors<'a> {
 }
 
 impl<'a> Ancestors<'a> {
-    // The uids of a set, then those of another.
     pub(crate) fn of(parents: &'a UidSet, indirect: &'a UidSet) -> Ancestors<'a>
         ensures { ListsBoth parents.now indirect.now result }
     {

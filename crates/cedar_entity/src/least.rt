@@ -1,4 +1,4 @@
-//! The least uid of those in a set that pass a test.
+//! The least uid of a set that passes a test.
 ghost use Rattle.std.specs.Prelude.{◌≡◌, not, ◌&&◌};
 ghost use Rattle.std.specs.FinSet as set;
 ghost use Rattle.std.specs.List.{find};
@@ -9,21 +9,22 @@ ghost use Rattle.cedar_entity.specs.Validity.{is_action};
 use cedar_ids::entity::EntityUID;
 use cedar_uid_sets::{SharedUid, UidSet};
 
-// The first of these that a set has.
+// Returns the first of the uids that is also in the other set.
 fn first_common<'a>(uids: &'a [SharedUid], other: &UidSet) -> Option<&'a SharedUid>
     ensures { option_copied result ≡ find (set.contains other.now) uids.now }
 {
     uids.iter().find(|shared| other.contains_shared(shared))
 }
 
-// The first of these that is no action's.
+// Returns the first of the uids that is not an action.
 fn first_non_action(uids: &[SharedUid]) -> Option<&SharedUid>
     ensures { option_copied result ≡ find (λ q. not (is_action q)) uids.now }
 {
     uids.iter().find(|shared| !shared.uid().is_action())
 }
 
-// The least uid that is in both sets: the first of the one that the other has.
+// Returns the least uid that is in both sets. The uids of `one` are ascending, so the first one that is in `other` is
+// the least.
 pub(crate) fn least_common<'a>(one: &'a UidSet, other: &UidSet) -> Option<&'a EntityUID>
     ensures { LeastOf
         (λ q. set.contains one.now q && set.contains other.now q)
@@ -35,7 +36,7 @@ pub(crate) fn least_common<'a>(one: &'a UidSet, other: &UidSet) -> Option<&'a En
     }
 }
 
-// The least uid of a set that is no action's: the first.
+// Returns the least uid of a set that is not an action.
 pub(crate) fn least_non_action(uids: &UidSet) -> Option<&EntityUID>
     ensures { LeastOf (λ q. set.contains uids.now q && not (is_action q)) (option_copied result) }
 {

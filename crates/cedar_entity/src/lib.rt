@@ -1,8 +1,10 @@
-//! One entity: what it holds, how it compares, when it is valid, how it is written, and how it is a node of a graph.
+//! A single entity: its content, comparison, validity and text form, and its role as a node of a graph.
 //!
-//! Proved: each reader and mutator of [`Entity`] as a step on a uid, two lists of fields with ascending keys and two
-//! sets of uids; that `validate` names the first fault in a stated order; that [`Entity`] and [`SharedEntity`] are
-//! lawful nodes, whose edges are the ancestors. The store of entities stands above, in `cedar_entities`.
+//! Proved: the effect of each accessor and each change of [`Entity`] on a uid, two lists of fields with ascending keys,
+//! and two sets of uids. Also proved: `validate` reports the first fault in its stated order. [`Entity`] and
+//! [`SharedEntity`] are lawful nodes whose edges are the ancestors.
+//!
+//! The crate `cedar_entities` provides the store of entities.
 #![tactic(auto, using(cedar_ids::specs::laws::UidOfLaws::same_uid_decides))]
 
 pub mod entity;

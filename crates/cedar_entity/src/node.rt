@@ -1,4 +1,4 @@
-//! Entities as nodes of a graph: their edges are their ancestors, and their parents are the direct ones.
+//! Entities as nodes of a graph. The edges are the ancestors, and the direct edges are the parents.
 ghost use Rattle.std.specs.Prelude.{◌≡◌, IfOk, OnOk, OnErr, map};
 ghost use Rattle.std.specs.FinSet as set;
 ghost use Rattle.std.specs.Set.{is_member};
@@ -13,14 +13,14 @@ use cedar_ids::entity::EntityUID;
 use std::alloc::{AllocError, Global};
 use std::rc::Rc;
 
-// What an iterator has left, as a list.
+// Collects the remaining items of an iterator.
 fn listed<'a>(alloc: Global, uids: Ancestors<'a>) -> Result<Vec<&'a EntityUID>, AllocError>
     ensures { IfOk result (λ v. map (λ x. x.now) v.items ≡ uids.entry) }
 {
     uids.collect(alloc)
 }
 
-// Takes all indirect ancestors away.
+// Removes all indirect ancestors.
 pub(crate) fn reset(entity: &mut Entity)
     ensures exact { entity.new ≡ record entity.old { indirect = set.empty } }
     ensures edges { (q : EntityUID) → has_ancestor entity.new q ≡ set.contains entity.old.parents q }
@@ -48,32 +48,40 @@ impl TCNode<EntityUID> for Entity {
 
     ghost kept = { kept };
 
-    /// A copy of the uid. It takes memory, and is refused only where that is.
+    /// Returns a copy of the uid.
+    ///
+    /// # Errors
+    ///
+    /// Returns `AllocError` if an allocation fails.
     fn get_key(&self, _alloc: Global) -> Result<EntityUID, AllocError> {
         self.uid().clone()
     }
 
-    /// As [`Entity::add_indirect_ancestor`].
+    /// Inserts an indirect ancestor; see [`Entity::add_indirect_ancestor`].
     fn add_edge_to(&mut self, _alloc: Global, k: EntityUID) -> Result<(), AllocError> {
         self.add_indirect_ancestor(k)
     }
 
-    /// The ancestors. It takes memory for the list, and is refused only where that is.
+    /// Lists the ancestors.
+    ///
+    /// # Errors
+    ///
+    /// Returns `AllocError` if an allocation fails.
     fn out_edges(&self, alloc: Global) -> Result<Vec<&EntityUID>, AllocError> {
         listed(alloc, self.ancestors())
     }
 
-    /// As [`Entity::is_descendant_of`].
+    /// Returns whether `k` is an ancestor; see [`Entity::is_descendant_of`].
     fn has_edge_to(&self, k: &EntityUID) -> bool {
         self.is_descendant_of(k)
     }
 
-    /// Whether there is an ancestor. It takes no memory.
+    /// Returns whether there is an ancestor. Does not allocate.
     fn may_have_edges(&self) -> bool {
         self.has_ancestors()
     }
 
-    /// As [`Entity::remove_all_indirect_ancestors`]. It takes no memory and is never refused.
+    /// Removes all indirect ancestors. Never fails. Does not allocate.
     fn reset_edges(&mut self, _alloc: Global) -> Result<(), AllocError>
         ensures exact { self.new ≡ record self.old { indirect = set.empty } }
         ensures ok { OnOk result ((q : _) →
@@ -89,7 +97,11 @@ impl TCNode<EntityUID> for Entity {
         Ok(())
     }
 
-    /// The parents alone. It takes memory for the list, and is refused only where that is.
+    /// Lists the parents only.
+    ///
+    /// # Errors
+    ///
+    /// Returns `AllocError` if an allocation fails.
     fn direct_edges(&self, alloc: Global) -> Result<Vec<&EntityUID>, AllocError>
         ensures exact { IfOk result (λ v. (q : _) →
             is_member same_uid (map (λ x. x.now) v.items) q ≡ set.contains self.now.parents q) }
@@ -102,8 +114,7 @@ impl TCNode<EntityUID> for Entity {
     ghost direct_are_edges = { parents_are_ancestors };
 }
 
-/// An entity that stores share. A copy shares it too; a change first makes an entity of one's own where it
-/// is shared.
+/// A shared entity. Stores can share it, and `clone` shares it too. A change of a shared entity first copies it.
 #[derive(Clone, Debug, Drop)]
 pub struct SharedEntity(pub Rc<Entity>);
 
@@ -127,12 +138,16 @@ impl TCNode<EntityUID> for SharedEntity {
 
     ghost kept = { λ n. kept n.0.value };
 
-    /// A copy of the uid. It takes memory, and is refused only where that is.
+    /// Returns a copy of the uid.
+    ///
+    /// # Errors
+    ///
+    /// Returns `AllocError` if an allocation fails.
     fn get_key(&self, alloc: Global) -> Result<EntityUID, AllocError> {
         self.0.get_key(alloc)
     }
 
-    /// As that of the entity, where it is shared on a copy of its own.
+    /// Inserts an indirect ancestor. If the entity is shared, it is copied first.
     fn add_edge_to(&mut self, alloc: Global, k: EntityUID) -> Result<(), AllocError> {
         match Rc::get_mut(&mut self.0) {
             Some(entity) => entity.add_edge_to(alloc, k),
@@ -140,22 +155,30 @@ impl TCNode<EntityUID> for SharedEntity {
         }
     }
 
-    /// The ancestors. It takes memory for the list, and is refused only where that is.
+    /// Lists the ancestors.
+    ///
+    /// # Errors
+    ///
+    /// Returns `AllocError` if an allocation fails.
     fn out_edges(&self, alloc: Global) -> Result<Vec<&EntityUID>, AllocError> {
         self.0.out_edges(alloc)
     }
 
-    /// As that of the entity. It takes no memory.
+    /// Returns whether `k` is an ancestor. Does not allocate.
     fn has_edge_to(&self, k: &EntityUID) -> bool {
         self.0.has_edge_to(k)
     }
 
-    /// As that of the entity. It takes no memory.
+    /// Returns whether there is an ancestor. Does not allocate.
     fn may_have_edges(&self) -> bool {
         self.0.has_ancestors()
     }
 
-    /// As that of the entity, where it is shared on a copy of its own: that takes memory.
+    /// Removes all indirect ancestors. If the entity is shared, it is copied first.
+    ///
+    /// # Errors
+    ///
+    /// Returns `AllocError` if the allocation of the copy fails.
     fn reset_edges(&mut self, _alloc: Global) -> Result<(), AllocError>
         ensures exact { OnOk result
             (self.new.0.value ≡ record self.old.0.value { indirect = set.empty }) }
@@ -173,7 +196,11 @@ impl TCNode<EntityUID> for SharedEntity {
         Ok(())
     }
 
-    /// The parents alone. It takes memory for the list, and is refused only where that is.
+    /// Lists the parents only.
+    ///
+    /// # Errors
+    ///
+    /// Returns `AllocError` if an allocation fails.
     fn direct_edges(&self, alloc: Global) -> Result<Vec<&EntityUID>, AllocError>
         ensures exact { IfOk result (λ v. (q : _) → is_member same_uid (map (λ x. x.now) v.items) q
             ≡ set.contains self.now.0.value.parents q) }

@@ -1,4 +1,4 @@
-//! The first reserved key that a walk of a value meets. It takes no memory, and recurses once a level.
+//! The search for the first reserved key in a value. It does not allocate, and recurses once per level.
 ghost use Rattle.std.specs.Prelude.{◌≡◌};
 ghost use Rattle.std.specs.Option.{option_copied};
 ghost use Rattle.cedar_terms.specs.ValueTree.{value_trees};
@@ -10,7 +10,7 @@ ghost use Rattle.cedar_entity.specs.Validity.{reserved_in_fields};
 use cedar_terms::{PartialValue, Value, ValueKind, is_reserved_key};
 use std::collections::BTreeMap;
 
-// The first in a value.
+// Returns the first reserved key in a value.
 #[cycle(find)]
 fn in_value<'a>(value: &'a Value) -> Option<&'a str>
     ensures { option_copied result ≡ reserved_in value.now }
@@ -23,7 +23,7 @@ fn in_value<'a>(value: &'a Value) -> Option<&'a str>
     }
 }
 
-// The first in the elements of a set.
+// Returns the first reserved key in the elements of a set.
 #[cycle(find)]
 fn in_elements<'a>(elements: &'a Vec<Value>) -> Option<&'a str>
     ensures { option_copied result ≡ reserved_in_all (value_trees elements.now.items) }
@@ -36,7 +36,7 @@ fn in_elements<'a>(elements: &'a Vec<Value>) -> Option<&'a str>
     None
 }
 
-// The first in a record: among its keys and, after each key, in its value.
+// Returns the first reserved key in a record. Each key is checked before its value is searched.
 #[cycle(find)]
 fn in_record<'a>(fields: &'a BTreeMap<String, Value>) -> Option<&'a str>
     ensures { option_copied result ≡ reserved_in_record (field_trees fields.now.entries) }
@@ -53,7 +53,7 @@ fn in_record<'a>(fields: &'a BTreeMap<String, Value>) -> Option<&'a str>
     None
 }
 
-// The first in a value; none in a residual.
+// Returns the first reserved key in a value. A residual is skipped.
 fn in_partial<'a>(value: &'a PartialValue) -> Option<&'a str>
     ensures { option_copied result ≡ reserved_in_partial value.now }
 {
@@ -63,7 +63,7 @@ fn in_partial<'a>(value: &'a PartialValue) -> Option<&'a str>
     }
 }
 
-// The first in attributes or tags, key by key.
+// Returns the first reserved key in attributes or tags, in the order of their keys.
 pub(crate) fn in_fields<'a>(fields: &'a BTreeMap<String, PartialValue>) -> Option<&'a str>
     ensures { option_copied result ≡ reserved_in_fields (fields_of fields.now.entries) }
 {

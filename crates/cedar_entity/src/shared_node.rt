@@ -1,4 +1,4 @@
-//! Entities that stores share as nodes of a graph whose keys are shared uids, as a store closes it.
+//! Shared entities as nodes of a graph whose keys are shared uids. A store closes this graph.
 ghost use Rattle.std.specs.Prelude.{◌≡◌, ◌||◌, IfOk, OnOk, OnErr, map, length};
 ghost use Rattle.std.specs.List.{range_with_len};
 ghost use Rattle.std.specs.List.Sorted.{IsPermutation};
@@ -19,7 +19,7 @@ use std::alloc::{AllocError, Global};
 use std::mem;
 use std::rc::Rc;
 
-// What an iterator has left, as a list.
+// Collects the remaining items of an iterator.
 fn listed_pointers<'a>(
     alloc: Global,
     uids: SharedUids<'a>,
@@ -29,7 +29,7 @@ fn listed_pointers<'a>(
     uids.collect(alloc)
 }
 
-// Puts what an iterator has left in the place of what a list has.
+// Replaces the content of a list by the remaining items of an iterator.
 fn relist<'a>(list: &mut Vec<&'a SharedUid>, uids: SharedUids<'a>) -> Result<(), AllocError>
     ensures { OnOk result (map (λ x. x.now) list.new.items ≡ uids.entry) }
 {
@@ -37,7 +37,7 @@ fn relist<'a>(list: &mut Vec<&'a SharedUid>, uids: SharedUids<'a>) -> Result<(),
     list.extend(uids)
 }
 
-// The places of the keys in the order of uids.
+// Returns the positions of the keys in ascending order of uid.
 fn order(alloc: Global, keys: &[SharedUid]) -> Result<Vec<usize>, AllocError>
     ensures { IfOk result (λ v. IsPermutation (range_with_len 0 (length keys.now)) v.items) }
 {
@@ -46,14 +46,14 @@ fn order(alloc: Global, keys: &[SharedUid]) -> Result<Vec<usize>, AllocError>
     Ok(places)
 }
 
-// Takes the keys out of a vector.
+// Moves the keys out of a vector.
 fn taken(alloc: Global, keys: &mut Vec<SharedUid>) -> Vec<SharedUid>
     ensures { result.items ≡ keys.old.items }
 {
     mem::replace(keys, Vec::new(alloc))
 }
 
-// Takes in a uid, unless it is a parent, as an indirect ancestor.
+// Inserts a uid as an indirect ancestor, unless it is a parent.
 fn add_pointer(entity: &mut Entity, shared: SharedUid) -> Result<(), AllocError>
     ensures ok { OnOk result ((q : EntityUID) → has_ancestor entity.new q
         ≡ (has_ancestor entity.old q || same_uid shared q)) }
@@ -66,7 +66,7 @@ fn add_pointer(entity: &mut Entity, shared: SharedUid) -> Result<(), AllocError>
     entity.add_shared_ancestor(shared)
 }
 
-// Takes in the keys of a vector, but for parents, as indirect ancestors.
+// Inserts the keys of a vector as indirect ancestors, except parents.
 fn add_row(alloc: Global, entity: &mut Entity, keys: &mut Vec<SharedUid>) -> Result<(), AllocError>
     ensures ok { OnOk result ((q : EntityUID) → has_ancestor entity.new q
         ≡ (has_ancestor entity.old q || is_member same_uid keys.old.items q)) }
@@ -80,7 +80,7 @@ fn add_row(alloc: Global, entity: &mut Entity, keys: &mut Vec<SharedUid>) -> Res
     entity.add_shared_ancestors(keys)
 }
 
-// Takes in the keys of a vector, none of which is an ancestor, as indirect ancestors.
+// Inserts the keys of a vector as indirect ancestors. None of them may be an ancestor already.
 fn add_new_row(
     alloc: Global,
     entity: &mut Entity,
@@ -119,12 +119,17 @@ impl TCNode<SharedUid> for SharedEntity {
 
     ghost kept = { λ n. kept n.0.value };
 
-    /// A copy of the uid. It takes memory, and is refused only where that is.
+    /// Returns a copy of the uid, as a shared uid.
+    ///
+    /// # Errors
+    ///
+    /// Returns `AllocError` if an allocation fails.
     fn get_key(&self, alloc: Global) -> Result<SharedUid, AllocError> {
         SharedUid::copy_of(alloc, self.0.uid())
     }
 
-    /// As [`Entity::add_indirect_ancestor`], but for sharing the uid; where the entity is shared on a copy of its own.
+    /// Inserts an indirect ancestor without copying the uid; see [`Entity::add_indirect_ancestor`]. If the entity is
+    /// shared, it is copied first.
     fn add_edge_to(&mut self, _alloc: Global, k: SharedUid) -> Result<(), AllocError> {
         match Rc::get_mut(&mut self.0) {
             Some(entity) => add_pointer(entity, k),
@@ -132,13 +137,21 @@ impl TCNode<SharedUid> for SharedEntity {
         }
     }
 
-    /// The ancestors. It takes memory for the list, and is refused only where that is.
+    /// Lists the ancestors.
+    ///
+    /// # Errors
+    ///
+    /// Returns `AllocError` if an allocation fails.
     fn out_edges(&self, alloc: Global) -> Result<Vec<&SharedUid>, AllocError> {
         listed_pointers(alloc, self.0.shared_ancestors())
     }
 
-    /// The ancestors, the parents last, in the place of what the list has. It takes memory where the list has no room
-    /// for as many, and is refused only where that is.
+    /// Replaces the content of `list` by the ancestors, parents last. Allocates only if the list has too little
+    /// capacity.
+    ///
+    /// # Errors
+    ///
+    /// Returns `AllocError` if an allocation fails.
     fn list_edges<'a>(
         &'a self,
         _alloc: Global,
@@ -147,17 +160,21 @@ impl TCNode<SharedUid> for SharedEntity {
         relist(list, self.0.ancestors_parents_last())
     }
 
-    /// As [`Entity::is_descendant_of_shared`]. It takes no memory.
+    /// Returns whether `k` is an ancestor; see [`Entity::is_descendant_of_shared`]. Does not allocate.
     fn has_edge_to(&self, k: &SharedUid) -> bool {
         self.0.is_descendant_of_shared(k)
     }
 
-    /// Whether there is an ancestor. It takes no memory.
+    /// Returns whether there is an ancestor. Does not allocate.
     fn may_have_edges(&self) -> bool {
         self.0.has_ancestors()
     }
 
-    /// As [`Entity::remove_all_indirect_ancestors`], where the entity is shared on a copy of its own: that takes memory.
+    /// Removes all indirect ancestors. If the entity is shared, it is copied first.
+    ///
+    /// # Errors
+    ///
+    /// Returns `AllocError` if the allocation of the copy fails.
     fn reset_edges(&mut self, _alloc: Global) -> Result<(), AllocError>
         ensures exact { OnOk result
             (self.new.0.value ≡ record self.old.0.value { indirect = set.empty }) }
@@ -175,7 +192,11 @@ impl TCNode<SharedUid> for SharedEntity {
         Ok(())
     }
 
-    /// The parents alone. It takes memory for the list, and is refused only where that is.
+    /// Lists the parents only.
+    ///
+    /// # Errors
+    ///
+    /// Returns `AllocError` if an allocation fails.
     fn direct_edges(&self, alloc: Global) -> Result<Vec<&SharedUid>, AllocError>
         ensures exact { IfOk result (λ v. (q : _) → is_member same_uid (map (λ x. x.now) v.items) q
             ≡ set.contains self.now.0.value.parents q) }
@@ -183,19 +204,23 @@ impl TCNode<SharedUid> for SharedEntity {
         listed_pointers(alloc, self.0.shared_parents())
     }
 
-    /// The places of the keys in the order of uids. It takes memory, and is refused only where that is.
+    /// Returns the positions of the keys in ascending order of uid.
+    ///
+    /// # Errors
+    ///
+    /// Returns `AllocError` if an allocation fails.
     fn order(alloc: Global, keys: &[SharedUid]) -> Result<Vec<usize>, AllocError> {
         order(alloc, keys)
     }
 
-    /// Takes in the uids, but for parents, as indirect ancestors: at once where they ascend; where the entity is shared
-    /// on a copy of its own.
+    /// Inserts the uids as indirect ancestors, except parents. Ascending uids are inserted in one pass. If the entity
+    /// is shared, it is copied first.
     fn add_edges_to(&mut self, alloc: Global, keys: &mut Vec<SharedUid>) -> Result<(), AllocError> {
         add_row(alloc, Rc::make_mut(&mut self.0)?, keys)
     }
 
-    /// Takes in the uids, none of which is an ancestor yet, as indirect ancestors: at once where they ascend; where the
-    /// entity is shared on a copy of its own. It looks for no parent among them.
+    /// Inserts the uids as indirect ancestors. The caller must ensure that none of them is an ancestor, so they are not
+    /// compared with the parents. Ascending uids are inserted in one pass. If the entity is shared, it is copied first.
     fn add_new_edges_to(
         &mut self,
         alloc: Global,

@@ -1,4 +1,4 @@
--- What the store's steps make of its state.
+-- The effect of the commands on the store.
 use Rattle.std.specs.Prelude.{◌≡◌, ◌↔◌, ℕ, List, [], ◌∷◌, ◌++◌, codes, Bool, true, false, ◌||◌, Option, Some, None, map}
 use Rattle.std.specs.Prelude.{not, Result, Ok, Err, IfOk, IfErr}
 use Rattle.std.proofs.Common.{ap, sym, refl, subst, ◌∙◌, inl, inr}
@@ -47,7 +47,7 @@ use Rattle.std.proofs.Common.{append_assoc}
 use Rattle.cedar_entity.specs.laws.UidSets.{kept_in}
 use Rattle.cedar_entity_maps.specs.laws.Lists.{all_push}
 
--- why adding was refused, as it is written
+-- The output of an error of adding.
 pub refused_adds : (base : World) (L : List Given) (e : EntitiesError) (old new : List ℕ)
     → AllByRecursion IsAsciiGiven L → IsAddingRefused base L e → Refused e old new
     → (text : List ℕ) × Adds base L empty_world text × (new ≡ old ++ text)
@@ -64,7 +64,7 @@ refused_adds base L (errors.ActionParentIsNotAction u p) old new ascii h r = abs
 refused_adds base L (errors.ReservedKey k) old new ascii h r = absurd r
 refused_adds base L errors.Memory old new ascii h r = absurd r
 
--- why overwriting was
+-- The output of an error of upserting.
 pub refused_overwrites : (base : World) (L : List Given) (e : EntitiesError) (old new : List ℕ)
     → IsOverwritingRefused base L e → Refused e old new
     → (text : List ℕ) × Overwrites base L empty_world text × (new ≡ old ++ text)
@@ -79,7 +79,7 @@ refused_overwrites base L (errors.ActionParentIsNotAction u p) old new h r = abs
 refused_overwrites base L (errors.ReservedKey k) old new h r = absurd r
 refused_overwrites base L errors.Memory old new h r = absurd r
 
--- the parents that are found have ASCII eids
+-- Whether the parents that are found have ASCII eids.
 abbrev pub ascii_parts : Option Parts → Type 0
 ascii_parts o = IfSome o (λ p. (q : EntityUID) → set.contains p.parents q ≡ true → IsAsciiUid q)
 
@@ -118,7 +118,7 @@ parts_or : (o p : Option Parts) → ascii_parts o → ascii_parts p → ascii_pa
 parts_or None p h k = k
 parts_or (Some x) p h k = h
 
--- a world whose entries have such parents
+-- If the parents of all entries have ASCII eids, the input store satisfies `IsAsciiWorld`.
 from_parts : (W : World) → ((a : EntityUID) → ascii_parts (finmap.get W.entities a)) → IsAsciiWorld W
 from_parts W h a b e = parent_ascii (finmap.get W.entities a) b (h a) e
 
@@ -156,7 +156,7 @@ deleted_ascii W U h =
 pub empty_ascii : IsAsciiWorld empty_world
 empty_ascii a b e = absurd (false≢true (sym (ap (λ o. is_parent_in o b) (finmap.get-empty uid_order a)) ∙ e))
 
--- an entity that waits
+-- The parents of a queued entity have ASCII eids.
 listed_ascii : (ps : List EntityUID) → AreAsciiUids ps → (q : EntityUID) → is_member same_uid ps q ≡ true → IsAsciiUid q
 listed_ascii [] h q m = absurd (false≢true m)
 listed_ascii (p ∷ ps) h q m = elim (or_cases (same_uid q p) (is_member same_uid ps q) m) [
@@ -167,7 +167,7 @@ listed_ascii (p ∷ ps) h q m = elim (or_cases (same_uid q p) (is_member same_ui
 pub given_ascii : (u : EntityUID) (ps : List EntityUID) → AreAsciiUids (u ∷ ps) → IsAsciiGiven (given u ps)
 given_ascii u ps h = (h.0, λ q m. listed_ascii ps h.1 q (sym (contains_listed ps q) ∙ m))
 
--- what is reached is a parent
+-- The last uid of a path is a parent of some uid.
 last_step : (G : EntityUID → EntityUID → Bool) (a b : EntityUID) (xs : List EntityUID) → Path G a xs b
     → (c : EntityUID) × (G c b ≡ true)
 last_step G a b [] p = (a, p)
@@ -181,7 +181,7 @@ all_members P (u ∷ us) h = (
   all_members P us (λ q m. h q (or_right (same_uid q u) _ m)),
 )
 
--- the ancestors of an entity of a plain store
+-- Whether an entity of a plain store has the ancestors that the input store implies.
 abbrev pub FoundAt : World → EntityUID → EntityView → Type 0
 FoundAt W u e = (x : EntityUID) → (has_ancestor e x ≡ true) ↔ Reach (graph W) u x
 
@@ -227,14 +227,14 @@ shows_none W S u plain at =
     × (text ≡ written_line (codes "anc" ++ flat_map field_of uids))) (text ≡ written_line (codes "no entity")))
     (sym (holds_key W S u None plain at)) refl
 
--- no pairs give no fields
+-- A list without pairs has no fields.
 pub no_fields : (fs : Fields) → AreFieldsOf [] fs → fs ≡ []
 no_fields [] h = refl
 no_fields (f ∷ fs) h =
     absurd (false≢true (ap is_some (sym (h.last f.0))
     ∙ ap (λ b. is_some (if b then Some f.1 else field_at f.0 fs)) ((bytes_decides f.0 f.0).1 refl)))
 
--- the store takes an entity
+-- The command `ent`.
 pub ent_takes : (m n : StoreAndWaiting) (s : EntityState) (u : EntityUID) (ps : List EntityUID) (e : EntityView)
     (out : List ℕ) → Holds m s → n.waiting ≡ m.waiting ++ e ∷ [] → n.store ≡ m.store
     → given_of e ≡ given u ps → IsBare e → AreAsciiUids (u ∷ ps) → EntityWrites (Ent u ps) s n out out
@@ -252,7 +252,7 @@ ent_takes m n s u ps e out h items store is bare ascii = (
   sym (append-nil out),
 )
 
--- a world is held, and nothing that waits
+-- A plain store with an empty queue is in the state of its input store.
 pub settled : (n : StoreAndWaiting) (W : World) → n.waiting ≡ [] → IsPlainStore W n.store → IsAsciiWorld W
     → Holds n (record { waiting = []; world = W })
 settled n W none plain ascii = record {
@@ -263,7 +263,7 @@ settled n W none plain ascii = record {
   ascii_world = ascii;
 }
 
--- the store takes an adding
+-- The command `add`.
 pub add_takes : (m n : StoreAndWaiting) (s : EntityState) (list : List EntityView) (store : StoreView)
     (r : Result StoreView EntitiesError) (old new : List ℕ) → Holds m s → list ≡ m.waiting → store ≡ m.store
     → n.waiting ≡ []
@@ -295,7 +295,7 @@ add_takes m n s list store (Err e) old new h same at none adds tells =
       r.2,
     )
 
--- a build is an adding to the store without entities
+-- The command `build`: adding to an empty store.
 pub build_takes : (m n : StoreAndWaiting) (s : EntityState) (old new : List ℕ) → Holds m s → n.waiting ≡ m.waiting
     → IsPlainStore empty_world n.store
     → (o : StoreAndWaiting) → ((t : EntityState) → Holds n t → EntityWrites Add t o old new)
@@ -310,7 +310,7 @@ build_takes m n s old new h same plain o takes =
       ascii_world = empty_ascii;
     })
 
--- the store takes an overwriting
+-- The command `upsert`.
 pub upsert_takes : (m n : StoreAndWaiting) (s : EntityState) (list : List EntityView) (store : StoreView)
     (r : Result StoreView EntitiesError) (old new : List ℕ) → Holds m s → list ≡ m.waiting → store ≡ m.store
     → n.waiting ≡ []
@@ -343,7 +343,7 @@ upsert_takes m n s list store (Err e) old new h same at none upserts tells =
       r.2,
     )
 
--- the store takes a removal
+-- The command `remove`.
 pub remove_takes : (m n : StoreAndWaiting) (s : EntityState) (us : List EntityUID) (store : StoreView)
     (r : Result StoreView EntitiesError) (old new : List ℕ) → Holds m s → store ≡ m.store → n.waiting ≡ m.waiting
     → ((W : World) → IsPlainStore W store → RemovesPlain W us r)
@@ -366,7 +366,7 @@ remove_takes m n s us store (Err e) old new h at same removes tells =
     let given = removes s.world (subst (IsPlainStore s.world) (sym at) h.plain) in
     absurd (subst (λ x. Refused x old new) given.err tells.1)
 
--- the store takes a slice
+-- The command `slice`.
 pub slice_takes : (m n : StoreAndWaiting) (s : EntityState) (us : List EntityUID) (r : Result StoreView EntitiesError)
     (old new : List ℕ) → Holds m s → n.waiting ≡ m.waiting
     → IfOk r (λ S. (W : World) → IsPlainStore W m.store → IsPlainSlice W us S)
@@ -389,12 +389,12 @@ slice_takes m n s us (Ok S) old new h same ok err tells =
     )
 slice_takes m n s us (Err e) old new h same ok err tells = absurd (subst (λ x. Refused x old new) err tells.1)
 
--- the ancestors are written
+-- The command `anc`.
 pub anc_takes : (m : StoreAndWaiting) (s : EntityState) (u : EntityUID) (old new : List ℕ) → Holds m s
     → (text : List ℕ) × ShowsAncestors s.world u text × (new ≡ old ++ text) → EntityWrites (Anc u) s m old new
 anc_takes m s u old new h k = (s, k.0, (refl, k.1), h, k.2)
 
--- one field more is written, and the others are left
+-- The step of one written field.
 pub fields_left : (x : EntityUID) (left all : List EntityUID) (start now new : List ℕ)
     → AreAsciiUids (x ∷ left) × (now ++ flat_map field_of (x ∷ left) ≡ start ++ flat_map field_of all) →
     (IsAsciiUid x → new ≡ now ++ field_of x)

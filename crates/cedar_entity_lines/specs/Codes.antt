@@ -1,4 +1,4 @@
--- How a proof tells stores with what waits for them apart.
+-- A code for a store with its queue, which determines both.
 use Rattle.std.specs.Prelude.{List, refl}
 use Rattle.std.specs.Coded.{Coded, code_by, coded×, coded_list}
 use Rattle.cedar_entity.specs.Codes.{view_code}
@@ -7,7 +7,7 @@ use Rattle.cedar_entities.specs.Codes.{store_code}
 use Rattle.cedar_entity_maps.specs.Plain.{StoreView}
 use Rattle.cedar_entity_lines.specs.Holding.{StoreAndWaiting}
 
--- the entities that wait, and the store
+-- The code of the queued entities and the store.
 abbrev pub waiting_code : Coded StoreAndWaiting
 waiting_code =
     code_by (List EntityView × StoreView) (coded× (coded_list view_code) store_code) (λ m. (m.waiting, m.store))

@@ -1,10 +1,18 @@
--- The commands of the program on the store, and which fields are which.
+-- The commands on the store of entities, and the fields of each command. The fields of a line are separated by tabs.
 use Rattle.std.specs.Prelude.{◌≡◌, ℕ, List, [], ◌∷◌, codes}
 use Rattle.cedar_ids.specs.TextOf.{IsPrinted}
 use Rattle.cedar_ids.specs.UidOf.{uid_parts}
 use Rattle.cedar_ids.specs.declared.entity.EntityUID.{EntityUID}
 
--- `ent` with a uid and its parents; `build`; `add`; `upsert`; `remove` and `slice` with uids; `anc` with a uid
+-- A command on the store:
+--
+-- - `Ent`: queues an entity with this uid and these parents.
+-- - `Build`: replaces the store by a store of the queued entities.
+-- - `Add`: adds the queued entities to the store.
+-- - `Upsert`: adds the queued entities, and replaces entities with the same uids.
+-- - `Remove`: removes the entities with these uids.
+-- - `Slice`: replaces the store by its slice at these uids.
+-- - `Anc`: writes the ancestors of the entity with this uid.
 pub data EntityCommand : Type 0 where
   Ent : EntityUID → List EntityUID → EntityCommand
   Build : EntityCommand
@@ -14,19 +22,20 @@ pub data EntityCommand : Type 0 where
   Slice : List EntityUID → EntityCommand
   Anc : EntityUID → EntityCommand
 
--- the texts are those of the uids, one by one; each eid is ASCII
+-- Whether these are the texts of the uids, in order. The eid of each uid is ASCII.
 abbrev pub AreTexts : List EntityUID → List (List ℕ) → Type 0
 AreTexts [] [] = Unit {0}
 AreTexts [] (t ∷ ts) = ⊥
 AreTexts (u ∷ us) [] = ⊥
 AreTexts (u ∷ us) (t ∷ ts) = IsPrinted (uid_parts u) t × AreTexts us ts
 
--- the fields are a word and the texts of the uids
+-- Whether the fields are this word and then the texts of the uids.
 abbrev pub AreFields : List ℕ → List EntityUID → List (List ℕ) → Type 0
 AreFields word us [] = ⊥
 AreFields word us (f ∷ fs) = (f ≡ word) × AreTexts us fs
 
--- the fields are those of the command; a removal, and a slice, names one uid or more
+-- Whether these fields are a line of this command. `remove` and `slice` have at least one uid. Example: the fields
+-- `ent`, `A::"a"` and `A::"b"` queue the entity `A::"a"` with the parent `A::"b"`.
 abbrev pub IsEntityCommand : EntityCommand → List (List ℕ) → Type 0
 IsEntityCommand (Ent u ps) fs = AreFields (codes "ent") (u ∷ ps) fs
 IsEntityCommand Build fs = AreFields (codes "build") [] fs

@@ -1,4 +1,7 @@
--- What the commands on the store make of it and of the entities that wait, and what they write.
+-- The effect of the commands on the store and on the queued entities, and their output.
+--
+-- A store is represented by its input store, the `World`: the entities as they were given, with parents but without
+-- computed ancestors.
 use Rattle.std.specs.Prelude.{◌≡◌, ◌↔◌, ◌⊎◌, ℕ, List, [], ◌∷◌, ◌++◌, true, codes}
 use Rattle.std.specs.Bool.{MatchBool}
 use Rattle.std.specs.List.{flat_map}
@@ -17,25 +20,30 @@ use Rattle.cedar_entities.specs.Calls as calls
 use Rattle.cedar_slice.specs.Slices.{IsSliceOf}
 use Rattle.cedar_entity_lines.specs.EntityCommand.{EntityCommand, Ent, Build, Add, Upsert, Remove, Slice, Anc}
 
--- what waits for a call on the store, and the world that the store holds
+-- The queued entities, and the input store.
 pub record EntityState : Type 0 where
   pub waiting : List Given
   pub world : World
 
--- nothing waits, and the store is empty
+-- The initial state: the queue and the store are empty.
 abbrev pub no_entity : EntityState
 no_entity = record { waiting = []; world = empty_world }
 
--- the text of a uid
+-- The text of a uid.
 abbrev pub uid_text : EntityUID → List ℕ
 uid_text u = printed_uid (uid_parts u)
 
--- how many entities there are
+-- The line of a successful call: `ok` and the number of entities.
 abbrev pub count_line : World → List ℕ
 count_line W = written_line (codes "ok " ++ decimal (finmap.len W.entities))
 
--- the list was added to the world `base`: W stands, and `out` is written. A differing duplicate is refused
--- first, whatever the graph, then a cycle; either leaves the empty world
+-- Whether adding the list `L` to the input store `base` leads to the input store `W` and writes `out`. There are three
+-- cases, and the first that applies decides:
+--
+-- - An entity of the list differs from the entity of `base` with its uid or, if there is none, from the first one of
+--   the list. The output is a duplicate error with the first such uid. The store is empty then.
+-- - The new graph has a cycle. The output is a cycle error, and the store is empty then.
+-- - Otherwise `W` is the input store with the list added. The output is the number of its entities.
 abbrev pub Adds : World → List Given → World → List ℕ → Type 0
 Adds base L W out =
     ((u : EntityUID) × FirstDiffers base L u × (W ≡ empty_world)
@@ -44,37 +52,40 @@ Adds base L W out =
     × (out ≡ written_line (codes "refused: cycle")))
     ⊎ (Passes base (calls.Add L) × (W ≡ made base (calls.Add L)) × (out ≡ count_line W)))
 
--- the list was put over the world `base`. A cycle is refused, and leaves the empty world
+-- Whether upserting the list `L` into the input store `base` leads to the input store `W` and writes `out`. A cycle is
+-- an error, and the store is empty then.
 abbrev pub Overwrites : World → List Given → World → List ℕ → Type 0
 Overwrites base L W out =
     (IsCyclic (made base (calls.Upsert L)) × (W ≡ empty_world) × (out ≡ written_line (codes "refused: cycle")))
     ⊎ (Passes base (calls.Upsert L) × (W ≡ made base (calls.Upsert L)) × (out ≡ count_line W))
 
--- the uids were taken out of the world `base`, which nothing refuses
+-- Whether removing the uids `U` from the input store `base` leads to `W` and writes `out`. A removal never fails.
 abbrev pub Deletes : World → List EntityUID → World → List ℕ → Type 0
 Deletes base U W out = (W ≡ made base (calls.Remove U)) × (out ≡ count_line W)
 
--- the world became its slice at the uids, which nothing refuses
+-- Whether slicing the input store `base` at the uids `U` leads to `W` and writes `out`. A slice never fails.
 abbrev pub Slices : World → List EntityUID → World → List ℕ → Type 0
 Slices base U W out = IsSliceOf base U W × (out ≡ count_line W)
 
--- a tab and the text of a uid
+-- A tab and the text of a uid.
 abbrev pub field_of : EntityUID → List ℕ
 field_of u = 9 ∷ uid_text u
 
--- the uids ascend in their order, each once, and are exactly those that u reaches over the parents
+-- Whether `uids` are the ancestors of `u` in an input store. They are exactly the uids that `u` reaches over parents,
+-- in strictly ascending order.
 pub record AreAncestors (W : World) (u : EntityUID) (uids : List EntityUID) : Type 0 where
   pub ascend : IsStrictlySortedBy uid_order uids
   pub reached : (q : EntityUID) → (is_member same_uid uids q ≡ true) ↔ Reach (graph W) u q
 
--- the ancestors of an entity that the world holds
+-- Whether `out` is the line with the ancestors of `u`, or `no entity` if the input store has no entity with that uid.
 abbrev pub ShowsAncestors : World → EntityUID → List ℕ → Type 0
 ShowsAncestors W u out =
     MatchBool (finmap.contains_key W.entities u)
     ((uids : List EntityUID) × AreAncestors W u uids × (out ≡ written_line (codes "anc" ++ flat_map field_of uids)))
     (out ≡ written_line (codes "no entity"))
 
--- the state that a command leaves, and what it writes
+-- Whether a command changes the state `s` to the state `t` and writes `out`. `build`, `add` and `upsert` empty the
+-- queue.
 abbrev pub EntityGives : EntityCommand → EntityState → EntityState → List ℕ → Type 0
 EntityGives (Ent u ps) s t out = (t ≡ record { waiting = s.waiting ++ given u ps ∷ []; world = s.world }) × (out ≡ [])
 EntityGives Build s t out = (t.waiting ≡ []) × Adds empty_world s.waiting t.world out

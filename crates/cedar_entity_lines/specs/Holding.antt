@@ -1,4 +1,4 @@
--- The state that the program's store holds.
+-- The state of the program's store.
 use Rattle.std.specs.Prelude.{◌≡◌, ℕ, Bool, true, false, List, ◌∷◌, ◌++◌, map, IsTrue}
 use Rattle.std.specs.List.{AllByRecursion}
 use Rattle.std.specs.FinSet as set
@@ -12,25 +12,29 @@ use Rattle.cedar_entity_lines.specs.EntityCommand.{EntityCommand, Ent, Build, Ad
 use Rattle.cedar_entity_lines.specs.EntityCommand.{IsEntityCommand}
 use Rattle.cedar_entity_lines.specs.EntityOutput.{EntityState, EntityGives}
 
--- the entities that wait, and what the store has
+-- The queued entities, and the store.
 pub record StoreAndWaiting : Type 0 where
   pub waiting : List EntityView
   pub store : StoreView
 
--- the eid of a uid is ASCII
+-- Whether the eid of a uid is ASCII.
 abbrev pub IsAsciiUid : EntityUID → Type 0
 IsAsciiUid u = IsTrue (is_ascii (uid_parts u).eid)
 
--- so are those of an entity and its parents
+-- Whether the eids of an entity and of its parents are ASCII.
 abbrev pub IsAsciiGiven : Given → Type 0
 IsAsciiGiven g = IsAsciiUid g.uid × ((q : EntityUID) → set.contains g.parts.parents q ≡ true → IsAsciiUid q)
 
--- each parent in the world has an ASCII eid
+-- Whether the eids of all parents in an input store are ASCII.
 abbrev pub IsAsciiWorld : World → Type 0
 IsAsciiWorld W = (a b : EntityUID) → graph W a b ≡ true → IsAsciiUid b
 
--- the state is held: the entities that wait have no indirect ancestors, the store is plain, and whatever may be printed
--- has an ASCII eid
+-- Whether a store with its queue is in the state `s`:
+--
+-- - `waiting`: the queue has the entities of the state.
+-- - `bare`: the queued entities have no indirect ancestors.
+-- - `plain`: the store is a plain store with this input store (see `Plain.antt` of `cedar_entity_maps`).
+-- - `ascii_waiting`, `ascii_world`: all uids that can be written have ASCII eids.
 pub record Holds (m : StoreAndWaiting) (s : EntityState) : Type 0 where
   pub waiting : map given_of m.waiting ≡ s.waiting
   pub bare : AreBare m.waiting
@@ -38,11 +42,11 @@ pub record Holds (m : StoreAndWaiting) (s : EntityState) : Type 0 where
   pub ascii_waiting : AllByRecursion IsAsciiGiven s.waiting
   pub ascii_world : IsAsciiWorld s.world
 
--- the uids have ASCII eids
+-- Whether the eids of all uids are ASCII.
 abbrev pub AreAsciiUids : List EntityUID → Type 0
 AreAsciiUids us = AllByRecursion IsAsciiUid us
 
--- the uids that a command puts in have ASCII eids
+-- Whether the uids of the entity that a command queues, and of its parents, have ASCII eids.
 abbrev pub HasAsciiUids : EntityCommand → Type 0
 HasAsciiUids (Ent u ps) = AreAsciiUids (u ∷ ps)
 HasAsciiUids Build = Unit {0}
@@ -52,12 +56,12 @@ HasAsciiUids (Remove us) = Unit {0}
 HasAsciiUids (Slice us) = Unit {0}
 HasAsciiUids (Anc u) = Unit {0}
 
--- a command gives a state that is held then, and adds what it writes
+-- Whether a command in the state `s` leads to the next state, in which the store `m` is, and appends its output.
 abbrev pub EntityWrites : EntityCommand → EntityState → StoreAndWaiting → List ℕ → List ℕ → Type 0
 EntityWrites c s m old new = (t : EntityState) × (out : List ℕ) × EntityGives c s t out × Holds m t × (new ≡ old ++ out)
 
--- the fields are those of an entity with its parents, a state is held after that command, and nothing is written; or
--- they are those of none, and nothing changed
+-- Whether fields are run correctly as `ent`, given the returned truth value. If they are the fields of an entity, the
+-- store is in the next state, and nothing is written. Any other fields change nothing.
 abbrev pub TakesEntity : Bool → List (List ℕ) → StoreAndWaiting → StoreAndWaiting → Type 0
 TakesEntity true fs old new =
     (u : EntityUID) × (ps : List EntityUID) × IsEntityCommand (Ent u ps) fs

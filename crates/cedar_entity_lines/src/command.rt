@@ -1,4 +1,4 @@
-//! Which fields are which command.
+//! Commands on the store, and how to read them from the fields of a line.
 ghost use Rattle.std.specs.Prelude.{◌≡◌, ◌∷◌, [], List, IfOk, map};
 ghost use Rattle.cedar_ids.specs.declared.entity.EntityUID.{EntityUID};
 ghost use Rattle.cedar_lines.specs.Reads.{ReadsAs};
@@ -11,26 +11,30 @@ use cedar_lines::known_types::{KnownTypes, uid_of_text};
 use cedar_uid_sets::SharedUid;
 use std::alloc::{AllocError, Global};
 
-/// A line on the store that is a command. It is this project's own.
+/// A command on the store of entities.
+///
+/// # Differences from cedar-policy-core
+///
+/// The original has no such type.
 #[derive(Debug, Drop)]
 pub enum EntityCommand {
-    /// An entity with this uid and these parents waits.
+    /// Queues an entity with this uid and these parents.
     Ent(EntityUID, Vec<SharedUid>),
-    /// The entities that wait become the store.
+    /// Replaces the store by a store of the queued entities.
     Build,
-    /// They are added to the store.
+    /// Adds the queued entities to the store.
     Add,
-    /// They are put over what the store holds.
+    /// Adds the queued entities to the store, and replaces entities with the same uids.
     Upsert,
-    /// The entities with these uids go out of the store.
+    /// Removes the entities with these uids.
     Remove(Vec<EntityUID>),
-    /// The store becomes its slice at these uids.
+    /// Replaces the store by its slice at these uids: the entities with these uids and their ancestors.
     Slice(Vec<EntityUID>),
-    /// The ancestors of the entity with this uid are asked for.
+    /// Writes the ancestors of the entity with this uid.
     Anc(EntityUID),
 }
 
-// The uids whose texts the fields are, if each is one.
+// Reads each field as a uid. Returns nothing if one is not.
 fn uid_fields(
     alloc: Global,
     known: &mut KnownTypes,
@@ -50,7 +54,7 @@ fn uid_fields(
     Ok(Some(uids))
 }
 
-// The uid of the first field and those of the others, if each is the text of one.
+// Reads the uid of the first field, and the others as parents. Returns nothing if one is not a uid.
 fn ent_fields(
     alloc: Global,
     known: &mut KnownUids,
@@ -72,7 +76,7 @@ fn ent_fields(
     Ok(Some((uid, parents)))
 }
 
-// The uids whose texts the fields are, if there is a field and each is one.
+// Reads one or more fields as uids. Returns nothing if there is no field, or if one is not a uid.
 fn some_fields(
     alloc: Global,
     known: &mut KnownUids,
@@ -88,7 +92,7 @@ fn some_fields(
     uid_fields(alloc, &mut known.types, fields)
 }
 
-// The uid of the one field, if it is the text of one.
+// Reads the only field as a uid. Returns nothing if there is another number of fields, or if it is not a uid.
 fn anc_fields(
     alloc: Global,
     known: &mut KnownUids,
@@ -107,7 +111,7 @@ fn anc_fields(
     uid_of_text(alloc, &mut known.types, first)
 }
 
-// The command that a word is by itself, if there is one.
+// Returns the command that consists of only this word.
 fn command_of_word(word: &str) -> Option<EntityCommand>
     ensures { ReadsAs (λ c. IsEntityCommand c (word.now ∷ [])) entity_command_of result }
 {
@@ -123,12 +127,21 @@ fn command_of_word(word: &str) -> Option<EntityCommand>
     None
 }
 
-/// The command whose fields these are, if they are those of a line on the store: the word and the texts of uids behind
-/// it, each with an ASCII eid. The types and parents that it reads are known from then on, and shared with the lines to
-/// come.
+/// Reads a command on the store from the fields of a line. Returns nothing if the fields are not such a command. The
+/// first field is the word of the command, and the others are texts of uids with ASCII eids. The entity types and
+/// parents are cached in `known` and shared with later lines.
 ///
-/// Takes memory for the uids and for what is known, and is refused only where that is; its cost is linear in the
-/// fields. It is this project's own.
+/// # Errors
+///
+/// Returns `AllocError` if an allocation fails.
+///
+/// # Complexity
+///
+/// O(n), where n is the total length of the fields. Allocates the uids and new cache entries.
+///
+/// # Differences from cedar-policy-core
+///
+/// The original has no such function.
 pub fn read_entity_command(
     alloc: Global,
     known: &mut KnownUids,

@@ -1,4 +1,4 @@
-//! The entity of a line, made where its uid is read, so that neither moves once more.
+//! The entity of a line. It is created in one place, so that neither the uid nor the entity is moved again.
 ghost use Rattle.std.specs.Prelude.{◌≡◌, [], ◌∷◌, List, IfOk, MatchOption, map};
 ghost use Rattle.std.specs.FinSet as set;
 ghost use Rattle.cedar_ids.specs.TextOf.{IsPrinted};
@@ -15,7 +15,7 @@ use cedar_uid_sets::{SharedUid, UidSet};
 use std::alloc::{AllocError, Global};
 use std::rc::Rc;
 
-// The entity with a uid and these parents.
+// Creates the shared entity with this uid and these parents.
 #[inline(always)]
 pub(crate) fn shared_entity(
     alloc: Global,
@@ -30,7 +30,7 @@ pub(crate) fn shared_entity(
     }
 }
 
-// The entity with these parents and the uid whose text a field is, if it is that of one.
+// Reads the uid of an entity, and creates the entity with these parents. Returns nothing if the text is not a uid.
 fn entity_of_text(
     alloc: Global,
     known: &mut KnownUids,
@@ -48,15 +48,15 @@ fn entity_of_text(
     }
 }
 
-// The set of one parent.
+// Creates the set with one parent.
 fn set_of_one(alloc: Global, parent: SharedUid) -> Result<UidSet, AllocError>
     ensures { IfOk result (λ s. s ≡ set.from_list (parent ∷ [])) }
 {
     Ok(UidSet::from_ascending(vec![in alloc; parent]?))
 }
 
-// The set of the parents whose texts the fields are, if each is that of a uid. Most entities have one or none: there is
-// nothing to sort then.
+// Reads each field as a parent, and creates the set of parents. Returns nothing if one is not a uid. Most entities have
+// at most one parent, and their sets need no sorting.
 fn parent_set(
     alloc: Global,
     known: &mut KnownUids,
@@ -81,7 +81,8 @@ fn parent_set(
     Ok(Some(UidSet::from_pointers(parents)?))
 }
 
-// The entity whose uid and parents have these texts, if each is that of a uid.
+// Creates the entity with the uid of the first field and the parents of the others. Returns nothing if a field is not a
+// uid.
 pub(crate) fn entity_of_fields(
     alloc: Global,
     known: &mut KnownUids,

@@ -1,9 +1,8 @@
-//! The program's lines on the store of entities: reading them, and what they make of the store and of the entities that
-//! wait.
+//! The program's commands on the store of entities: how to read them, and how to run them on the store and the queued
+//! entities.
 //!
-//! `specs/EntityCommand.antt` says which fields are which command, and `specs/EntityOutput.antt` what each command
-//! makes of the entities that wait and of the world that the store holds, and what it writes. The program itself is
-//! `cedar_store`.
+//! The program is in `cedar_store`. `specs/EntityCommand.antt` defines the fields of each command.
+//! `specs/EntityOutput.antt` defines the effect and the output of each command.
 #![tactic(auto, using(cedar_ids::specs::laws::UidOfLaws::same_uid_decides))]
 
 mod command;

@@ -1,4 +1,4 @@
-//! The store that lines change, and one function for each command on it.
+//! The store of a run, with one function for each command.
 ghost use Rattle.std.specs.Prelude.{◌≡◌, ◌++◌, [], ◌∷◌, List, ℕ, IfErr, IfOk, OnOk, codes, map};
 ghost use Rattle.std.specs.List.{flat_map};
 ghost use Rattle.std.specs.Fmt.{decimal};
@@ -25,8 +25,11 @@ use std::marker::Model;
 use std::mem;
 use std::rc::Rc;
 
-/// The store of a run, and the entities that wait for a call on it. Contracts see what both have; the store hashes uids
-/// by what `S` builds, which they do not see. It is this project's own.
+/// The store of a run, and the entities that are queued for it. Contracts see both, but not the builder of hashers.
+///
+/// # Differences from cedar-policy-core
+///
+/// The original has no such type.
 #[derive(Debug, Drop)]
 pub struct LineStore<S: BuildHasher = BuildHasherDefault<FoldHasher>> {
     waiting: Vec<Rc<Entity>>,
@@ -45,7 +48,7 @@ impl<S: BuildHasher> Model for LineStore<S> {
     ghost view = { λ s. record { waiting = entities_in s.waiting.items; store = s.store } };
 }
 
-// Adds how many entities there are.
+// Writes `ok` and the number of entities.
 fn push_count(alloc: Global, out: &mut Vec<u8>, count: usize) -> Result<(), AllocError>
     ensures { OnOk result (out.new.items
         ≡ out.old.items ++ written_line (codes "ok " ++ decimal count)) }
@@ -54,7 +57,7 @@ fn push_count(alloc: Global, out: &mut Vec<u8>, count: usize) -> Result<(), Allo
     push_line(out, text.as_str())
 }
 
-// Adds that a uid came twice with other parents.
+// Writes the error of an entity that differs from another one with this uid.
 fn push_duplicate(alloc: Global, out: &mut Vec<u8>, uid: &EntityUID) -> Result<(), AllocError>
     ensures { OnOk result (IsAsciiUid uid.now → out.new.items ≡
         out.old.items ++ written_line (codes "refused: duplicate " ++ uid_text uid.now)) }
@@ -63,7 +66,7 @@ fn push_duplicate(alloc: Global, out: &mut Vec<u8>, uid: &EntityUID) -> Result<(
     push_line(out, text.as_str())
 }
 
-// Adds why a call on the store was refused.
+// Writes the error of a call on the store.
 fn push_refusal(alloc: Global, out: &mut Vec<u8>, error: &EntitiesError) -> Result<(), AllocError>
     requires { IsTold error.now }
     ensures { OnOk result (Refused error.now out.old.items out.new.items) }
@@ -84,10 +87,10 @@ fn push_refusal(alloc: Global, out: &mut Vec<u8>, error: &EntitiesError) -> Resu
     }
 }
 
-// Room for so many bytes is made for a field, so that most don't grow.
+// The initial capacity for a field, enough for most fields.
 const FIELD: usize = 64;
 
-// Adds a tab and a uid. What the text is before says nothing: it is set to that of the field.
+// Writes a tab and a uid. `text` is a buffer, whose old content is ignored.
 fn push_field(out: &mut Vec<u8>, text: &mut String, uid: &EntityUID) -> Result<(), AllocError>
     ensures { OnOk result (IsAsciiUid uid.now → out.new.items ≡ out.old.items ++ field_of uid.now) }
 {
@@ -96,7 +99,7 @@ fn push_field(out: &mut Vec<u8>, text: &mut String, uid: &EntityUID) -> Result<(
     out.extend_from_slice(text.as_bytes())
 }
 
-// Adds the uids, each after a tab.
+// Writes the uids, each after a tab.
 fn push_fields(alloc: Global, out: &mut Vec<u8>, uids: Union<'_>) -> Result<(), AllocError>
     ensures { OnOk result (AreAsciiUids uids.entry →
         out.new.items ≡ out.old.items ++ flat_map field_of uids.entry) }
@@ -108,7 +111,7 @@ fn push_fields(alloc: Global, out: &mut Vec<u8>, uids: Union<'_>) -> Result<(), 
     Ok(())
 }
 
-// Adds the line of an entity's ancestors.
+// Writes the line with an entity's ancestors.
 fn push_ancestors(alloc: Global, out: &mut Vec<u8>, uids: Union<'_>) -> Result<(), AllocError>
     ensures { OnOk result (AreAsciiUids uids.entry → out.new.items ≡
         out.old.items ++ written_line (codes "anc" ++ flat_map field_of uids.entry)) }
@@ -120,7 +123,7 @@ fn push_ancestors(alloc: Global, out: &mut Vec<u8>, uids: Union<'_>) -> Result<(
 }
 
 impl LineStore {
-    /// Nothing waits, and the store is empty. Takes no memory.
+    /// Creates an empty store and an empty queue, with the default hasher. Does not allocate.
     pub fn new(alloc: Global) -> LineStore
         ensures { Holds result no_entity }
     {
@@ -129,7 +132,7 @@ impl LineStore {
 }
 
 impl<S: BuildHasher + Copy> LineStore<S> {
-    /// Nothing waits, and the store is empty; stores hash uids by what `hasher` builds. Takes no memory.
+    /// Creates an empty store and an empty queue, with this builder of hashers. Does not allocate.
     pub fn with_hasher(alloc: Global, hasher: S) -> LineStore<S>
         ensures { Holds result no_entity }
     {
@@ -139,7 +142,7 @@ impl<S: BuildHasher + Copy> LineStore<S> {
         }
     }
 
-    // The entity waits for a call on the store.
+    // Runs `ent`: queues an entity.
     fn ent(
         &mut self,
         alloc: Global,
@@ -155,8 +158,8 @@ impl<S: BuildHasher + Copy> LineStore<S> {
         Ok(())
     }
 
-    // Keeps the store that a call gave and adds its count or, where the call was refused, keeps the store
-    // without entities and adds why.
+    // Stores the result of a call and writes the number of its entities. After an error the store is empty, and the
+    // error is written.
     fn keep_and_tell(
         &mut self,
         alloc: Global,
@@ -181,7 +184,7 @@ impl<S: BuildHasher + Copy> LineStore<S> {
         }
     }
 
-    // The entities that wait are added to the store.
+    // Runs `add`: adds the queued entities to the store.
     fn add(&mut self, alloc: Global, out: &mut Vec<u8>) -> Result<(), AllocError>
         ensures { OnOk result ((s : EntityState) → Holds self.old s →
             EntityWrites Add s self.new out.old.items out.new.items) }
@@ -193,7 +196,7 @@ impl<S: BuildHasher + Copy> LineStore<S> {
         self.keep_and_tell(alloc, given, out)
     }
 
-    // The entities that wait become the store.
+    // Runs `build`: replaces the store by a store of the queued entities.
     fn build(&mut self, alloc: Global, out: &mut Vec<u8>) -> Result<(), AllocError>
         ensures { OnOk result ((s : EntityState) → Holds self.old s →
             EntityWrites Build s self.new out.old.items out.new.items) }
@@ -202,7 +205,7 @@ impl<S: BuildHasher + Copy> LineStore<S> {
         self.add(alloc, out)
     }
 
-    // The entities that wait are put over what the store holds.
+    // Runs `upsert`: adds the queued entities to the store, and replaces entities with the same uids.
     fn upsert(&mut self, alloc: Global, out: &mut Vec<u8>) -> Result<(), AllocError>
         ensures { OnOk result ((s : EntityState) → Holds self.old s →
             EntityWrites Upsert s self.new out.old.items out.new.items) }
@@ -214,7 +217,7 @@ impl<S: BuildHasher + Copy> LineStore<S> {
         self.keep_and_tell(alloc, given, out)
     }
 
-    // The entities with these uids go out of the store.
+    // Runs `remove`: removes the entities with these uids.
     fn remove(
         &mut self,
         alloc: Global,
@@ -230,7 +233,7 @@ impl<S: BuildHasher + Copy> LineStore<S> {
         self.keep_and_tell(alloc, given, out)
     }
 
-    // The store becomes its slice at these uids.
+    // Runs `slice`: replaces the store by its slice at these uids.
     fn slice(
         &mut self,
         alloc: Global,
@@ -244,7 +247,7 @@ impl<S: BuildHasher + Copy> LineStore<S> {
         self.keep_and_tell(alloc, given, out)
     }
 
-    // The ancestors of an entity are written.
+    // Runs `anc`: writes the ancestors of an entity.
     fn anc(&self, alloc: Global, uid: &EntityUID, out: &mut Vec<u8>) -> Result<(), AllocError>
         ensures { OnOk result ((s : EntityState) → Holds self.now s →
             (text : List ℕ) × ShowsAncestors s.world uid.now text × (out.new.items ≡ out.old.items ++ text)) }
@@ -255,12 +258,18 @@ impl<S: BuildHasher + Copy> LineStore<S> {
         }
     }
 
-    /// Takes the fields of a line if they are those of an entity with its parents, which waits then, and says whether
-    /// they are; any others leave everything as it was. It does what [`LineStore::take`] does with that command,
-    /// without making one: such lines are the most. What is read is known to the next line.
+    /// Queues an entity if the fields of a line are `ent` with a uid and its parents, and returns whether they are. Any
+    /// other fields change nothing. The effect is the same as [`LineStore::take`] with that command, but no command is
+    /// created, because most lines are of this kind. The types and parents are cached in `known` and shared with later
+    /// lines.
     ///
-    /// It is refused only where memory was, and then nothing is said of the store and of what waits. It is this
-    /// project's own.
+    /// # Errors
+    ///
+    /// Returns `AllocError` if an allocation fails. The state of the store and of the queue is then unspecified.
+    ///
+    /// # Differences from cedar-policy-core
+    ///
+    /// The original has no such function.
     pub fn take_ent(
         &mut self,
         alloc: Global,
@@ -282,11 +291,22 @@ impl<S: BuildHasher + Copy> LineStore<S> {
         Ok(false)
     }
 
-    /// Takes a command on the store, and adds what it writes. The uids that it puts in have ASCII eids, as those of a
-    /// line have.
+    /// Runs a command on the store, and appends its output to `out`. The caller must ensure that the uids of inserted
+    /// entities and their parents have ASCII eids, as the uids of lines do. Otherwise the output is unspecified.
     ///
-    /// It is refused only where memory was, and then nothing is said of the store, of what waits and of what was added.
-    /// Its cost is that of the call on the store, and of what is written. It is this project's own.
+    /// # Errors
+    ///
+    /// Returns `AllocError` if an allocation fails. The state of the store and of the queue and the bytes appended to
+    /// `out` are then unspecified. An error of the command itself is written to `out`, and is not an error of this
+    /// function.
+    ///
+    /// # Complexity
+    ///
+    /// The cost of the call on the store, and of the output.
+    ///
+    /// # Differences from cedar-policy-core
+    ///
+    /// The original has no such function.
     pub fn take(
         &mut self,
         alloc: Global,

@@ -1,5 +1,5 @@
-//! Reading the parents of entities, of which many have one parent: those that were read lately are known by their
-//! texts, and shared.
+//! Reading of parents. Many entities have the same parent, so recently read parents are cached by their texts and
+//! shared.
 ghost use Rattle.std.specs.Prelude.{◌≡◌, List, IfOk, IfSome, map};
 ghost use Rattle.cedar_ids.specs.TextOf.{IsPrinted};
 ghost use Rattle.cedar_ids.specs.UidOf.{uid_parts};
@@ -14,7 +14,7 @@ use std::alloc::{AllocError, Global};
 use std::marker::Model;
 use std::mem;
 
-// A parent that was read, and its text. Contracts see the uid.
+// A cached parent and its text. Contracts see the uid.
 #[derive(Drop)]
 struct KnownParent {
     text: String,
@@ -34,9 +34,13 @@ impl Model for KnownParent {
     ghost invariant = { λ k. IsPrinted (uid_parts k.uid) (string_bytes k.text) };
 }
 
-/// The types and the parents that lines before have named, by their texts, so that lines to come share them: up to 16
-/// types, and at each of 256 places the parent that was read last of those whose texts belong there. It says nothing of
-/// what a line is. It is this project's own.
+/// A cache of the types and parents in earlier lines, keyed by their texts, so that later lines share them. It has the
+/// types of a [`KnownTypes`] and 256 places for parents. The text of a parent determines its place. A place has the
+/// last parent read for it, if its text has at most 4,096 bytes. The cache never changes how a line is read.
+///
+/// # Differences from cedar-policy-core
+///
+/// The original has no such type.
 #[derive(Drop)]
 pub struct KnownUids {
     pub(crate) types: KnownTypes,
@@ -44,7 +48,7 @@ pub struct KnownUids {
 }
 
 impl KnownUids {
-    /// Nothing is known. It takes no memory.
+    /// Creates an empty cache. Does not allocate.
     pub fn new(alloc: Global) -> KnownUids {
         KnownUids {
             types: KnownTypes::new(alloc),
@@ -52,24 +56,27 @@ impl KnownUids {
         }
     }
 
-    /// The types alone, for lines whose uids are nobody's parents.
+    /// Returns the cache of types, for lines that name no parents.
     pub fn types(&mut self) -> &mut KnownTypes {
         &mut self.types
     }
 }
 
-// So many parents are known at the most, each at a place of its own.
+// The number of places for parents.
 const PLACES: usize = 256;
 
-// The place of a text that ends so, by all but the quote: those of numbers that follow one another have places of their
-// own.
+// The length in bytes of the longest text of a parent that is cached.
+const LONGEST: usize = 4096;
+
+// Returns the place of a text with these last bytes. The last byte, a quote, is ignored. Texts that end in consecutive
+// numbers get different places.
 fn place_of_end(end: &[u8; 8]) -> usize {
     let digits = u32::from(end[6]) + u32::from(end[5]) * 10 + u32::from(end[4]) * 100;
     let others = u32::from(end[3]) * 31 + u32::from(end[2]) * 7 + u32::from(end[1]) * 13;
     (digits + others + u32::from(end[0])) as usize % PLACES
 }
 
-// The place of a text, by its last bytes. Texts of one place take it from each other.
+// Returns the place of a text, from its last bytes. Texts with the same place replace each other.
 fn place_of(text: &str) -> usize {
     let bytes = text.as_bytes();
     if let Some(end) = bytes.last_chunk::<8>() {
@@ -82,7 +89,7 @@ fn place_of(text: &str) -> usize {
     sum as usize % PLACES
 }
 
-// The parent that is known at a place, shared once more, where this is its text.
+// Returns a new reference to the cached parent at a place, if it has this text.
 #[inline(always)]
 fn known_parent(
     known: &[Option<KnownParent>],
@@ -100,7 +107,7 @@ fn known_parent(
     Ok(Some(one.uid.clone()?))
 }
 
-// Makes the places, at each of which nothing is known.
+// Creates the places, all empty.
 fn make_places(known: &mut Vec<Option<KnownParent>>) -> Result<(), AllocError> {
     for _ in 0..PLACES {
         known.push(None)?;
@@ -108,7 +115,7 @@ fn make_places(known: &mut Vec<Option<KnownParent>>) -> Result<(), AllocError> {
     Ok(())
 }
 
-// The text of what was known, whose room the next takes.
+// Returns the text of a cached parent, so that its buffer can be reused.
 fn text_of(alloc: Global, known: Option<KnownParent>) -> String {
     match known {
         None => String::new(alloc),
@@ -116,8 +123,8 @@ fn text_of(alloc: Global, known: Option<KnownParent>) -> String {
     }
 }
 
-// A parent that was read is known at its place from then on.
-fn keep_parent(
+// Caches a parent at its place, if its text is not too long.
+fn cache_parent(
     alloc: Global,
     known: &mut Vec<Option<KnownParent>>,
     place: usize,
@@ -126,6 +133,9 @@ fn keep_parent(
 ) -> Result<(), AllocError>
     requires { IsPrinted (uid_parts uid.now) text.now }
 {
+    if text.len() > LONGEST {
+        return Ok(());
+    }
     if known.is_empty() {
         make_places(known)?;
     }
@@ -140,7 +150,7 @@ fn keep_parent(
     Ok(())
 }
 
-// The parent with this text, if it is that of a uid, read anew.
+// Reads a parent that is not cached, and caches it. Returns nothing if the text is not a uid.
 fn read_parent(
     alloc: Global,
     known: &mut KnownUids,
@@ -153,14 +163,13 @@ fn read_parent(
         None => Ok(None),
         Some(uid) => {
             let shared = SharedUid::new(alloc, uid)?;
-            keep_parent(alloc, &mut known.parents, place, text, &shared)?;
+            cache_parent(alloc, &mut known.parents, place, text, &shared)?;
             Ok(Some(shared))
         }
     }
 }
 
-// The parent with this text, if it is that of a uid. Where one with this text was read lately it is that one, shared
-// once more.
+// Returns the cached parent with this text, or reads it. Returns nothing if the text is not a uid.
 #[inline(always)]
 pub(crate) fn parent_of_text(
     alloc: Global,
@@ -176,7 +185,7 @@ pub(crate) fn parent_of_text(
     read_parent(alloc, known, place, text)
 }
 
-// The parents whose texts the fields are, if each is that of a uid.
+// Reads each field as a parent. Returns nothing if one is not a uid.
 pub(crate) fn parents_of_fields(
     alloc: Global,
     known: &mut KnownUids,

@@ -1,4 +1,4 @@
--- From what the closure calls say of the map to what is seen of it.
+-- The results of the closure functions on the map, as properties of the entity map.
 use Rattle.std.specs.Prelude.{◌≡◌, Bool, true, false, Option, Some, None, Result, Ok, Err, IfErr, IsTrue, ⊤}
 use Rattle.std.proofs.Common.{ap, sym, refl, subst, ◌∙◌, inl, inr}
 use Rattle.std.specs.Option.{option_map, is_some}
@@ -34,7 +34,7 @@ leads_at : (o : Option SharedEntity) (b : EntityUID) → edge_at node_edges o b 
 leads_at None b = refl
 leads_at (Some n) b = refl
 
--- the graph of the nodes is that of the ancestors seen
+-- The graph of the nodes is the graph of the ancestors.
 pub same_ancestry : {S : Type 0} (m : HashMap EntityUID SharedEntity S)
     → graph_of same_uid node_edges m ≡ ancestry (held_map m)
 same_ancestry m = λ i a b. (leads_at (get same_uid m a) b ∙ ap (λ o. is_ancestor_in o b) (sym (get_seen m a))) i
@@ -75,7 +75,7 @@ pub acyclic_of : {S : Type 0} (m : HashMap EntityUID SharedEntity S) (fix : Enti
     → IsAcyclicAt fix (held_map m)
 acyclic_of m fix h = subst (λ F. IsTrusted fix F → HasNoCycleAt fix F) (same_ancestry m) h
 
--- a fault as the call tells it
+-- An error of the closure, as the call returns it.
 pub told : (P : EntityUID → EntityUID → EntityUID → Type 0) (Q : EntityUID → Type 0) (t : TcError EntityUID)
     → MatchFault t P Q → MatchRefusal (refusal_of t) (λ _. ⊥) (λ u. IsClosureFault u P Q)
 told P Q (tc.MissingTcEdge x) h = h
@@ -98,7 +98,7 @@ closed_told m t h =
     (λ v. IsClosed (ancestry (held_map m)) × (ancestry (held_map m) v v ≡ true)) t
     (subst (λ F. MatchFault t (BreaksClosed F) (λ v. IsClosed F × (F v v ≡ true))) (same_ancestry m) h)
 
--- what is said of the refusal for a fault is said of the error that it became
+-- A property of the store's error for a closure error is a property of the converted error.
 pub refused_as : {X : Type 0} (C : TcError EntityUID → Type 0) (r : Result X EntitiesError) (t : TcError EntityUID)
     → IsErrAnd r (Tells t) → MatchRefusal (refusal_of t) (λ _. ⊥) C → IfErr r (λ e. MatchRefusal e (λ _. ⊥) C)
 refused_as C (Ok x) t h k = tt
@@ -109,7 +109,7 @@ pub closed_seen : {S : Type 0} (m : HashMap EntityUID SharedEntity S)
     → IsClosedWithoutLoop (graph_of same_uid node_edges m) → IsSound (held_map m)
 closed_seen m h = subst IsClosedWithoutLoop (same_ancestry m) h
 
--- where all that is held passes, nothing else changes
+-- If all entities are affected, nothing else changes.
 alone_at : (o p : Option SharedEntity) (b : Bool) → option_map node_kept p ≡ option_map node_kept o
     → (is_some (option_map shared o) ≡ true → b ≡ true) → b ≡ false → p ≡ o
 alone_at None None b same all out = refl
@@ -131,7 +131,7 @@ pub acyclic_whole : {S : Type 0} (m : HashMap EntityUID SharedEntity S) (fix : E
     → HasNoCycle (graph_of same_uid node_edges m) → IsAcyclicAt fix (held_map m)
 acyclic_whole m fix h = acyclic_of m fix (λ t a p. h a)
 
--- the uid that a cycle is told by is one of those that were to be looked at
+-- The uid of a cycle error is one of the checked uids.
 pub cycle_named : {S : Type 0} (m : HashMap EntityUID SharedEntity S) (asked : Bool) (fix : EntityUID → Bool)
     (t : TcError EntityUID) → NamesCycleAt asked fix (graph_of same_uid node_edges m) t
     → MatchRefusal (refusal_of t) (λ _. ⊥) (λ u. IsClosureFault u (λ _ _ _. ⊤) (λ v. fix v ≡ true))
@@ -143,7 +143,7 @@ held_there : (o : Option SharedEntity) → is_some o ≡ true → is_some (optio
 held_there None h = h
 held_there (Some n) h = refl
 
--- where all that is held is touched, a cycle of the whole is one at what is touched
+-- If all entities are affected, a cycle of the whole is a cycle at an affected entity.
 pub touched_named : {S : Type 0} (m : HashMap EntityUID SharedEntity S) (touched : EntityUID → Bool)
     → ((q : EntityUID) → is_some (held m q) ≡ true → touched q ≡ true) → (asked : Bool) (t : TcError EntityUID)
     → NamesCycleAt asked (λ v. is_some (get same_uid m v)) (graph_of same_uid node_edges m) t
@@ -153,7 +153,7 @@ touched_named m touched all asked (tc.HasCycle x) h =
     (h.0, all x.vertex (held_there (get same_uid m x.vertex) h.1), h.2)
 touched_named m touched all asked tc.Memory h = tt
 
--- what is said of no duplicate is said of any
+-- If no duplicate error is possible, the statement holds for duplicates too.
 pub named_for : (touched : EntityUID → Bool) (e : EntitiesError)
     → MatchRefusal e (λ _. ⊥) (λ u. IsClosureFault u (λ _ _ _. ⊤) (λ v. touched v ≡ true)) → NamesOneOf touched e
 named_for touched e h =

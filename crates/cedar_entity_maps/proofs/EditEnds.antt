@@ -1,4 +1,4 @@
--- How an edit ends, by the row of its mode: what its steps answer.
+-- The result of finalizing an edit by edit rules: the results of its steps.
 use Rattle.std.specs.Prelude.{◌≡◌, Bool, true, false, not, ◌&&◌, Result, Ok, Err, OnOk, IfErr}
 use Rattle.std.proofs.Common.{refl, subst, sym, inl, inr}
 use Rattle.std.proofs.lemmas.Bool.{false≢true}
@@ -30,7 +30,7 @@ some_made true touched D N P made p = (N, made, p)
 some_made false touched D N P made p = subst P made p
 
 module _ (row : Row) (touched : EntityUID → Bool) (D N : Held) where
-  -- what comes of D before anything is checked, where it is repaired or not
+  -- The entity map after the repair, if there is one, and before the check.
   abbrev RepairedBy : Bool → Type 0
   RepairedBy repairs = Also (repairs && row.refuses_cycles) (IsMadeOf repairs touched D N) (IsAcyclicAt touched D)
 
@@ -41,7 +41,7 @@ module _ (row : Row) (touched : EntityUID → Bool) (D N : Held) where
   named_so true false e h = none_named (λ _. ⊥) touched e
       (refused_for (λ t. (false ≡ true) × TellsUnsound N t) (λ _. ⊥) (λ t k. false≢true k.0) e h)
 
-  -- it ends as the check of what came says
+  -- The result is the result of the check.
   ends_checked : {X : Type 0} (r : Result X EntitiesError) → RepairedBy row.repairs
       → OnOk r (OnTrue row.checks (IsSound N))
       → IfErr r (λ e. MatchRefusal e (λ _. ⊥) (λ t. (row.checks ≡ true) × TellsUnsound N t)) → Ends row touched D N r
@@ -58,14 +58,14 @@ module _ (row : Row) (touched : EntityUID → Bool) (D N : Held) where
     named = named_so (row.repairs && row.refuses_cycles) row.checks e err;
   }
 
-  -- where a repair was made
+  -- The entities were repaired.
   pub ends_repaired : {X Y : Type 0} (r : Result X EntitiesError) (y : Y) → row.repairs ≡ true
       → Ends {A = Y} (repairing row.refuses_cycles) touched D N (Ok y)
       → OnOk r (OnTrue row.checks (IsSound N))
       → IfErr r (λ e. MatchRefusal e (λ _. ⊥) (λ t. (row.checks ≡ true) × TellsUnsound N t)) → Ends row touched D N r
   ends_repaired r y is ends = ends_checked r (subst RepairedBy (sym is) ends.ok)
 
-  -- or as its repair was refused
+  -- The repair failed.
   pub ends_refused : {X Y : Type 0} (M : Held) (r : Result X EntitiesError) (e : EntitiesError) → row.repairs ≡ true
       → IsErrAnd r (λ x. x ≡ e) → Ends {A = Y} (repairing row.refuses_cycles) touched D M (Err e)
       → Ends row touched D N r
@@ -86,14 +86,14 @@ module _ (row : Row) (touched : EntityUID → Bool) (D N : Held) where
       on_more true false P h = tt
       on_more false b P h = tt
 
--- where nothing is repaired
+-- Nothing is repaired.
 pub ends_taken : {X : Type 0} (row : Row) (touched : EntityUID → Bool) (D : Held) (r : Result X EntitiesError)
     → row.repairs ≡ false → OnOk r (OnTrue row.checks (IsSound D))
     → IfErr r (λ e. MatchRefusal e (λ _. ⊥) (λ t. (row.checks ≡ true) × TellsUnsound D t)) → Ends row touched D D r
 ends_taken row touched D r is =
     ends_checked row touched D D r (subst (RepairedBy row touched D D) (sym is) refl)
 
--- a repair that is refused for a cycle
+-- The repair reported a cycle.
 pub repair_told : {S X : Type 0} (m : HashMap EntityUID SharedEntity S) (asked : Bool) (touched : EntityUID → Bool)
     (N : Held) (r : Result X EntitiesError) (t : TcError EntityUID) → IsErrAnd r (Tells t)
     → NamesCycleAt asked touched (graph_of same_uid node_edges m) t

@@ -1,4 +1,4 @@
--- What becomes of the children that are listed, one uid after another, and what lies below some.
+-- The listed children after changes at one uid after another, and the descendants of some uids.
 use Rattle.std.specs.Prelude.{◌≡◌, ◌↔◌, Bool, true, false, not, ◌&&◌, ◌||◌, List, Result, Ok, Err}
 use Rattle.std.specs.Prelude.{IfOk}
 use Rattle.std.proofs.Common.{ap, sym, refl, subst, inl, inr, ◌∙◌}
@@ -21,7 +21,7 @@ use Rattle.cedar_entity_maps.specs.laws.Indexes.{IsPlainHeld, parentage, parent_
 use Rattle.cedar_entity_maps.specs.laws.PlainAncestors.{ancestry_plain}
 use Rattle.cedar_entity_maps.specs.laws.AnyOf.{any_found, any_member, same_bool}
 
--- one more uid of a list is put in
+-- One more uid of a list is inserted.
 pub joined_more : (a m k x : Bool) → ((a || (m && x)) || (k && x)) ≡ (a || ((m || k) && x))
 joined_more true m k x = refl
 joined_more false true true true = refl
@@ -30,7 +30,7 @@ joined_more false true false true = refl
 joined_more false true false false = refl
 joined_more false false k x = refl
 
--- or taken out
+-- One more uid of a list is removed.
 pub left_more : (a m k x : Bool) → ((a && not (m && x)) && not (k && x)) ≡ (a && not ((m || k) && x))
 left_more false m k x = refl
 left_more true true true true = refl
@@ -39,13 +39,13 @@ left_more true true false true = refl
 left_more true true false false = refl
 left_more true false k x = refl
 
--- or taken out as a parent
+-- One more uid of a list is removed as a parent.
 pub forgotten_more : (m k x : Bool) → (not k && (not m && x)) ≡ (not (m || k) && x)
 forgotten_more true true x = refl
 forgotten_more true false x = refl
 forgotten_more false k x = refl
 
--- over the entities of a plain store what lies below some uids is what an edit of these touches
+-- In a plain store, the descendants of some uids are the entities that an edit of the uids affects.
 pub below_touched : (D : Held) → IsPlainHeld D → (child : EntityUID → EntityUID → Bool)
     → ((p q : EntityUID) → child p q ≡ parentage (finmap.get D) p q)
     → (A : List EntityUID) (seen : EntityUID → Bool)
@@ -72,7 +72,6 @@ below_touched D held child is A seen all q = same_bool (seen q) (is_touched D A 
     same : (λ a b. child b a) ≡ graph W
     same = λ i a b. (is b a ∙ sym (parent_held (finmap.get D a) b) ∙ ap (λ o. is_parent_in o b) (held.1.holds a)) i
 
--- where a result is told as an option
 pub if_ok : {X E : Type 0} (P : X → Type 0) (r : Result X E) → IfOk r P → IfSome (result_ok r) P
 if_ok P (Ok x) h = h
 if_ok P (Err e) h = tt

@@ -1,4 +1,4 @@
--- What is noted of the map, listed and stripped, one uid or one entity after another.
+-- Insertions, lists and removals at one uid or one entity after another.
 use Rattle.std.specs.Prelude.{◌≡◌, Bool, true, false, cond, ◌&&◌, ◌||◌, List, [], ◌∷◌, ◌++◌, Option, Some, None}
 use Rattle.std.specs.Prelude.{not}
 use Rattle.std.proofs.Common.{ap, sym, refl, ◌∙◌}
@@ -27,7 +27,7 @@ use Rattle.std.proofs.Math.Bool.{and-false}
 use Rattle.cedar_entity_maps.specs.laws.AnyOf.{all_retained, none_retained, retain_none}
 use Rattle.cedar_entity_maps.specs.laws.LossLaws.{loses_whole, still, or_off, and_on}
 
--- what goes in two turns goes in one
+-- Removing uids in two steps is the same as removing them in one.
 kept_twice : (c g h : Bool) → ((c && not g) && not h) ≡ (c && not (g || h))
 kept_twice true true h = refl
 kept_twice true false h = refl
@@ -39,7 +39,7 @@ retain_both s g h = set.same_set uid_order_total one_equal _ _ (λ q.
     kept_in (set.retain s (λ p. not (g p))) h q ∙ ap (λ b. b && not (h q)) (kept_in s g q)
     ∙ kept_twice (set.contains s q) (g q) (h q) ∙ sym (kept_in s (λ p. g p || h p) q))
 
--- an entity of which nothing goes
+-- An entity of which nothing is removed.
 pub stripped_nothing : (e : EntityView) → e ≡ stripped (is_member same_uid []) (is_member same_uid []) e
 stripped_nothing e =
     λ i. record e { parents = sym (retain_none e.parents) i; indirect = sym (retain_none e.indirect) i }
@@ -67,7 +67,7 @@ added false true false = refl
 added false false true = refl
 added false false false = refl
 
--- one more uid is noted
+-- One more uid is inserted.
 pub noted_push : (first now new : Bool) (done : List EntityUID) (k q : EntityUID)
     → now ≡ (first || is_member same_uid done q) → new ≡ cond (same_uid k q) true now
     → new ≡ (first || is_member same_uid (done ++ k ∷ []) q)
@@ -75,7 +75,7 @@ noted_push first now new done k q so step =
     step ∙ ap (cond (same_uid k q) true) so ∙ added first (is_member same_uid done q) (same_uid k q)
     ∙ ap (λ b. first || b) (sym (member_push done k q))
 
--- nothing is stripped where nothing goes
+-- If nothing is removed from each entity, nothing changes.
 pub nothing_stripped : (none : EntityView → EntityView) → ((e : EntityView) → e ≡ none e) → (o : Option EntityView)
     → o ≡ option_map none o
 nothing_stripped none is None = refl
@@ -102,7 +102,7 @@ loses_push done a q =
     list_any-append (λ (x : Loss). same_uid q x.uid) done (a ∷ [])
     ∙ ap (λ b. loses done q || b) (sym (or_off (same_uid q a.uid)) ∙ sym (same_uid_equiv.symm a.uid q))
 
--- one more entity is stripped
+-- One more entity loses its stale ancestors.
 pub loss_push : (G : EntityUID → Bool) (done : List Loss) (a : Loss) (first now new : Option EntityView) (q : EntityUID)
     → now ≡ option_map (stripped (λ p. loses done q && G p) (loses_uid done q)) first
     → new ≡ cond (same_uid a.uid q) (option_map (stripped G (is_lost a.lost)) now) now
@@ -115,7 +115,7 @@ loss_push G done a first now new q so step =
     (λ p. sym (list_any-append (λ (x : Loss). same_uid q x.uid) done (a ∷ [])) i && G p)
     (λ w. sym (list_any-append (λ (x : Loss). same_uid q x.uid && is_lost x.lost w) done (a ∷ [])) i)) first
 
--- one more loss is listed, or none
+-- One more entity is listed, or none.
 pub listed_loss : (done : List Loss) (a : Loss) (key q : EntityUID) (b : Bool) → a.uid ≡ key → b ≡ true
     → loses (done ++ a ∷ []) q ≡ (loses done q || (same_uid key q && b))
 listed_loss done a key q b is h =
@@ -127,7 +127,7 @@ unlisted_loss true k b h = refl
 unlisted_loss false true b h = sym h
 unlisted_loss false false b h = refl
 
--- a key is found among entries with one more
+-- A key is found among the entries with one more.
 pub seen_key : (es : List (EntityUID × SharedEntity)) (k : EntityUID) (n : SharedEntity) (q : EntityUID)
     → is_some (lookup (same_uid q) (es ++ (k, n) ∷ [])) ≡ (is_some (lookup (same_uid q) es) || same_uid k q)
 seen_key [] k n q = at (same_uid q k) ∙ sym (same_uid_equiv.symm k q)
@@ -172,7 +172,7 @@ out_of false f false h = refl
 module _ (f : EntityUID → Bool) (es : List (EntityUID × SharedEntity)) (k : EntityUID) (n : SharedEntity)
     (q : EntityUID) (now : Bool)
     (so : now ≡ (is_some (lookup (same_uid q) es) && f q)) where
-  -- one more key that passes is listed
+  -- One more key that passes is listed.
   pub listed_key : (new : Bool) → new ≡ (now || same_uid k q) → f k ≡ true
       → new ≡ (is_some (lookup (same_uid q) (es ++ (k, n) ∷ [])) && f q)
   listed_key new step hits =
@@ -181,14 +181,14 @@ module _ (f : EntityUID → Bool) (es : List (EntityUID × SharedEntity)) (k : E
       (λ t. sym (ap f ((same_uid_decides k q).0 t)) ∙ hits)
       ∙ ap (λ b. b && f q) (sym (seen_key es k n q))
 
-  -- one that does not is not
+  -- A key that does not pass is not listed.
   pub unlisted_key : f k ≡ false → now ≡ (is_some (lookup (same_uid q) (es ++ (k, n) ∷ [])) && f q)
   unlisted_key misses =
       so ∙ out_of (is_some (lookup (same_uid q) es)) (f q) (same_uid k q)
       (λ t. sym (ap f ((same_uid_decides k q).0 t)) ∙ misses)
       ∙ ap (λ b. b && f q) (sym (seen_key es k n q))
 
--- one more key of the map, which is stripped or not
+-- One more key of the map, with or without stale ancestors.
 pub key_case : (d f b h : Bool) → (b ≡ true → h ≡ f) → ((d && f) || (b && h)) ≡ ((d || b) && f)
 key_case true true b h k = refl
 key_case true false true h k = k refl
@@ -196,7 +196,7 @@ key_case true false false h k = refl
 key_case false f true h k = k refl
 key_case false f false h k = refl
 
--- only what is there has ancestors
+-- A uid without an entity has no ancestors.
 pub none_any : (us : List EntityUID) → false ≡ list_any (is_ancestor_in None) us
 none_any [] = refl
 none_any (u ∷ us) = none_any us
@@ -207,7 +207,7 @@ pub there_only_any : (o : Option SharedEntity) (us : List EntityUID)
 there_only_any None us = none_any us
 there_only_any (Some n) us = refl
 
--- that some of one list is in another is that some of the other is in the one
+-- Whether a member of one list is in the other is symmetric.
 none_in : (xs : List EntityUID) → list_any (λ x. is_member same_uid [] x) xs ≡ false
 none_in [] = refl
 none_in (x ∷ xs) = none_in xs
@@ -233,7 +233,7 @@ pub meet : (xs ys : List EntityUID) → list_any (is_member same_uid ys) xs ≡ 
 meet xs [] = none_in xs
 meet xs (y ∷ ys) = split y ys xs ∙ ap (λ b. is_member same_uid xs y || b) (meet xs ys)
 
--- one of a list that passes makes the list pass
+-- If an element of a list passes, the list has an element that passes.
 pub any_with : {X : Type 0} (f : X → Bool) (xs : List X) (x : X) (ys : List X) → f x ≡ true
     → list_any f (xs ++ x ∷ ys) ≡ true
 any_with f [] x ys h = ap (λ b. b || list_any f ys) h
@@ -243,7 +243,7 @@ any_with f (y ∷ xs) x ys h = ap (λ b. f y || b) (any_with f xs x ys h) ∙ en
     end true = refl
     end false = refl
 
--- what is left where all goes from some, and no parent
+-- The entities after all indirect ancestors of the listed ones, and no parents, were removed.
 pub forgot : (R : List Loss) → AllByRecursion IsWhole R → (none : UidValues) → none ≡ set.empty → (q : EntityUID)
     (b : Bool) → loses R q ≡ b → (o : Option EntityView)
     → option_map (left_by none R q) o ≡ cond b (option_map bared o) o

@@ -1,4 +1,4 @@
--- What a store holds, and the plain store of a world.
+-- The entity map of a store, and the plain store of an input store.
 use Rattle.std.specs.Prelude.{◌≡◌, ◌↔◌, Bool, true, false, List, map}
 use Rattle.std.specs.declared.alloc.Global.{Global}
 use Rattle.std.specs.declared.rc.Rc.{Rc}
@@ -12,50 +12,58 @@ use Rattle.cedar_ids.specs.declared.entity.EntityUID.{EntityUID}
 use Rattle.cedar_entity.specs.View.{EntityView, has_ancestor}
 use Rattle.cedar_entity_maps.specs.World.{World, Parts, Given, graph}
 
--- entities under their uids
+-- A map from uids to entities: the entity map of a store.
 abbrev pub Held : Type 0
 Held = finmap.FinMap uid_order EntityView
 
--- no entity
+-- The empty entity map.
 abbrev pub no_entities : Held
 no_entities = finmap.empty
 
--- what a store holds, and whether it is partial
+-- A store as contracts describe it: its entity map, and whether it is partial.
 pub record StoreView : Type 0 where
   pub held : Held
   pub partial : Bool
 
--- the entities of a list of shared ones
+-- The entities of a list of shared entities.
 abbrev pub entities_in : List (Rc EntityView Global) → List EntityView
 entities_in list = map (λ r. r.value) list
 
--- what a world holds of an entity of the store
+-- The attributes, tags and parents of an entity.
 abbrev pub parts_of : EntityView → Parts
 parts_of e = record { attrs = e.attrs; tags = e.tags; parents = e.parents }
 
--- the entity as it was handed in
+-- The entity without its indirect ancestors, as an input entity.
 abbrev pub given_of : EntityView → Given
 given_of e = record { uid = e.uid; parts = parts_of e }
 
--- no indirect ancestors
+-- Holds if the entity has no indirect ancestors.
 abbrev pub IsBare : EntityView → Type 0
 IsBare e = (q : EntityUID) → set.contains e.indirect q ≡ false
 
--- no entity of the list has indirect ancestors
+-- Holds if no entity of the list has indirect ancestors.
 abbrev pub AreBare : List EntityView → Type 0
 AreBare L = AllByRecursion IsBare L
 
--- no parent is an indirect ancestor too
+-- Holds if no parent is also an indirect ancestor.
 abbrev pub IsApart : EntityView → Type 0
 IsApart e = (x : EntityUID) → set.contains e.parents x ≡ true → set.contains e.indirect x ≡ false
 
--- each entity stands under its own uid
+-- Holds if each entity is stored under its own uid.
 abbrev pub IsKeyed : Held → Type 0
 IsKeyed D = (q : EntityUID) → IfSome (finmap.get D q) (λ e. e.uid ≡ q)
 
--- the store holds W's entities under their uids, with W's parts and flag; the ancestors of each are exactly
--- the uids that it reaches over the parents, the indirect ones being those that are not parents; and no uid
--- reaches itself
+-- Holds if S is the plain store of the input store W: its ancestors are exactly what the parents imply.
+--
+-- - `partial`: S is partial if and only if W is.
+-- - `holds`: S and W have entities with the same uids, attributes, tags and parents.
+-- - `keyed`: each entity is stored under its own uid.
+-- - `reached`: the ancestors of each entity are exactly the uids that it reaches over one or more parents.
+-- - `apart`: no parent of an entity is also one of its indirect ancestors.
+-- - `acyclic`: no uid reaches itself over parents.
+--
+-- For example, let W have the entity `A` with the parent `B`, and the entity `B` with the parent `C`. Then in S the
+-- entity `A` has the parent `B` and the indirect ancestor `C`. It does not matter whether W has an entity `C`.
 pub record IsPlainStore (W : World) (S : StoreView) : Type 0 where
   pub partial : S.partial ≡ W.partial
   pub holds : (q : EntityUID) → option_map parts_of (finmap.get S.held q) ≡ finmap.get W.entities q
@@ -65,6 +73,6 @@ pub record IsPlainStore (W : World) (S : StoreView) : Type 0 where
   pub apart : (q : EntityUID) → IfSome (finmap.get S.held q) IsApart
   pub acyclic : (q : EntityUID) → Reach (graph W) q q → ⊥
 
--- an entity as an entry of a map
+-- An entity as an entry of a map.
 abbrev pub keyed : EntityView → EntityUID × EntityView
 keyed e = (e.uid, e)

@@ -1,4 +1,4 @@
--- What the refusals of a store's calls say.
+-- The meaning of the errors of a store's calls.
 use Rattle.std.specs.Prelude.{◌≡◌, ⊤, Bool, true, List}
 use Rattle.cedar_graph.specs.Graph.{Reach}
 use Rattle.cedar_graph.specs.declared.err.TcError.{TcError}
@@ -8,26 +8,28 @@ use Rattle.cedar_entity_maps.specs.World.{World, Given, graph, added, overwritte
 use Rattle.cedar_entity.specs.declared.err.EntitiesError.{EntitiesError}
 use Rattle.cedar_entity.specs.declared.err.EntitiesError.TheVariants as errors
 
--- D of a duplicate's uid, C of what the closure refused; nothing is said of memory, and nothing else is refused
+-- Holds if the uid of a duplicate satisfies D, or the error of the closure satisfies C, whichever the error is.
+-- `Memory` satisfies it always. No other error does.
 abbrev pub MatchRefusal : EntitiesError → (EntityUID → Type 0) → (TcError EntityUID → Type 0) → Type 0
 MatchRefusal (errors.Duplicate u) D C = D u
 MatchRefusal (errors.TransitiveClosureError t) D C = C t
 MatchRefusal errors.Memory D C = ⊤
 MatchRefusal e D C = ⊥
 
--- what names a uid that reaches itself over the parents of W, and nothing else
+-- Holds if the error is a cycle, and it names a uid that reaches itself over the parents of W.
 abbrev pub NamesCycle : World → TcError EntityUID → Type 0
 NamesCycle W t = IsClosureFault t (λ _ _ _. ⊥) (λ v. Reach (graph W) v v)
 
--- why adding the list to W is refused: the first of the list that differs or, where each agrees, a cycle of
--- what adding leaves
+-- Holds if e is a possible error of adding the list L to W. `Memory` always is. A duplicate names the first entity of L
+-- that differs from the existing one. A cycle is reported only if no entity differs, and it is a cycle of W after the
+-- addition.
 abbrev pub IsAddingRefused : World → List Given → EntitiesError → Type 0
 IsAddingRefused W L e = MatchRefusal e (FirstDiffers W L) (λ t. AllAgree W L × NamesCycle (added W L) t)
 
--- why overwriting W by the list is refused: a cycle of what overwriting leaves
+-- Holds if e is a possible error of overwriting W with the list L: `Memory`, or a cycle of W after the overwriting.
 abbrev pub IsOverwritingRefused : World → List Given → EntitiesError → Type 0
 IsOverwritingRefused W L e = MatchRefusal e (λ _. ⊥) (NamesCycle (overwritten W L))
 
--- a uid that a closure's refusal names as one on a cycle is one of these
+-- Holds if the error is a cycle that names an affected uid. A duplicate, a missing edge and `Memory` satisfy it always.
 abbrev pub NamesOneOf : (EntityUID → Bool) → EntitiesError → Type 0
 NamesOneOf touched e = MatchRefusal e (λ _. ⊤) (λ t. IsClosureFault t (λ _ _ _. ⊤) (λ v. touched v ≡ true))

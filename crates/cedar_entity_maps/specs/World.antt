@@ -1,4 +1,4 @@
--- A world of entities: what was put in by hand, with no ancestors but the parents.
+-- The input store: the entities as callers gave them. Each has parents, and no indirect ancestors.
 use Rattle.std.specs.Prelude.{◌≡◌, ◌↔◌, Bool, true, false, not, ◌&&◌, List, [], ◌∷◌, ◌++◌, map, Option, Some, None}
 use Rattle.std.specs.Option.{IfSome}
 use Rattle.std.specs.List.{AllByRecursion}
@@ -11,58 +11,59 @@ use Rattle.cedar_ids.specs.declared.entity.EntityUID.{EntityUID}
 use Rattle.cedar_entity.specs.Fields.{Fields}
 use Rattle.cedar_uid_sets.specs.UidSets.{UidValues}
 
--- what a world holds of an entity, beside its uid
+-- The attributes, tags and parents of an entity: all of its input except the uid.
 pub record Parts : Type 0 where
   pub attrs : Fields
   pub tags : Fields
   pub parents : UidValues
 
--- an entity as it is handed in
+-- An input entity: a uid and its parts.
 pub record Given : Type 0 where
   pub uid : EntityUID
   pub parts : Parts
 
--- a finite map from uids to parts, and whether the store is partial
+-- An input store: a map from uids to parts, and whether the store is partial.
 pub record World : Type 0 where
   pub entities : finmap.FinMap uid_order Parts
   pub partial : Bool
 
--- the world before anything was put in
+-- The empty input store, which is not partial.
 abbrev pub empty_world : World
 empty_world = record { entities = finmap.empty; partial = false }
 
--- an entity with these parents, and without attributes and tags
+-- The input entity with these parents, and without attributes and tags.
 abbrev pub given : EntityUID → List EntityUID → Given
 given u ps = record { uid = u; parts = record { attrs = []; tags = []; parents = set.from_list ps } }
 
--- whether b is a parent in what was found of a uid; nothing found has no parents
+-- Whether there are parts, and b is one of their parents.
 abbrev pub is_parent_in : Option Parts → EntityUID → Bool
 is_parent_in None b = false
 is_parent_in (Some p) b = set.contains p.parents b
 
--- the graph of the parents alone
+-- The graph of the parents: there is an edge from each entity to each of its parents.
 abbrev pub graph : World → EntityUID → EntityUID → Bool
 graph W a b = is_parent_in (finmap.get W.entities a) b
 
--- an entity as an entry of a map
+-- An input entity as an entry of a map.
 abbrev pub entry_of : Given → EntityUID × Parts
 entry_of g = (g.uid, g.parts)
 
--- the parts of the first of a list with the uid
+-- The parts of the first entity of a list with a uid.
 abbrev pub first : List Given → EntityUID → Option Parts
 first L q = finmap.find uid_order q (map entry_of L)
 
--- W and, for each uid that W lacks, the first of the list with it: of two entries with one uid
--- `from_entries` keeps the one in front
+-- The input store W with entities added. A uid that is not in W gets the first entity of the list with that uid. The
+-- entities of W do not change. (`from_entries` keeps the first of two entries with the same uid.)
 abbrev pub added : World → List Given → World
 added W L = record { entities = finmap.from_entries (finmap.entries W.entities ++ map entry_of L); partial = W.partial }
 
--- a list from its end
+-- The list in reverse order.
 abbrev pub reversed : {X : Type 0} → List X → List X
 reversed [] = []
 reversed (x ∷ xs) = reversed xs ++ x ∷ []
 
--- the last of the list with each uid, and for each uid that the list lacks what W holds
+-- The input store W, overwritten by a list. Each uid of the list gets the last entity of the list with that uid. The
+-- other entities of W do not change.
 abbrev pub overwritten : World → List Given → World
 overwritten W L = record {
   entities = finmap.from_entries (reversed (map entry_of L)
@@ -70,15 +71,16 @@ overwritten W L = record {
   partial = W.partial;
 }
 
--- whether u is one of the list and a key of W
+-- Whether a removal of the uids in the list removes u: u is in the list, and W contains it.
 abbrev pub goes : World → List EntityUID → EntityUID → Bool
 goes W U u = is_member same_uid U u && finmap.contains_key W.entities u
 
--- the entry without the parents that go
+-- The entry without the removed parents.
 abbrev pub without : (EntityUID → Bool) → EntityUID × Parts → EntityUID × Parts
 without gone e = (e.0, record e.1 { parents = set.retain e.1.parents (λ p. not (gone p)) })
 
--- W without the uids of the list that are its keys, as keys and as parents
+-- The input store W after the removal of the uids in the list that it contains. They are removed as entities, and as
+-- parents of the other entities. A uid without an entity in W remains a parent.
 abbrev pub deleted : World → List EntityUID → World
 deleted W U = record {
   entities = finmap.from_entries (map (without (goes W U))
@@ -86,27 +88,30 @@ deleted W U = record {
   partial = W.partial;
 }
 
--- p are the parts of the first of the list with the uid of g
+-- Holds if the optional parts are absent, or equal to the parts of g.
 abbrev pub AgreesWithFirst : Option Parts → Given → Type 0
 AgreesWithFirst o g = IfSome o (λ p. p ≡ g.parts)
 
--- g agrees with the version of its uid that stands. Of an entity of W this compares attributes, tags, and
--- what W's reaches with the parents of g; where W has none, the parts of the first of the list with those of g
+-- Holds if g agrees with the existing entity with its uid.
+--
+-- If W has an entity with the uid, g must have the same attributes and tags. The parents of g must be exactly the uids
+-- that the entity reaches in W. If W has none, g must have the same parts as the first entity of the list with the uid.
 abbrev pub AgreesWith : World → List Given → Option Parts → Given → Type 0
 AgreesWith W L (Some p) g =
     (p.attrs ≡ g.parts.attrs) × (p.tags ≡ g.parts.tags)
     × ((q : EntityUID) → (set.contains g.parts.parents q ≡ true) ↔ Reach (graph W) g.uid q)
 AgreesWith W L None g = AgreesWithFirst (first L g.uid) g
 
--- g agrees with the version of its uid that stands in W, or else first in the list
+-- Holds if g agrees with the entity of W with its uid or, if there is none, with the first entity of the list with its
+-- uid.
 abbrev pub Agrees : World → List Given → Given → Type 0
 Agrees W L g = AgreesWith W L (finmap.get W.entities g.uid) g
 
--- each of the list agrees
+-- Holds if each entity of the list agrees.
 abbrev pub AllAgree : World → List Given → Type 0
 AllAgree W L = AllByRecursion (Agrees W L) L
 
--- u is the uid at the first place of the list that does not agree
+-- Holds if u is the uid of the first entity of the list that does not agree.
 pub record FirstDiffers (W : World) (L : List Given) (u : EntityUID) : Type 0 where
   pub before : List Given
   pub at : Given
@@ -116,6 +121,6 @@ pub record FirstDiffers (W : World) (L : List Given) (u : EntityUID) : Type 0 wh
   pub differs : Agrees W L at → ⊥
   pub uid : at.uid ≡ u
 
--- a uid reaches itself over the parents
+-- Holds if a uid reaches itself over parents.
 abbrev pub IsCyclic : World → Type 0
 IsCyclic W = (v : EntityUID) × Reach (graph W) v v

@@ -1,4 +1,4 @@
-//! What a store knows beside its entities, by which an edit finds what it touches without a walk over all of them.
+//! The index of a store: facts and children by which an edit finds the affected entities without scanning all entities.
 ghost use Rattle.std.specs.Prelude.{◌≡◌, ◌&&◌, ◌||◌, Bool, None, not, is_some, IfErr, IfOk, IsTrue};
 ghost use Rattle.std.specs.FinMap as finmap;
 ghost use Rattle.std.specs.HashSet.{contains};
@@ -13,36 +13,48 @@ ghost use Rattle.cedar_entity_maps.specs.Touching.{is_touched};
 ghost use Rattle.cedar_entity_maps.specs.laws.Held.{held, held_map};
 ghost use Rattle.cedar_entity_maps.specs.laws.Indexes.{HasChildren, IsIndexOf, is_parent_at, parentage};
 
-use crate::sought::listed;
 use crate::touching::{note_all, touched_by_any};
-use cedar_children::Children;
+use cedar_children::{Children, listed};
 use cedar_entity::err::EntitiesError;
 use cedar_entity::node::SharedEntity;
 use cedar_uid_sets::{SharedUid, UidSet};
 use std::alloc::{AllocError, Global};
 use std::collections::{HashMap, HashSet};
+use std::fmt;
 use std::hash::BuildHasher;
 
-// A store with fewer entities is walked: that costs less than an index.
+// A store with fewer entities is scanned, which costs less than an index.
 const SMALL: usize = 40;
 
-// Children are listed when edits have walked over the store so often: listing them costs about as much.
+// The children are listed after edits have scanned this many times the number of entities, since listing them costs
+// about as much.
 const WALKS: usize = 16;
 
-/// What a store knows beside its entities.
+/// What a store knows in addition to its entities.
 #[derive(Drop)]
 pub struct Index<S: BuildHasher> {
-    /// Whether it knows that the ancestors of each entity are exactly what it reaches over the parents, and no entity
-    /// itself.
+    /// Whether the store is known to be plain: the ancestors of each entity are exactly the uids that it reaches over
+    /// parents, and no entity is its own ancestor.
     pub plain: bool,
-    /// How many entities edits have walked over since.
+    /// The number of entities that edits have scanned since the index was created.
     pub walked: usize,
     /// The children of each uid, once they are listed.
     pub children: Option<Children<S>>,
 }
 
+impl<S: BuildHasher> fmt::Debug for Index<S> {
+    /// Writes the three fields, with the children in the order of their map.
+    fn fmt<W: fmt::Write>(&self, f: &mut fmt::Formatter<W>) -> fmt::Result {
+        f.debug_struct("Index")
+            .field("plain", &self.plain)
+            .field("walked", &self.walked)
+            .field("children", &self.children)
+            .finish()
+    }
+}
+
 impl<S: BuildHasher> Index<S> {
-    /// That of a store of which this alone is known, whether it is plain. It takes no memory.
+    /// Creates an index without listed children. The caller states whether the store is plain. Does not allocate.
     pub fn unlisted(plain: bool) -> Index<S>
         ensures { result ≡ record { plain = plain; walked = 0; children = None } }
     {
@@ -55,7 +67,7 @@ impl<S: BuildHasher> Index<S> {
 }
 
 impl<S: BuildHasher + Clone> Index<S> {
-    /// The index where this is so too, and else that of a store of which nothing is known. It takes no memory.
+    /// Returns the index unchanged if `stays` is true, and otherwise an index that knows nothing. Does not allocate.
     pub fn plain_if(self, stays: bool) -> Index<S>
         ensures plain { IsTrue result.plain → IsTrue self.plain × IsTrue stays }
         ensures children { (f : EntityUID → EntityUID → Bool) → IfSome self.children (HasChildren f)
@@ -65,7 +77,7 @@ impl<S: BuildHasher + Clone> Index<S> {
     }
 }
 
-// The uids of a map, in their order.
+// Returns the uids of a map, in ascending order.
 fn keys_in_order<S: BuildHasher>(
     alloc: Global,
     entities: &HashMap<SharedUid, SharedEntity, S>,
@@ -80,7 +92,7 @@ fn keys_in_order<S: BuildHasher>(
     Ok(set.into_pointers())
 }
 
-// The children with those that the entity at a uid is one of, if there is one.
+// Adds the entity at a uid, if there is one, as a child of its parents.
 fn with_at<S: BuildHasher + Clone>(
     alloc: Global,
     children: Children<S>,
@@ -96,7 +108,7 @@ fn with_at<S: BuildHasher + Clone>(
     }
 }
 
-// The children with those that the entities at some uids are.
+// Adds the entities at the uids as children of their parents.
 fn with_all<S: BuildHasher + Clone>(
     alloc: Global,
     children: Children<S>,
@@ -113,7 +125,7 @@ fn with_all<S: BuildHasher + Clone>(
     Ok(all)
 }
 
-// The children of each uid. Entities are put in by the order of their uids, so that each goes behind its siblings.
+// Lists the children of each uid. Entities are added in ascending order of uid, so each is appended after its siblings.
 fn children_of<S: BuildHasher + Clone>(
     alloc: Global,
     entities: &HashMap<SharedUid, SharedEntity, S>,
@@ -125,7 +137,8 @@ fn children_of<S: BuildHasher + Clone>(
     with_all(alloc, none, entities, &keys)
 }
 
-/// Lists the children, where walks have cost as much. Where memory for that is refused they stay unlisted.
+/// Lists the children once scans have cost about as much as listing. If an allocation fails, the children stay
+/// unlisted.
 pub fn list_if_it_pays<S: BuildHasher + Clone>(
     alloc: Global,
     entities: &HashMap<SharedUid, SharedEntity, S>,
@@ -146,7 +159,8 @@ pub fn list_if_it_pays<S: BuildHasher + Clone>(
     index.children = children_of(alloc, entities).ok();
 }
 
-// Some uids and what lies below them, which is all that an edit of these touches, where the children are listed.
+// Returns the uids and their descendants, if the children are listed. In a plain store these are exactly the entities
+// that an edit of the uids affects.
 fn walk_down<S: BuildHasher + Clone>(
     alloc: Global,
     index: &Index<S>,
@@ -164,7 +178,7 @@ fn walk_down<S: BuildHasher + Clone>(
     }
 }
 
-// Some uids and those of the entities that have one of them among their ancestors, by a walk over all.
+// Returns the uids, and the uids of all entities that have one of them as an ancestor, by scanning all entities.
 fn walk_all<S: BuildHasher + Clone>(
     alloc: Global,
     entities: &HashMap<SharedUid, SharedEntity, S>,
@@ -181,9 +195,14 @@ fn walk_all<S: BuildHasher + Clone>(
     Ok(touched)
 }
 
-/// What an edit of some uids touches in the map of which there is the index, if it touches the same in this one: down
-/// from these uids where the index lists children, else by a walk over all entities. It takes memory; `Memory` comes
-/// where that was refused.
+/// Returns the uids of all entities that an edit of `uids` affects. The index may belong to another map if the edit
+/// affects the same entities in both.
+///
+/// Searches down from the uids if the children are listed, and scans all entities otherwise.
+///
+/// # Errors
+///
+/// Returns `Memory` if an allocation fails.
 pub fn touched_by<S: BuildHasher + Clone>(
     alloc: Global,
     entities: &HashMap<SharedUid, SharedEntity, S>,
@@ -201,7 +220,7 @@ pub fn touched_by<S: BuildHasher + Clone>(
     walk_all(alloc, entities, uids)
 }
 
-// Takes the entity at a uid from the children.
+// Removes the entity at a uid from the children of its parents.
 fn leave_at<S: BuildHasher + Clone>(
     children: &mut Children<S>,
     entities: &HashMap<SharedUid, SharedEntity, S>,
@@ -215,7 +234,7 @@ fn leave_at<S: BuildHasher + Clone>(
     }
 }
 
-// Takes the entities at some uids from the children.
+// Removes the entities at the uids from the children of their parents.
 fn leave_all<S: BuildHasher + Clone>(
     children: &mut Children<S>,
     entities: &HashMap<SharedUid, SharedEntity, S>,
@@ -229,7 +248,7 @@ fn leave_all<S: BuildHasher + Clone>(
     }
 }
 
-// Takes some uids out as parents.
+// Removes the uids as parents.
 fn forget_all<S: BuildHasher + Clone>(children: &mut Children<S>, uids: &[SharedUid])
     ensures { (p q : EntityUID) → is_child children.new p q
         ≡ (not (is_member same_uid uids.now p) && is_child children.old p q) }
@@ -239,8 +258,8 @@ fn forget_all<S: BuildHasher + Clone>(children: &mut Children<S>, uids: &[Shared
     }
 }
 
-/// Takes the entities at some uids from the children that are listed, and some as parents too, before they are written.
-/// It takes no memory.
+/// Removes the entities at `uids` from the listed children, and removes the uids in `gone` as parents. Call it before
+/// the entities are changed. Does not allocate.
 pub fn part<S: BuildHasher + Clone>(
     index: &mut Index<S>,
     entities: &HashMap<SharedUid, SharedEntity, S>,
@@ -258,8 +277,8 @@ pub fn part<S: BuildHasher + Clone>(
     }
 }
 
-/// Puts the entities at some uids in as children, where these are listed. Where memory for that is refused they are no
-/// more.
+/// Adds the entities at `uids` to the listed children. If an allocation fails, the children are dropped and stay
+/// unlisted.
 pub fn join<S: BuildHasher + Clone>(
     alloc: Global,
     index: &mut Index<S>,

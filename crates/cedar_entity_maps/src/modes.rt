@@ -1,36 +1,36 @@
-//! The modes in which a store is changed, and what each of them does.
+//! The modes of edits, and their edit rules.
 ghost use Rattle.std.specs.Prelude.{◌≡◌};
 ghost use Rattle.cedar_entity_maps.specs.Modes.{computes, mending, row_of};
 
-/// How a call sees to it that ancestors are closed.
+/// The mode of a call: how it ensures that ancestors are complete.
 ///
-/// What a call touches is what it puts in or takes out, and what has that among its ancestors. A removal repairs what
-/// it touched in each mode: that is given what it still reaches.
+/// An edit affects the entities that it adds or removes, and the entities that have one of them as an ancestor. In
+/// every mode, a removal repairs the affected entities: they get all ancestors that they still reach.
 #[derive(Clone, Copy, Debug, Drop, PartialEq, Eq, Hash)]
 pub enum TCComputation {
-    /// Entities that are put in are taken to have all their ancestors: nothing is computed for them or for what is
-    /// above or below. A removal repairs. Nothing is checked, and no cycle is refused.
+    /// Added entities are expected to have all of their ancestors. Nothing is computed for them, for their ancestors or
+    /// for their descendants. A removal repairs the affected entities. Nothing is checked.
     AssumeAlreadyComputed,
-    /// Entities that are put in are taken as they are, and a removal repairs, as under `AssumeAlreadyComputed`. Then
-    /// the whole store is checked, and refused where an ancestor of an ancestor is missing or an entity is its own.
+    /// Added entities are stored without changes, and a removal repairs the affected entities. Then the whole store is
+    /// checked. An error is returned if an ancestor of an ancestor is missing, or if an entity is its own ancestor.
     EnforceAlreadyComputed,
-    /// What is touched is given all that it reaches, in a removal too, and the store is refused where one of it reaches
-    /// itself. Nothing else is checked.
+    /// The affected entities get all ancestors that they reach, after a removal too. An error is returned if one of
+    /// them reaches itself. Nothing else is checked.
     ComputeNow,
 }
 
-/// What a mode does. A removal repairs what it touched in each mode.
-#[derive(Clone, Copy, Drop)]
+/// The edit rules of a mode. A removal repairs the affected entities in every mode.
+#[derive(Clone, Copy, Debug, Drop)]
 pub struct Row {
-    /// Whether what is put in is repaired, with what has that among its ancestors.
+    /// Whether added entities, and the entities that have one of them as an ancestor, are repaired.
     pub repairs: bool,
-    /// Whether a repair refuses a cycle, before it writes an ancestor.
+    /// Whether a repair reports a cycle, before it writes an ancestor.
     pub refuses_cycles: bool,
-    /// Whether the whole is checked at the end: that it is closed, and that no entity is its own ancestor.
+    /// Whether the whole store is checked at the end: the ancestors are closed, and no entity is its own ancestor.
     pub checks: bool,
 }
 
-/// What a mode does, as its row says. It takes no memory.
+/// Returns the edit rules of a mode. Does not allocate.
 pub fn row_of(tc_computation: TCComputation) -> Row
     ensures { result ≡ row_of tc_computation }
 {
@@ -53,7 +53,7 @@ pub fn row_of(tc_computation: TCComputation) -> Row
     }
 }
 
-/// By which row a removal ends: it repairs. It takes no memory.
+/// Returns the edit rules with repair on. A removal uses them. Does not allocate.
 pub fn mending(row: Row) -> Row
     ensures { result ≡ mending row }
 {
@@ -64,15 +64,15 @@ pub fn mending(row: Row) -> Row
     }
 }
 
-/// Whether a row computes the closure of what is put in: it repairs that, refuses a cycle there, and looks for nothing
-/// else. It takes no memory.
+/// Returns whether the edit rules compute the closure of added entities: they repair, report a cycle, and check nothing
+/// else. Does not allocate.
 pub fn row_computes(row: Row) -> bool
     ensures { result ≡ computes row }
 {
     row.repairs && row.refuses_cycles && !row.checks
 }
 
-/// Whether a mode computes it. It takes no memory.
+/// Returns whether a mode computes the closure of added entities. Does not allocate.
 pub fn computes(tc_computation: TCComputation) -> bool
     ensures { result ≡ computes (row_of tc_computation) }
 {

@@ -1,4 +1,5 @@
-//! How an edit ends: what is touched is closed, and the whole is checked, as the row of the mode says.
+//! The finalization of an edit: the affected entities are repaired and the whole store is checked, as the edit rules of
+//! the mode state.
 ghost use Rattle.std.specs.Prelude.{◌≡◌, true, IfErr, OnOk};
 ghost use Rattle.std.specs.Bool.{OnTrue};
 ghost use Rattle.std.specs.HashSet.{contains};
@@ -18,8 +19,16 @@ use std::alloc::Global;
 use std::collections::{HashMap, HashSet};
 use std::hash::BuildHasher;
 
-/// Checks that the ancestors are closed and that no entity is its own. `TransitiveClosureError` names what breaks that,
-/// and `Memory` comes where a growth was refused. It takes memory, and costs what `enforce_tc_and_dag` does.
+/// Checks that the ancestors of all entities are closed, and that no entity is its own ancestor.
+///
+/// # Errors
+///
+/// - `TransitiveClosureError`: the check fails. The error names the uids that show it.
+/// - `Memory`: an allocation failed.
+///
+/// # Complexity
+///
+/// As in `enforce_tc_and_dag`.
 pub fn check<S: BuildHasher + Clone>(
     alloc: Global,
     entities: &HashMap<SharedUid, SharedEntity, S>,
@@ -32,7 +41,7 @@ pub fn check<S: BuildHasher + Clone>(
     Ok(())
 }
 
-// Checks that, where it is asked for.
+// Checks the store, if `checks` is true.
 fn check_if<S: BuildHasher + Clone>(
     alloc: Global,
     entities: &HashMap<SharedUid, SharedEntity, S>,
@@ -50,7 +59,7 @@ fn check_if<S: BuildHasher + Clone>(
     }
 }
 
-// Gives the entities that are touched the ancestors that they reach. Where a cycle is asked for, it is told before any
+// Adds to the affected entities the ancestors that they reach. If `enforce_dag` is true, a cycle is reported before any
 // ancestor is written.
 fn repair_touched<S: BuildHasher + Clone>(
     alloc: Global,
@@ -71,8 +80,8 @@ fn repair_touched<S: BuildHasher + Clone>(
     Ok(())
 }
 
-// Gives all entities the ancestors that they reach. Where a cycle is asked for, it is told before any ancestor is
-// written. So all that a map held where it was empty before is repaired, whatever passes for touched.
+// Adds to all entities the ancestors that they reach. If `enforce_dag` is true, a cycle is reported before any ancestor
+// is written. Use it if the map was empty before the edit; then every entity is affected.
 fn repair_all<S: BuildHasher + Clone>(
     alloc: Global,
     entities: &mut HashMap<SharedUid, SharedEntity, S>,
@@ -91,10 +100,18 @@ fn repair_all<S: BuildHasher + Clone>(
     Ok(())
 }
 
-/// Ends an edit: repairs what is touched, and checks the whole, as the row says.
+/// Finalizes an edit: repairs the affected entities, and checks the whole store, as the edit rules state.
 ///
-/// `TransitiveClosureError` tells of a cycle, or of what the check finds; `Memory` comes where a growth was refused. A
-/// refusal may leave a part repaired. It takes memory where it repairs or checks, and costs what the closure does.
+/// # Errors
+///
+/// - `TransitiveClosureError`: there is a cycle, or the check fails.
+/// - `Memory`: an allocation failed.
+///
+/// After an error, some entities may be repaired.
+///
+/// # Complexity
+///
+/// As in the functions of `cedar_graph`. Allocates only if it repairs or checks.
 pub fn finish<S: BuildHasher + Clone>(
     alloc: Global,
     entities: &mut HashMap<SharedUid, SharedEntity, S>,
@@ -113,7 +130,11 @@ pub fn finish<S: BuildHasher + Clone>(
     check_if(alloc, entities, row.checks)
 }
 
-/// Ends an adding, as the mode says, and is refused as [`finish`] is.
+/// Finalizes the addition of entities, by the edit rules of the mode.
+///
+/// # Errors
+///
+/// The errors of [`finish`].
 pub fn settle_touched<S: BuildHasher + Clone>(
     alloc: Global,
     entities: &mut HashMap<SharedUid, SharedEntity, S>,
@@ -128,7 +149,7 @@ pub fn settle_touched<S: BuildHasher + Clone>(
     finish(alloc, entities, touched, row_of(tc_computation))
 }
 
-// Ends an adding to an empty map: repairs all, and checks it, as the row says.
+// Finalizes the addition of entities to an empty map: repairs and checks all entities, as the edit rules state.
 fn finish_whole<S: BuildHasher + Clone>(
     alloc: Global,
     entities: &mut HashMap<SharedUid, SharedEntity, S>,
@@ -146,7 +167,11 @@ fn finish_whole<S: BuildHasher + Clone>(
     check_if(alloc, entities, row.checks)
 }
 
-/// Ends an adding to an empty map, as the mode says: all that it holds is touched. It is refused as [`finish`] is.
+/// Finalizes the addition of entities to an empty map, by the edit rules of the mode. All entities are affected.
+///
+/// # Errors
+///
+/// The errors of [`finish`].
 pub fn settle_whole<S: BuildHasher + Clone>(
     alloc: Global,
     entities: &mut HashMap<SharedUid, SharedEntity, S>,

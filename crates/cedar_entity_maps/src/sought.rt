@@ -1,4 +1,4 @@
-//! Uids that are looked for among the ancestors of many entities.
+//! Lookups of uids among the ancestors of many entities.
 ghost use Rattle.std.specs.Prelude.{◌≡◌, ◌&&◌, ◌||◌, IfOk, OnOk};
 ghost use Rattle.std.specs.List.{list_any};
 ghost use Rattle.std.specs.Set.{is_member};
@@ -7,6 +7,7 @@ ghost use Rattle.cedar_ids.specs.declared.entity.EntityUID.{EntityUID};
 ghost use Rattle.cedar_entity.specs.View.{has_ancestor};
 ghost use Rattle.cedar_entity_maps.specs.laws.Losses.{is_stripped};
 
+use cedar_children::listed;
 use cedar_entity::entity::Entity;
 use cedar_uid_sets::SharedUid;
 use std::alloc::{AllocError, Global};
@@ -14,10 +15,12 @@ use std::collections::HashSet;
 use std::hash::BuildHasher;
 use std::marker::Model;
 
-// So many uids are looked for one by one among an entity's ancestors; of more, each ancestor is looked for.
+// Up to this number of uids are looked up one by one among an entity's ancestors. For more uids, each ancestor is
+// looked up among the uids.
 const FEW: usize = 16;
 
-// Some uids, a few of them as a list too, since a walk through a list costs less at each entity than one through a set.
+// A set of uids to look up. A small set is stored as a list too, because iterating over a list is faster than iterating
+// over a set.
 #[derive(Drop)]
 pub(crate) struct Sought<'a, S: BuildHasher> {
     all: &'a HashSet<SharedUid, S>,
@@ -37,7 +40,7 @@ impl<'a, S: BuildHasher> Model for Sought<'a, S> {
 }
 
 impl<'a, S: BuildHasher> Sought<'a, S> {
-    // These uids, to be looked for.
+    // Prepares the uids for lookups.
     pub(crate) fn of(
         alloc: Global,
         uids: &'a HashSet<SharedUid, S>,
@@ -57,7 +60,7 @@ impl<'a, S: BuildHasher> Sought<'a, S> {
         })
     }
 
-    // Whether an entity has one of the uids among its ancestors.
+    // Checks whether an entity has one of the uids as an ancestor.
     pub(crate) fn has_any(&self, entity: &Entity) -> bool
         ensures { result ≡ list_any (has_ancestor entity.now) self.now }
     {
@@ -67,7 +70,7 @@ impl<'a, S: BuildHasher> Sought<'a, S> {
         }
     }
 
-    // Whether an entity loses something by the uids: it is none of them, and has one of them among its ancestors.
+    // Checks whether an entity has stale ancestors: it is not one of the uids, and it has one of them as an ancestor.
     pub(crate) fn is_hit(&self, key: &SharedUid, entity: &Entity) -> bool
         ensures { result ≡ is_stripped self.now key.now (has_ancestor entity.now) }
     {
@@ -77,7 +80,7 @@ impl<'a, S: BuildHasher> Sought<'a, S> {
         !self.all.contains(key)
     }
 
-    // Those of the uids that an entity has among its ancestors.
+    // Returns the uids that are ancestors of an entity.
     pub(crate) fn hits(&self, alloc: Global, entity: &Entity) -> Result<Vec<SharedUid>, AllocError>
         ensures { IfOk result (λ v. (q : EntityUID) → is_member same_uid v.items q
             ≡ (is_member same_uid self.now q && has_ancestor entity.now q)) }
@@ -89,21 +92,7 @@ impl<'a, S: BuildHasher> Sought<'a, S> {
     }
 }
 
-/// The uids of a set as a list, each shared once more. It takes memory for the list.
-pub fn listed<S: BuildHasher>(
-    alloc: Global,
-    uids: &HashSet<SharedUid, S>,
-) -> Result<Vec<SharedUid>, AllocError>
-    ensures { IfOk result (λ v. v.items ≡ uids.now.keys) }
-{
-    let mut list = Vec::new(alloc);
-    for uid in uids {
-        list.push(uid.clone()?)?;
-    }
-    Ok(list)
-}
-
-// Whether an entity has one of some uids among its ancestors, by a look for each of these.
+// Checks whether an entity has one of the uids as an ancestor, by looking up each uid.
 fn has_any_of(entity: &Entity, uids: &[SharedUid]) -> bool
     ensures { result ≡ list_any (has_ancestor entity.now) uids.now }
 {
@@ -115,7 +104,7 @@ fn has_any_of(entity: &Entity, uids: &[SharedUid]) -> bool
     false
 }
 
-// Whether an entity has one of some uids among its ancestors, by a look for each ancestor.
+// Checks whether an entity has one of the uids as an ancestor, by looking up each ancestor.
 fn has_any_among<S: BuildHasher>(entity: &Entity, uids: &HashSet<SharedUid, S>) -> bool
     ensures { result ≡ list_any (has_ancestor entity.now) uids.now.keys }
 {
@@ -127,7 +116,7 @@ fn has_any_among<S: BuildHasher>(entity: &Entity, uids: &HashSet<SharedUid, S>) 
     false
 }
 
-// Puts a uid on a list, where it is a hit.
+// Appends a uid to a list, if `is_hit` is true.
 fn push_if(hits: &mut Vec<SharedUid>, uid: &SharedUid, is_hit: bool) -> Result<(), AllocError>
     ensures { OnOk result ((q : EntityUID) → is_member same_uid hits.new.items q
         ≡ (is_member same_uid hits.old.items q || (same_uid uid.now q && is_hit))) }
@@ -139,7 +128,7 @@ fn push_if(hits: &mut Vec<SharedUid>, uid: &SharedUid, is_hit: bool) -> Result<(
     Ok(())
 }
 
-// Those of some uids that an entity has among its ancestors, by a look for each of these.
+// Returns the uids that are ancestors of an entity, by looking up each uid.
 fn hits_by_uid(
     alloc: Global,
     entity: &Entity,
@@ -155,7 +144,7 @@ fn hits_by_uid(
     Ok(hits)
 }
 
-// Those of some uids that an entity has among its ancestors, by a look for each ancestor.
+// Returns the uids that are ancestors of an entity, by looking up each ancestor.
 fn hits_by_ancestor<S: BuildHasher>(
     alloc: Global,
     entity: &Entity,

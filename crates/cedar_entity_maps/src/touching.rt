@@ -1,5 +1,4 @@
-//! What goes from each entity by the uids that an edit applies, how it is stripped of that, and which entities are
-//! touched.
+//! The stale ancestors of each entity after an edit of some uids, their removal, and the affected entities.
 ghost use Rattle.std.specs.Prelude.{◌≡◌, Some, true, cond, ◌&&◌, ◌||◌, not, is_some, IfOk, IfErr, OnOk};
 ghost use Rattle.std.specs.FinSet as set;
 ghost use Rattle.std.specs.HashSet.{contains};
@@ -17,7 +16,8 @@ ghost use Rattle.cedar_entity_maps.specs.laws.Held.{held, held_map, UidsMatch};
 ghost use Rattle.cedar_entity_maps.specs.laws.Losses.{AreLossesOf, IsLossOf, IsWhole, is_lost};
 ghost use Rattle.cedar_entity_maps.specs.laws.Losses.{is_stripped, loses, loses_uid, takes};
 
-use crate::sought::{Sought, listed};
+use crate::sought::Sought;
+use cedar_children::listed;
 use cedar_entity::entity::Entity;
 use cedar_entity::err::EntitiesError;
 use cedar_entity::node::SharedEntity;
@@ -29,23 +29,23 @@ use std::collections::{HashMap, HashSet};
 use std::hash::BuildHasher;
 use std::rc::Rc;
 
-/// What goes of the indirect ancestors of an entity.
-#[derive(Drop)]
+/// The stale indirect ancestors of an entity.
+#[derive(Debug, Drop)]
 pub enum Lost {
-    /// All of them.
+    /// All indirect ancestors.
     All,
-    /// Those of a set.
+    /// The uids of a set.
     These(UidSet),
 }
 
-/// What goes from an entity that has one of the applied uids among its ancestors.
-#[derive(Drop)]
+/// An entity with one of the edited uids as an ancestor, and its stale ancestors.
+#[derive(Debug, Drop)]
 pub struct Loss {
     pub uid: SharedUid,
     pub lost: Lost,
 }
 
-// Copies of the ancestors of an entity.
+// Copies the shared uids of the ancestors of an entity.
 fn ancestors_of(alloc: Global, node: &SharedEntity) -> Result<Vec<SharedUid>, AllocError>
     ensures { IfOk result (λ v. (q : EntityUID) → is_member same_uid v.items q ≡ has_ancestor node.now.0.value q) }
 {
@@ -57,7 +57,7 @@ fn ancestors_of(alloc: Global, node: &SharedEntity) -> Result<Vec<SharedUid>, Al
     Ok(all)
 }
 
-// An entity's uid and its ancestors.
+// Returns the uid of an entity and its ancestors.
 fn with_ancestors(
     alloc: Global,
     uid: &SharedUid,
@@ -71,7 +71,7 @@ fn with_ancestors(
     Ok(all)
 }
 
-// The uid and its ancestors, where the map holds it, and else nothing.
+// Returns the uid and its ancestors if the map contains its entity, and nothing otherwise.
 fn with_ancestors_at<S: BuildHasher>(
     alloc: Global,
     entities: &HashMap<SharedUid, SharedEntity, S>,
@@ -87,7 +87,7 @@ fn with_ancestors_at<S: BuildHasher>(
     }
 }
 
-// Adds uids to a set.
+// Inserts uids into a set.
 fn insert_all<S: BuildHasher>(
     all: &mut HashSet<SharedUid, S>,
     uids: Vec<SharedUid>,
@@ -101,7 +101,11 @@ fn insert_all<S: BuildHasher>(
     Ok(())
 }
 
-/// Notes some uids. It takes memory for new ones; `Memory` comes where that was refused, and some are noted then.
+/// Inserts uids into a set.
+///
+/// # Errors
+///
+/// Returns `Memory` if an allocation fails. After an allocation failure the set may contain some of the uids.
 pub fn note_all<S: BuildHasher>(
     noted: &mut HashSet<SharedUid, S>,
     uids: Vec<SharedUid>,
@@ -114,7 +118,7 @@ pub fn note_all<S: BuildHasher>(
     Ok(())
 }
 
-// Copies of the uids of the entities that have one of some uids among their ancestors.
+// Returns the uids of the entities that have one of `uids` as an ancestor.
 pub(crate) fn touched_by_any<S: BuildHasher>(
     alloc: Global,
     entities: &HashMap<SharedUid, SharedEntity, S>,
@@ -133,7 +137,7 @@ pub(crate) fn touched_by_any<S: BuildHasher>(
     Ok(copies)
 }
 
-// What goes with some uids.
+// Returns the uids that are entities of the map, and the ancestors of these entities.
 fn all_with_ancestors<S: BuildHasher + Clone>(
     alloc: Global,
     entities: &HashMap<SharedUid, SharedEntity, S>,
@@ -149,7 +153,7 @@ fn all_with_ancestors<S: BuildHasher + Clone>(
     Ok(lost)
 }
 
-// What goes with some uids, as a set.
+// Returns the uids that are entities of the map, and the ancestors of these entities, as a `UidSet`.
 fn uid_set_with_ancestors<S: BuildHasher + Clone>(
     alloc: Global,
     entities: &HashMap<SharedUid, SharedEntity, S>,
@@ -165,7 +169,7 @@ fn uid_set_with_ancestors<S: BuildHasher + Clone>(
     UidSet::from_pointers(listed(alloc, &lost)?)
 }
 
-// What goes from an entity by some uids.
+// Computes the stale ancestors of an entity after an edit of `uids`.
 fn loss_of<S: BuildHasher + Clone>(
     alloc: Global,
     entities: &HashMap<SharedUid, SharedEntity, S>,
@@ -186,7 +190,7 @@ fn loss_of<S: BuildHasher + Clone>(
     })
 }
 
-// Notes what goes from an entity by some uids, where something does.
+// Appends an entity and its stale ancestors to the list, if it has any.
 fn push_loss<S: BuildHasher + Clone>(
     entities: &HashMap<SharedUid, SharedEntity, S>,
     key: &SharedUid,
@@ -209,7 +213,7 @@ fn push_loss<S: BuildHasher + Clone>(
     Ok(())
 }
 
-// Notes what goes from the entity at a uid by some uids, where there is one and something does.
+// Appends the entity at a uid and its stale ancestors to the list, if there is an entity and it has any.
 fn push_loss_at<S: BuildHasher + Clone>(
     entities: &HashMap<SharedUid, SharedEntity, S>,
     key: &SharedUid,
@@ -228,8 +232,8 @@ fn push_loss_at<S: BuildHasher + Clone>(
     }
 }
 
-// What goes by some uids from each entity that is none of them and has one of them among its ancestors. All these are
-// among the entities that are touched.
+// Lists the stale ancestors of each entity that is not one of `uids` and has one of them as an ancestor. All of these
+// entities are in `touched`.
 fn losses_among<S: BuildHasher + Clone>(
     alloc: Global,
     entities: &HashMap<SharedUid, SharedEntity, S>,
@@ -250,7 +254,7 @@ fn losses_among<S: BuildHasher + Clone>(
     Ok(losses)
 }
 
-// Notes that all indirect ancestors go from the entity at a uid, unless that is one of some uids.
+// Appends the entity at a uid with all of its indirect ancestors, unless the uid is one of `uids`.
 fn push_whole<S: BuildHasher>(
     key: &SharedUid,
     uids: &HashSet<SharedUid, S>,
@@ -270,7 +274,7 @@ fn push_whole<S: BuildHasher>(
     Ok(())
 }
 
-// All indirect ancestors, from each entity that is touched and none of some uids.
+// Lists all indirect ancestors of each affected entity that is not one of `uids`.
 fn whole_losses<S: BuildHasher>(
     alloc: Global,
     uids: &HashSet<SharedUid, S>,
@@ -287,9 +291,16 @@ fn whole_losses<S: BuildHasher>(
     Ok(losses)
 }
 
-/// What goes by some uids from each entity that is touched and none of them: where a repair writes all ancestors of
-/// that anew, all indirect ones, of which none is then read. It takes memory for the list, and costs the ancestors that
-/// it reads.
+/// Lists the stale ancestors of each affected entity that is not one of `uids`. If `anew` is true, a later repair
+/// recomputes all ancestors of these entities. Then all indirect ancestors are listed as stale, and none is read.
+///
+/// # Errors
+///
+/// Returns `AllocError` if an allocation fails.
+///
+/// # Complexity
+///
+/// Proportional to the number of ancestors that are read. Allocates the list.
 pub fn losses_by<S: BuildHasher + Clone>(
     alloc: Global,
     entities: &HashMap<SharedUid, SharedEntity, S>,
@@ -309,7 +320,7 @@ pub fn losses_by<S: BuildHasher + Clone>(
     losses_among(alloc, entities, uids, touched)
 }
 
-// Takes what goes out of the indirect ancestors of an entity.
+// Removes stale ancestors from the indirect ancestors of an entity.
 fn lose(entity: &mut Entity, lost: &Lost)
     ensures { entity.new ≡ record entity.old {
       indirect = set.retain entity.old.indirect (λ w. not (is_lost lost.now w));
@@ -321,7 +332,7 @@ fn lose(entity: &mut Entity, lost: &Lost)
     }
 }
 
-// Takes some uids from the parents and others from the indirect ancestors of an entity.
+// Removes the uids in `gone` from the parents of an entity, and stale ancestors from its indirect ancestors.
 fn strip_once(entity: &mut Entity, gone: &UidSet, lost: &Lost)
     ensures { entity.new ≡ stripped (set.contains gone.now) (is_lost lost.now) entity.old }
 {
@@ -329,7 +340,7 @@ fn strip_once(entity: &mut Entity, gone: &UidSet, lost: &Lost)
     entity.remove_parents_of(gone);
 }
 
-// Takes some uids from the parents and others from the indirect ancestors of the entity at a uid.
+// Removes the uids in `gone` from the parents of the entity at a uid, and stale ancestors from its indirect ancestors.
 fn strip_once_at<S: BuildHasher>(
     entities: &mut HashMap<SharedUid, SharedEntity, S>,
     uid: &SharedUid,
@@ -347,8 +358,11 @@ fn strip_once_at<S: BuildHasher>(
     Ok(())
 }
 
-/// Strips each entity that loses something. It takes memory to copy an entity that is shared; `Memory` comes where that
-/// was refused, and some are stripped then.
+/// Removes stale ancestors, and the parents in `gone`, from each listed entity. A shared entity is copied first.
+///
+/// # Errors
+///
+/// Returns `Memory` if the allocation of a copy fails. After an allocation failure some of the entities are changed.
 pub fn strip_each<S: BuildHasher>(
     entities: &mut HashMap<SharedUid, SharedEntity, S>,
     losses: Vec<Loss>,
@@ -365,8 +379,12 @@ pub fn strip_each<S: BuildHasher>(
     Ok(())
 }
 
-/// Takes all indirect ancestors from the entities that are touched and none of some uids, where a repair writes them
-/// anew. It takes memory, and is refused, as [`strip_each`].
+/// Removes all indirect ancestors from each affected entity that is not one of `uids`, if `anew` is true. A later
+/// repair computes them again. A shared entity is copied first.
+///
+/// # Errors
+///
+/// Returns `Memory` if an allocation fails. After an allocation failure some of the entities are changed.
 pub fn forget_each<S: BuildHasher>(
     alloc: Global,
     entities: &mut HashMap<SharedUid, SharedEntity, S>,

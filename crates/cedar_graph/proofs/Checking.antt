@@ -1,4 +1,4 @@
--- Where each number has an arc to what it reaches, the graph is closed.
+-- If each number has an arc to every number that it reaches, the graph is closed.
 use Rattle.std.specs.Cmp.{IsEquivalence}
 use Rattle.std.specs.HashMap.{HashMap}
 use Rattle.std.specs.List.{IsDistinct}
@@ -12,7 +12,7 @@ use Rattle.cedar_graph.specs.laws.Checks.{IsClosedAt}
 use Rattle.cedar_graph.proofs.Keyed.{number_same}
 use Rattle.cedar_graph.proofs.Reaches.{both, graph_to}
 
--- over two arcs
+-- Two arcs form a path.
 pub goes_two : (E : ℕ → ℕ → Type 0) (a b c : ℕ) → E a b → E b c → Goes E a c
 unfolding Leads
 goes_two E a b c p q = (b, p, (c ∷ [], (q, refl)))
@@ -20,7 +20,7 @@ goes_two E a b c p q = (b, p, (c ∷ [], (q, refl)))
 module _ {K V S : Type 0} {eq : K → K → Bool} (laws : IsEquivalence eq) (edges : V → K → Bool)
     (alike : (n : V) (x y : K) → eq x y ≡ true → edges n x ≡ edges n y) (nodes : HashMap K V S) (keys : List K)
     (E : ℕ → ℕ → Type 0) (same : AreSameEdges eq (graph_of eq edges nodes) keys E) where
-  -- the keys of two numbers have an edge where the numbers have an arc
+  -- If there is an arc between two numbers, there is an edge between their keys.
   pub edge_of : (a b : ℕ) (p q : K) → E a b → IsKeyAt eq keys a p → IsKeyAt eq keys b q
       → graph_of eq edges nodes p q ≡ true
   edge_of a b p q e at_a at_b =
@@ -37,7 +37,7 @@ module _ {K V S : Type 0} {eq : K → K → Bool} (laws : IsEquivalence eq) (edg
       let arc = closed n.0 n.2 m.0 l.0 m.2 l.2 in
       edge_of n.0 l.0 a c arc (n.1, n.3, laws.symm n.1 a ∙ n.4) (l.1, l.3, laws.symm l.1 c ∙ l.4)
 
-  -- three numbers of which the third is no target of the first show by their keys that the graph is not closed
+  -- If a number has no arc to a target of one of its targets, the three keys show that the graph is not closed.
   pub breaks : IsDistinct eq keys → (a b c : ℕ) (p q r : K) → E a b → E b c → (E a c → ⊥)
       → IsKeyAt eq keys a p → IsKeyAt eq keys b q → IsKeyAt eq keys c r → BreaksClosed (graph_of eq edges nodes) p q r
   breaks unique a b c p q r ab bc lacks at_a at_b at_c = (

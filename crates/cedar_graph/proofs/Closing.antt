@@ -1,4 +1,4 @@
--- Over the graph, what the written rows say over numbers.
+-- The meaning of the written rows of numbers for the graph of keys.
 use Rattle.std.specs.Cmp.{IsEquivalence}
 use Rattle.std.specs.HashMap.{HashMap, get}
 use Rattle.std.specs.Option.{is_some}
@@ -21,7 +21,7 @@ module _ {K V S : Type 0} {eq : K → K → Bool} (laws : IsEquivalence eq) (edg
     (E : ℕ → ℕ → Type 0) (fixed : ℕ)
     (only : (a b : K) → graph_of eq edges new a b ≡ true
     → (graph_of eq edges old a b ≡ true) ⊎ IsRowEdgeBelow eq fixed keys E a b) where
-  -- where the arcs are all edges, each new edge leads to what was reached
+  -- If the arcs are all edges of the graph, each new edge leads to a reached key.
   pub closed_only : AreSameEdges eq (graph_of eq edges old) keys E
       → AddsOnlyReached (graph_of eq edges old) (graph_of eq edges new)
   closed_only same a b h = elim (only a b h) [
@@ -29,7 +29,7 @@ module _ {K V S : Type 0} {eq : K → K → Bool} (laws : IsEquivalence eq) (edg
     | inr r ↦ row_sound eq (graph_of eq edges old) keys E same (graph_to laws edges alike old) r.0 a b r.2
   ]
 
-  -- the same where they are the edges of some keys
+  -- The same, if the arcs are the edges of some keys.
   pub repaired_only : (ks : List K) → AreSameEdges eq (near_graph eq (graph_of eq edges old) ks) keys E
       → AddsOnlyReached (graph_of eq edges old) (graph_of eq edges new)
   repaired_only ks same a b h = elim (only a b h) [
@@ -44,7 +44,7 @@ module _ {K V S : Type 0} {eq : K → K → Bool} (laws : IsEquivalence eq) (edg
     (E : ℕ → ℕ → Type 0) (fixed : ℕ)
     (done : (a b : K) → IsRowEdgeBelow eq fixed keys E a b → is_some (get eq old a) ≡ true
     → graph_of eq edges new a b ≡ true) where
-  -- what a key with a number below `fixed` reaches over the arcs has an edge
+  -- A key with a number below `fixed` has an edge to every key that it reaches over the arcs.
   row_done : (H : K → K → Bool) → AreSameEdges eq H keys E → (a b : K) → HasNumberBelow eq fixed keys a
       → is_some (get eq old a) ≡ true → Reach H a b → graph_of eq edges new a b ≡ true
   row_done H same a b n found p =
@@ -62,7 +62,7 @@ module _ {K V S : Type 0} {eq : K → K → Bool} (laws : IsEquivalence eq) (edg
   reached_found : (a b : K) → Reach (graph_of eq edges old) a b → is_some (get eq old a) ≡ true
   reached_found a b p = let f = first_edge (graph_of eq edges old) a b p.0 p.1 in edge_found eq edges old a f.0 f.1
 
-  -- where the arcs are all edges and the keys with edges are numbered, all that was reached has an edge
+  -- If the arcs are all edges and the keys with edges are numbered, there is an edge to every reached key.
   pub closed_has : AreSameEdges eq (graph_of eq edges old) keys E
       → ((q b : K) → graph_of eq edges old q b ≡ true → HasNumberBelow eq fixed keys q)
       → HasReached (graph_of eq edges old) (graph_of eq edges new)
@@ -70,8 +70,8 @@ module _ {K V S : Type 0} {eq : K → K → Bool} (laws : IsEquivalence eq) (edg
       let f = first_edge (graph_of eq edges old) a b p.0 p.1 in
       row_done (graph_of eq edges old) same a b (all a f.0 f.1) (reached_found a b p) p
 
-  -- where they are the edges of the keys to fix and of those next to them, and the other nodes have an edge to all that
-  -- they reach
+  -- The same for a repair: the arcs are the edges of the keys to fix and of their targets, and the other nodes have an
+  -- edge to every key that they reach.
   pub repaired_has : (ks : List K) → AreSameEdges eq (near_graph eq (graph_of eq edges old) ks) keys E
       → (fix : K → Bool) → ((q : K) → fix q ≡ true → HasNumberBelow eq fixed keys q)
       → ((x u : K) → fix x ≡ true → graph_of eq edges old x u ≡ true → is_member eq ks u ≡ true)
@@ -84,19 +84,19 @@ module _ {K V S : Type 0} {eq : K → K → Bool} (laws : IsEquivalence eq) (edg
     | inr t ↦ stays a b (trusted a b t p)
   ]
 
--- edges that only add what was reached, and what an answer says beside them
+-- Edges to reached keys were added. The further facts depend on the result.
 module _ {K V S : Type 0} (eq : K → K → Bool) (edges : V → K → Bool) (asked : Bool) (old new : HashMap K V S)
     (adds : OnlyAdds (graph_of eq edges old) (graph_of eq edges new)) where
   reach_stays : ReachesSame (graph_of eq edges old) (graph_of eq edges new)
   reach_stays = reach_between (graph_of eq edges old) (graph_of eq edges new) adds.stays adds.only
 
-  -- memory was refused
+  -- An allocation failed.
   pub closes_in_part : {T : Type 0} (r : Result T (TcError K)) → r ≡ Err Memory → Closes eq edges asked old new r
   closes_in_part r is =
       subst (λ v. Closes eq edges asked old new v) (sym is)
       (record { adds = adds; same = reach_stays; closed = tt; once = tt; ok = tt; err = tt })
 
-  -- all that was reached has an edge
+  -- There is an edge to every reached key.
   pub closes_whole : {T : Type 0} → HasReached (graph_of eq edges old) (graph_of eq edges new)
       → (r : Result T (TcError K)) → OnOk r (IsTrue asked → HasNoCycle (graph_of eq edges old))
       → IfErr r (NamesCycleAt asked (λ v. is_some (get eq old v)) (graph_of eq edges old))
@@ -110,7 +110,7 @@ module _ {K V S : Type 0} (eq : K → K → Bool) (edges : V → K → Bool) (as
     err = err;
   }
 
-  -- a loop that was asked for and found lies on a cycle
+  -- A loop that was found lies on a cycle.
   pub loop_named : IsTrue asked → (e : TcError K) → MatchFault e (λ _ _ _. ⊥) (λ v. graph_of eq edges new v v ≡ true)
       → NamesCycleAt asked (λ v. is_some (get eq old v)) (graph_of eq edges old) e
   loop_named is e h = MatchFault-weaker e _ _ _ _ (λ _ _ _ no. no) (λ v loop. let p = adds.only v v loop in

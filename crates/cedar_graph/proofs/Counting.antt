@@ -1,4 +1,4 @@
--- How many nodes a closure visits.
+-- The number of nodes that a closure visits.
 use Rattle.std.specs.Cmp.{IsEquivalence}
 use Rattle.std.specs.HashMap.{HashMap, get}
 use Rattle.std.proofs.lemmas.Map.Made.{length-le_from_is_member}
@@ -19,7 +19,7 @@ got_taken (x ∷ ks) zero i k h e = absurd (omega arith)
 got_taken (x ∷ ks) (suc n) zero k h e = e
 got_taken (x ∷ ks) (suc n) (suc i) k h e = got_taken ks n i k (omega arith) e
 
--- keys with an edge, no two of them equal, are at most as many as the numbers among which each key with an edge has one
+-- There are at most n different keys with an edge, if each of them has a number below n.
 pub edged_within : {K : Type 0} {eq : K → K → Bool} (laws : IsEquivalence eq) (G : K → K → Bool) (keys : List K)
     (n : ℕ) → n ≤ length keys → ((q b : K) → G q b ≡ true → HasNumberBelow eq n keys q)
     → (ks : List K) → AreEdged eq G ks → length ks ≤ n
@@ -31,7 +31,7 @@ edged_within {eq = eq} laws G keys n within all ks edged =
     member_of_got eq (take n keys) at.0 at.1 q (got_taken keys n at.0 at.1 at.2 at.3) at.4) in
     omega arith
 
--- each of the first keys has a node in the map, so each key that equals one of them has
+-- If the first keys have nodes in the map, so has each key equal to one of them.
 pub nodes_there : {K V S : Type 0} {eq : K → K → Bool} (laws : IsEquivalence eq) (nodes : HashMap K V S)
     (keys : List K) (n : ℕ)
     → ((i : ℕ) (k : K) → i < n → slice_get keys i ≡ Some k → is_some (get eq nodes k) ≡ true)

@@ -1,4 +1,4 @@
--- What closing and repairing a graph that may have no cycle come to.
+-- The effect of closing and repairing a graph that must not have a cycle.
 use Rattle.std.specs.Cmp.{IsEquivalence}
 use Rattle.std.specs.HashMap.{HashMap, get}
 use Rattle.std.specs.List.{IsDistinct}
@@ -26,7 +26,7 @@ module _ (E : ℕ → ℕ → Type 0) where
   last_arc a z b [] e w = (a, subst (λ v. E a v) w e)
   last_arc a z b (u ∷ us) e w = last_arc z u b us w.0 w.1
 
-  -- an arc leads to a number that reaches itself
+  -- An arc leads to a number that reaches itself.
   pub arc_back : (n : ℕ) → Goes E n n → (w : ℕ) × E w n
   unfolding Leads
   arc_back n g = last_arc n g.0 n g.2.0 g.1 g.2.1
@@ -36,7 +36,7 @@ module _ {K V S : Type 0} {eq : K → K → Bool} (laws : IsEquivalence eq) (edg
   adds_none : OnlyAdds (graph_of eq edges old) (graph_of eq edges old)
   adds_none = record { stays = λ a b h. h; only = λ a b h. reach_edge (graph_of eq edges old) a b h }
 
-  -- the key of a number that reaches itself over edges of the graph lies on a cycle
+  -- The key of a number that reaches itself lies on a cycle.
   looped : {F H : Type 0} (read : FixReading K F H)
       → AreSameEdges eq (graph_of eq edges old) read.reading.keys.keys (IsArc read.reading)
       → (q : K) → IsKeyOfLoop eq read q → Reach (graph_of eq edges old) q q
@@ -44,18 +44,18 @@ module _ {K V S : Type 0} {eq : K → K → Bool} (laws : IsEquivalence eq) (edg
       row_sound eq (graph_of eq edges old) read.reading.keys.keys (IsArc read.reading) same
       (graph_to laws edges alike old) l.0 q q (l.1, l.3, l.4, (l.0, l.1, l.5, l.3, laws.symm q l.1 ∙ l.4))
 
-  -- memory was refused
+  -- An allocation failed.
   pub dag_in_part : {T : Type 0} (new : HashMap K V S) → OnlyAdds (graph_of eq edges old) (graph_of eq edges new)
       → (r : Result T (TcError K)) → r ≡ Err Memory → ClosesDag eq edges old new r
   dag_in_part new adds r is =
       subst (λ v. ClosesDag eq edges old new v) (sym is)
       (record { adds = adds; closed = tt; ok = tt; err = tt; stays = tt })
 
-  -- memory was refused before anything was written
+  -- An allocation failed before anything was written.
   pub dag_unwritten : {T : Type 0} (r : Result T (TcError K)) → r ≡ Err Memory → ClosesDag eq edges old old r
   dag_unwritten r is = dag_in_part old adds_none r is
 
-  -- a cycle was told
+  -- A cycle was reported.
   pub dag_refused : {T F H : Type 0} (read : FixReading K F H)
       → AreSameEdges eq (graph_of eq edges old) read.reading.keys.keys (IsArc read.reading)
       → (e : TcError K) → MatchFault e (λ _ _ _. ⊥) (IsKeyOfLoop eq read)
@@ -69,7 +69,7 @@ module _ {K V S : Type 0} {eq : K → K → Bool} (laws : IsEquivalence eq) (edg
     stays = MatchFault-weaker e _ _ _ _ (λ _ _ _ no. no) (λ _ _. refl) h;
   }
 
-  -- all that was reached has an edge
+  -- There is an edge to every reached key.
   pub dag_whole : {T : Type 0} (new : HashMap K V S) → OnlyAdds (graph_of eq edges old) (graph_of eq edges new)
       → HasReached (graph_of eq edges old) (graph_of eq edges new) → HasNoLoop (graph_of eq edges new) → (t : T)
       → ClosesDag {T = T} eq edges old new (Ok t)
@@ -82,7 +82,7 @@ module _ {K V S : Type 0} {eq : K → K → Bool} (laws : IsEquivalence eq) (edg
   }
 
   module _ (fix : K → Bool) where
-    -- memory was refused
+    -- An allocation failed.
     pub repaired_in_part : {T : Type 0} (new : HashMap K V S)
         → ((q : K) → fix q ≡ false → get eq new q ≡ get eq old q)
         → OnlyAdds (graph_of eq edges old) (graph_of eq edges new)
@@ -91,7 +91,7 @@ module _ {K V S : Type 0} {eq : K → K → Bool} (laws : IsEquivalence eq) (edg
         subst (λ v. RepairsDag eq edges fix old new v) (sym is)
         (record { alone = alone; adds = adds; closed = tt; ok = tt; err = tt; stays = tt })
 
-    -- memory was refused before anything was written
+    -- An allocation failed before anything was written.
     pub repaired_unwritten : {T : Type 0} (r : Result T (TcError K)) → r ≡ Err Memory
         → RepairsDag eq edges fix old old r
     repaired_unwritten r is = repaired_in_part old (λ _ _. refl) adds_none r is
@@ -99,14 +99,14 @@ module _ {K V S : Type 0} {eq : K → K → Bool} (laws : IsEquivalence eq) (edg
     module _ {F H : Type 0} (read : FixReading K F H) (ks : List K)
         (same : AreSameEdges eq (near_graph eq (graph_of eq edges old) ks) read.reading.keys.keys
         (IsArc read.reading)) where
-      -- the key of a number that reaches itself over edges near those to fix lies on a cycle
+      -- The key of a number that reaches itself over edges of the keys to fix and of their targets lies on a cycle.
       looped_near : (q : K) → IsKeyOfLoop eq read q → Reach (graph_of eq edges old) q q
       looped_near q l =
           reach_of_near eq (graph_of eq edges old) ks q q
           (row_sound eq (near_graph eq (graph_of eq edges old) ks) read.reading.keys.keys (IsArc read.reading) same
           (λ x y z e. ap (λ v. is_member eq ks x && v) (graph_to laws edges alike old x y z e)) l.0 q q (l.1, l.3, l.4, (l.0, l.1, l.5, l.3, laws.symm q l.1 ∙ l.4)))
 
-      -- a cycle was told
+      -- A cycle was reported.
       pub repair_refused : {T : Type 0} → ((q : K) → IsKeyOfLoop eq read q → fix q ≡ true)
           → (e : TcError K) → MatchFault e (λ _ _ _. ⊥) (IsKeyOfLoop eq read)
           → RepairsDag {T = T} eq edges fix old old (Err e)
@@ -119,7 +119,7 @@ module _ {K V S : Type 0} {eq : K → K → Bool} (laws : IsEquivalence eq) (edg
         stays = MatchFault-weaker e _ _ _ _ (λ _ _ _ no. no) (λ _ _. refl) h;
       }
 
-      -- where no number to fix reaches itself, no key to fix lies on a cycle, if the others are trusted rightly
+      -- If no number to fix reaches itself, no key to fix lies on a cycle, provided that the other nodes are closed.
       pub none_at : IsDistinct eq read.reading.keys.keys
           → ((q : K) → fix q ≡ true → HasNumberBelow eq read.fixed read.reading.keys.keys q)
           → ((x u : K) → fix x ≡ true → graph_of eq edges old x u ≡ true → is_member eq ks u ≡ true)
@@ -140,7 +140,7 @@ module _ {K V S : Type 0} {eq : K → K → Bool} (laws : IsEquivalence eq) (edg
           let w = arc_back E n.0 goes in
           none w.0 n.0 n.2 w.1 goes
 
-    -- what is reached has an edge, where the others are trusted rightly
+    -- There is an edge to every reached key, provided that the other nodes are closed.
     pub repair_whole : {T : Type 0} (new : HashMap K V S)
         → ((q : K) → fix q ≡ false → get eq new q ≡ get eq old q)
         → OnlyAdds (graph_of eq edges old) (graph_of eq edges new)

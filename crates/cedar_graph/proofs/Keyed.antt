@@ -82,7 +82,7 @@ or_right true b h = refl
 or_right false b h = h
 
 module _ {K : Type 0} (eq : K → K → Bool) (G : K → K → Bool) (a : ℕ) (keys : List K) (from to : List ℕ) where
-  -- a row begins
+  -- No arc of a row is read yet.
   pub row_start : (P : K → Bool) → ((q : K) → P q ≡ false) → AreArcsOf eq G a keys from to
       → AreArcsIn eq G a keys from to P
   row_start P none s = record {
@@ -95,7 +95,7 @@ module _ {K : Type 0} (eq : K → K → Bool) (G : K → K → Bool) (a : ℕ) (
     here = λ q h. let f = none q in cc;
   }
 
-  -- a row is whole
+  -- A row is complete.
   pub row_end : (P : K → Bool) → AreArcsIn eq G a keys from to P
       → ((x q : K) → slice_get keys a ≡ Some x → G x q ≡ true → P q ≡ true) → AreArcsOf eq G (a + 1) keys from to
   row_end P s all = record {
@@ -146,7 +146,7 @@ module _ {K : Type 0} {eq : K → K → Bool} (laws : IsEquivalence eq) (G : K �
   b_in : b < length more
   b_in = slice_get_within more b y got
 
-  -- one more arc of the row
+  -- One more arc of the row is read.
   pub arc_added : AreArcsIn eq G a more (from ++ a ∷ []) (to ++ b ∷ []) Q
   arc_added = record {
     same_len = omega (arith, s.same_len, len, length-append to (b ∷ []));
@@ -183,7 +183,7 @@ module _ {K : Type 0} {eq : K → K → Bool} (laws : IsEquivalence eq) (G : K �
     ];
   }
 
--- a member has a number
+-- A member of the list has a number.
 pub got_of_member : {K : Type 0} (eq : K → K → Bool) (ks : List K) (q : K) → is_member eq ks q ≡ true
     → HasNumber eq ks q
 got_of_member eq [] q h = cc
@@ -192,7 +192,7 @@ got_of_member eq (k ∷ ks) q h = elim (or_cases (eq q k) (is_member eq ks q) h)
   | inr m ↦ let r = got_of_member eq ks q m in (suc r.0, r.1, r.2, r.3)
 ]
 
--- the key of a number is a member
+-- The key of a number is a member of the list.
 pub member_of_got : {K : Type 0} (eq : K → K → Bool) (ks : List K) (i : ℕ) (k q : K) → slice_get ks i ≡ Some k
     → eq q k ≡ true → is_member eq ks q ≡ true
 member_of_got eq [] i k q h e = cc
@@ -200,17 +200,16 @@ member_of_got eq (x ∷ ks) zero k q h e = let same : x ≡ k = cc in
     or_left (eq q x) (is_member eq ks q) (ap (eq q) same ∙ e)
 member_of_got eq (x ∷ ks) (suc i) k q h e = or_right (eq q x) (is_member eq ks q) (member_of_got eq ks i k q h e)
 
--- equal keys are members of the same lists
+-- Equal keys are members of the same lists.
 pub member_alike : {K : Type 0} {eq : K → K → Bool} (laws : IsEquivalence eq) (ks : List K) (x y : K) → eq x y ≡ true
     → is_member eq ks x ≡ is_member eq ks y
 member_alike laws [] x y h = refl
 member_alike laws (k ∷ ks) x y h = rw (laws.congr x y k h, member_alike laws ks x y h)
 
--- the start of a list that goes on
 pub prefix_take : {K : Type 0} (ks ms : List K) → IsPrefix ks ms → take (length ks) ms ≡ ks
 prefix_take ks ms p = ap (take (length ks)) p.1 ∙ take-append_seam ks p.0
 
--- of keys of which no two are equal, two numbers of equal keys are one
+-- If the keys are different, two numbers of equal keys are equal.
 pub number_same : {K : Type 0} {eq : K → K → Bool} (laws : IsEquivalence eq) (keys : List K) → IsDistinct eq keys
     → (a i : ℕ) (x k : K) → slice_get keys a ≡ Some x → slice_get keys i ≡ Some k → eq x k ≡ true → a ≡ i
 number_same {K} {eq} laws keys s a i x k h g e =
@@ -267,22 +266,22 @@ module _ {K : Type 0} (eq : K → K → Bool) (G : K → K → Bool) (keys : Lis
   path_to to x y z [] h p = to x y z h ∙ p
   path_to to x y z (u ∷ xs) h p = (p.0, path_to to u y z xs h p.1)
 
-  -- the key of a number that is reached is reached
+  -- The key of a reached number is a reached key.
   pub row_sound : ((x y z : K) → eq y z ≡ true → G x y ≡ G x z) → (x : ℕ) (a b : K) → IsRowEdge eq keys E x a b
       → Reach G a b
   row_sound to x a b e =
       let p = reach_alike e.0 a e.3.1 e.2 (reach_from_goes x e.3.0 e.0 e.3.1 e.1 e.3.3 e.3.2) in
       (p.0, path_to to a b e.3.1 p.0 e.3.4 p.1)
 
-  -- a key that is reached is that of a number that is reached
+  -- A reached key is the key of a reached number.
   pub row_complete : (x : ℕ) (k b : K) → slice_get keys x ≡ Some k → Reach G k b → ReachesKey eq keys E x b
   unfolding Leads
   row_complete x k b got p =
       let g = goes_from_path x k b p.0 got p.1 in
       (g.0, g.1, (g.2, g.4, (g.3, g.5)), g.6, g.7)
 
--- from a key to fix on, the edges of the keys to fix and of those next to them are enough, where the others have an
--- edge to all that they reach
+-- From a key to fix, the edges of the keys to fix and of their targets are sufficient, if the other nodes have an edge
+-- to every key that they reach.
 module _ {K : Type 0} (eq : K → K → Bool) (G : K → K → Bool) (ks : List K) where
   path_of_near : (x b : K) (xs : List K) → Path (near_graph eq G ks) x xs b → Path G x xs b
   path_of_near x b [] p = (and_parts (is_member eq ks x) (G x b) p).1
@@ -311,7 +310,7 @@ module _ {K : Type 0} (eq : K → K → Bool) (G : K → K → Bool) (ks : List 
     pub near_reach : (x b : K) → fix x ≡ true → Reach G x b → Reach (near_graph eq G ks) x b
     near_reach x b f r = near_path x b r.0 f r.1
 
--- the bounds of a row, as they are read
+-- The bounds of the list of a component, as the code reads them.
 module _ (component start : List ℕ) (x p i j : ℕ) (p_is : p ≡ get_or component x p) (x_in : x < length component)
     (i_is : i ≡ get_or start p i) (j_is : j ≡ get_or start (p + 1) j)
     (p_in : get_or component x 0 + 1 < length start) where

@@ -7,6 +7,7 @@ pub mod Loops
 pub mod Members
 pub mod Numbers
 pub mod Orders
+pub mod Progress
 pub mod Reaches
 pub mod Rows
 pub mod Runs

@@ -1,4 +1,4 @@
--- What reaches itself: on each way back to where it begins some arc leads upward, or from a number to itself.
+-- On every path from a number back to itself, some arc leads to a higher number or to the number itself.
 use Rattle.std.specs.Cmp.{IsEquivalence}
 use Rattle.std.specs.HashMap.{HashMap}
 use Rattle.std.specs.List.{IsDistinct}
@@ -17,13 +17,13 @@ module _ (E : ℕ → ℕ → Type 0) where
   walk_on a b c [] ys p q = subst (λ v. Walk E v ys c) (sym p) q
   walk_on a b c (x ∷ xs) ys p q = (p.0, walk_on x b c xs ys p.1 q)
 
-  -- a walk, and an arc from its end
+  -- A walk followed by an arc.
   goes_after : (a w x : ℕ) (xs : List ℕ) → Walk E a xs w → E w x → Goes E a x
   unfolding Leads
   goes_after a w x [] p e = (x, subst (λ v. E v x) (sym p) e, ([], refl))
   goes_after a w x (y ∷ ys) p e = (y, p.0, (ys ++ x ∷ [], walk_on y w x ys (x ∷ []) p.1 (e, refl)))
 
-  -- on the way from a over z to b some arc leads from a number to none below it, or b is below a
+  -- On a path from a over z to b, some arc leads from a number to one that is not below it, or b is below a.
   upward : (a z b : ℕ) (xs : List ℕ) → E a z → Walk E z xs b
       → ((w : ℕ) × (x : ℕ) × (ys : List ℕ) × (zs : List ℕ) × (w ≤ x) × E w x × Walk E a ys w × Walk E x zs b) ⊎ (b < a)
   upward a z b [] e p = elim (cases_lt z a) [
@@ -38,7 +38,7 @@ module _ (E : ℕ → ℕ → Type 0) where
     | inr ge ↦ inl (a, z, [], u ∷ us, omega arith, e, refl, p)
   ]
 
-  -- of the numbers on a way from n back to n one has an arc to it from one that is not above it
+  -- A number on a cycle has an arc to it from a number that is not above it.
   pub back_upward : (n : ℕ) → Goes E n n → (w : ℕ) × (x : ℕ) × (w ≤ x) × E w x × Goes E x x
   unfolding Leads
   back_upward n g = elim (upward n g.0 n g.2.0 g.1 g.2.1) [
@@ -46,7 +46,7 @@ module _ (E : ℕ → ℕ → Type 0) where
     | inr below ↦ absurd (omega (arith, below))
   ]
 
-  -- along arcs that lead downward no number has a way to itself
+  -- If all arcs lead downward, no number reaches itself.
   walk_down : (m : ℕ → ℕ) → ((a b : ℕ) → E a b → m b < m a) → (a b : ℕ) (xs : List ℕ) → Walk E a xs b → m b ≤ m a
   walk_down m down a b [] p = omega (arith, ap m p)
   walk_down m down a b (x ∷ xs) p = omega (arith, down a x p.0, walk_down m down x b xs p.1)
@@ -55,7 +55,7 @@ module _ (E : ℕ → ℕ → Type 0) where
   unfolding Leads
   none_down m down x g = omega (arith, down x g.0 g.1, walk_down m down g.0 x g.2.0 g.2.1)
 
-  -- one more number's arcs are marked
+  -- The targets of one more number are marked.
   pub marked_more : (x mark : ℕ) (old new : List ℕ) → AreMarked E x old
       → ((y : ℕ) → slice_index old y ≤ slice_index new y) → ((y : ℕ) → E x y → slice_index new y ≡ mark)
       → mark ≡ x + 1 → AreMarked E (x + 1) new
@@ -64,7 +64,7 @@ module _ (E : ℕ → ℕ → Type 0) where
     | inr ne ↦ omega (arith, marked w y (omega arith) e, grows y)
   ]
 
-  -- one more number was looked at
+  -- One more number was checked.
   pub none_further : (x : ℕ) (marks : List ℕ) → NoneGoesBack E x → (0 < slice_index marks x → Goes E x x → ⊥)
       → AreMarked E (x + 1) marks → NoneGoesBack E (x + 1)
   none_further x marks none here marked w u le h e goes = elim (cases_eq u x) [
@@ -73,12 +73,12 @@ module _ (E : ℕ → ℕ → Type 0) where
     | inr ne ↦ none w u le (omega arith) e goes
   ]
 
--- where no number to fix goes back, no key has an edge to itself after a closure
+-- If no number to fix reaches itself, no key has an edge to itself after a closure.
 module _ {K V S : Type 0} {eq : K → K → Bool} (laws : IsEquivalence eq) (edges : V → K → Bool) (old new : HashMap K V S)
     (keys : List K) (unique : IsDistinct eq keys) (E : ℕ → ℕ → Type 0) (fixed : ℕ)
     (same : AreSameEdges eq (graph_of eq edges old) keys E)
     (all : (q b : K) → graph_of eq edges old q b ≡ true → HasNumberBelow eq fixed keys q) where
-  -- a number with an arc to it and one from it is to be fixed
+  -- A number with an incoming and an outgoing arc is to be fixed.
   is_fixed : (w x z : ℕ) → E w x → E x z → x < fixed
   is_fixed w x z e f =
       let k = same.has_key w x e in

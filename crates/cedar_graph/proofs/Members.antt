@@ -1,4 +1,4 @@
--- Members of lists of references, and what an error says.
+-- Members of lists of references, and results with errors.
 use Rattle.std.specs.Set.{is_member}
 use Rattle.std.specs.List.{list_any, AllByRecursion}
 use Rattle.std.specs.Map.{lookup}
@@ -20,13 +20,13 @@ pub any_of_map : {X Y : Type 0} (test : Y → Bool) (f : X → Y) (xs : List X)
 any_of_map test f [] = refl
 any_of_map test f (x ∷ xs) = ap (λ b. test (f x) || b) (any_of_map test f xs)
 
--- what a reference of the list points to is a member
+-- The target of a reference in the list is a member.
 pub member_at : {K : Type 0} (eq : K → K → Bool) (refs : List (Bor K)) (i : ℕ) (r : Bor K) (q : K) → i < length refs
     → r ≡ get_or refs i r → eq q r.now ≡ true → is_member eq (map (λ x. x.now) refs) q ≡ true
 member_at eq refs i r q within is h = any_of_map (eq q) (λ x. x.now) refs
     ∙ list_any_at (λ x. eq q x.now) refs i r within (ap (λ x. eq q x.now) (sym is) ∙ h)
 
--- one more reference
+-- One more reference.
 pub refs_more : {K : Type 0} (eq : K → K → Bool) (refs : List (Bor K)) (i : ℕ) (r : Bor K) (q : K) → i < length refs
     → r ≡ get_or refs i r
     → is_member eq (map (λ x. x.now) (take (i + 1) refs)) q ≡ true
@@ -51,7 +51,7 @@ found_here : {K X : Type 0} (P : K → X → Type 0) (test : K → Bool) (e : K 
 found_here P test e es v true t p rest h = let same : e.1 ≡ v = cc in (e.0, t, subst (P e.0) same p)
 found_here P test e es v false t p rest h = rest h
 
--- what holds of each entry holds of the one that is found, with its key
+-- A property of all entries is a property of an entry that is found.
 pub found_entry : {K X : Type 0} (P : K → X → Type 0) (test : K → Bool) (es : List (K × X)) (v : X)
     → AllByRecursion (λ e. P e.0 e.1) es → lookup test es ≡ Some v → (k : K) × (test k ≡ true) × P k v
 found_entry P test [] v all h = cc
@@ -67,7 +67,7 @@ module _ {K V S : Type 0} {eq : K → K → Bool} (laws : IsEquivalence eq) (edg
       (found_entry (λ _ v. (b c : K) → edges v b ≡ true → graph_of eq edges m b c ≡ true
       → edges v c ≡ true) (eq a) m.entries v all is).2 b c h k
 
-  -- each node's edges being closed, the graph is
+  -- If the edges of each node are closed, so is the graph.
   pub closed_from_all : AllByRecursion (λ e. (b c : K) → edges e.1 b ≡ true → graph_of eq edges m b c ≡ true
       → edges e.1 c ≡ true) m.entries → IsClosed (graph_of eq edges m)
   closed_from_all all a b c h k = closed_at a b c (lookup (eq a) m.entries) refl all h k
@@ -93,7 +93,7 @@ module _ {K V S : Type 0} {eq : K → K → Bool} (laws : IsEquivalence eq) (edg
       let n = f.2 b h in
       (n.0, n.1, n.2, laws.congr q f.0 n.1 f.1 ∙ n.3)
 
-  -- the key of each node with an edge being numbered, each key with an edge is
+  -- If the keys of all nodes with edges are numbered, so is each key with an edge.
   pub numbered_from_all : AllByRecursion (λ e. (b : K) → edges e.1 b ≡ true → HasNumber eq keys e.0) m.entries
       → (q b : K) → graph_of eq edges m q b ≡ true → HasNumber eq keys q
   numbered_from_all all q b h = numbered_at q b (lookup (eq q) m.entries) refl all h

@@ -1,4 +1,4 @@
--- Keys that are put into a list of keys.
+-- Insertion of keys into a list of keys.
 use Rattle.std.specs.List.{slice_get, list_any}
 use Rattle.std.proofs.Common.{◌≡◌, Bool, true, false, if◌then◌else◌, ℕ, ◌≤◌, ◌+◌, ◌⊎◌, inl, inr, length, List, [], ◌∷◌}
 use Rattle.std.proofs.Common.{◌++◌, Some, zero, suc, refl, sym, position, arith, length-append}
@@ -9,7 +9,7 @@ use Rattle.cedar_graph.specs.laws.Arcs.{IsPrefix}
 use Rattle.cedar_graph.specs.laws.Readings.{HasPut}
 use Rattle.cedar_graph.proofs.Keyed.{prefix_refl}
 
--- a place of a list with one more at its end
+-- An index into a list with one more element is an old index or the new one.
 got_cases : {K : Type 0} (ks : List K) (k : K) (i : ℕ) (x : K) → slice_get (ks ++ k ∷ []) i ≡ Some x
     → (slice_get ks i ≡ Some x) ⊎ (x ≡ k)
 got_cases [] k zero x h = let e : x ≡ k = cc in inr e
@@ -18,7 +18,7 @@ got_cases (y ∷ ks) k zero x h = inl h
 got_cases (y ∷ ks) k (suc i) x h = got_cases ks k i x h
 
 module _ {K : Type 0} (ks : List K) (k : K) where
-  -- the list with the key at its end, or as it was
+  -- The list itself, or the list with the key appended.
   abbrev pub with_key : Bool → List K
   with_key b = if b then ks else ks ++ k ∷ []
 
@@ -35,19 +35,19 @@ module _ {K : Type 0} (ks : List K) (k : K) where
   fresh_by false i x h = got_cases ks k i x h
 
 module _ {K : Type 0} (eq : K → K → Bool) (ks : List K) (k : K) where
-  -- a list that a key is put into goes on
+  -- Inserting a key keeps the existing keys in place.
   pub put_more : IsPrefix ks (insert_key eq ks k)
   put_more = more_by ks k (list_any (eq k) ks)
 
-  -- by one key at most
+  -- Inserting a key adds at most one key.
   pub put_one : length (insert_key eq ks k) ≤ length ks + 1
   put_one = one_by ks k (list_any (eq k) ks)
 
-  -- which is that one
+  -- The added key is the inserted one.
   pub put_fresh : (i : ℕ) (x : K) → slice_get (insert_key eq ks k) i ≡ Some x → (slice_get ks i ≡ Some x) ⊎ (x ≡ k)
   put_fresh = fresh_by ks k (list_any (eq k) ks)
 
--- a key that is found in a set of keys has its place there as its number
+-- The number of a key that is found is its position.
 pub number_found : {K S : Type 0} (eq : K → K → Bool) (keys : IndexSet K S) (key : K) (i : ℕ) → IsUnique eq keys
     → Some i ≡ position (eq key) keys.keys → HasPut eq key keys keys i
 number_found eq keys key i unique at =

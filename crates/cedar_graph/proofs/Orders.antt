@@ -1,4 +1,4 @@
--- Numbers in an order: those to which arcs lead, and the others behind them.
+-- Orders of numbers: first the numbers with incoming arcs, then the others.
 use Rattle.std.proofs.Common.{◌≡◌, ℕ, zero, suc, ◌+◌, ◌<◌, List, [], ◌∷◌, ◌++◌, length, map, get_or, refl, sym, ap}
 use Rattle.std.proofs.Common.{subst, ◌∙◌, arith, append_assoc}
 use Rattle.std.specs.List.{range_with_len}
@@ -8,7 +8,7 @@ use Rattle.std.proofs.lemmas.List.FromFn.{length-range_with_len, get_or-range_wi
 use Rattle.std.proofs.lemmas.List.Sorted.{IsPermutation-append_comm, IsPermutation-append_left}
 use Rattle.std.proofs.lemmas.List.Sorted.{IsPermutation-append_right, IsPermutation-map, IsPermutation-trans}
 
--- an order of the numbers below n has no other number
+-- A permutation of the numbers below n has no other number.
 pub order_inside : (n : ℕ) (order : List ℕ) → IsPermutation (range_with_len 0 n) order → (i : ℕ) → i < length order
     → get_or order i 0 < n
 order_inside n order s i h =
@@ -16,11 +16,11 @@ order_inside n order s i h =
     let within : m.1.0 < n = omega (arith, m.1.1, length-range_with_len 0 n) in
     omega (arith, within, ap (λ v. get_or v i 0) s.is ∙ m.1.2, get_or-range_with_len 0 n m.1.0 0 within)
 
--- a list by its places is that list
+-- Mapping the positions of a list to its elements gives the list.
 by_places : (xs : List ℕ) → map (λ p. get_or xs p 0) (range_with_len 0 (length xs)) ≡ xs
 by_places xs = sym (fill_by_all (λ p. get_or xs p 0) xs (length xs) 0 refl (λ k lt. refl))
 
--- the numbers at some places, all places of a list in an order, and then others
+-- The numbers at a permutation of the places, followed by the others, are a permutation.
 pub placed : (numbers others places : List ℕ) → IsPermutation (range_with_len 0 (length numbers)) places
     → IsPermutation (numbers ++ others) (map (λ p. get_or numbers p 0) places ++ others)
 placed numbers others places s =
@@ -28,7 +28,7 @@ placed numbers others places s =
     IsPermutation-append_left others numbers (map at places) (subst (λ v. IsPermutation v (map at places))
     (by_places numbers) (IsPermutation-map at (range_with_len 0 (length numbers)) places s))
 
--- one more number, which goes last in the first part
+-- Appending a number to the first part.
 pub put_first : (led others : List ℕ) (n : ℕ) → IsPermutation (led ++ others ++ n ∷ []) ((led ++ n ∷ []) ++ others)
 put_first led others n =
     subst (λ v. IsPermutation v ((led ++ n ∷ []) ++ others)) (sym (append_assoc led others (n ∷ [])))
@@ -40,7 +40,7 @@ last : (a n j : ℕ) → a + n ≡ j → range_with_len a (suc n) ≡ range_with
 last a zero j e = let same : a ≡ j = omega arith in ap (λ k. k ∷ []) same
 last a (suc n) j e = ap (λ l. a ∷ l) (last (a + 1) n j (omega arith))
 
--- the numbers below n are in the two parts, and n comes to one of these
+-- The two parts contain the numbers below n, and n is appended to one of them.
 pub one_more : (n : ℕ) (led others led' others' : List ℕ) → IsPermutation (range_with_len 0 n) (led ++ others)
     → IsPermutation (led ++ others ++ n ∷ []) (led' ++ others')
     → IsPermutation (range_with_len 0 (n + 1)) (led' ++ others')

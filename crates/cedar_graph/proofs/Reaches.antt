@@ -1,4 +1,4 @@
--- Tests on keys, look-ups, and graphs before and after a node is written.
+-- Tests on keys, lookups, and the graph before and after a node is written.
 use Rattle.std.proofs.lemmas.List.Folds.{list_any_more}
 use Rattle.std.specs.List.{list_any}
 use Rattle.std.proofs.Common.{◌≡◌, Bool, true, false, ℕ, ◌<◌, ◌+◌, length, get_or, take, List, [], ◌∷◌, ◌||◌, ◌&&◌, ◌⊎◌}
@@ -25,7 +25,7 @@ and_parts false y h = absurd (cc)
 pub and_from : (x y : Bool) → x ≡ true → y ≡ true → (x && y) ≡ true
 and_from x y p q = rw (p, q)
 
--- equal keys find the same
+-- Equal keys find the same entry.
 pub lookup_alike : {K X : Type 0} {eq : K → K → Bool} → IsEquivalence eq → (a b : K) → eq a b ≡ true
     → (es : List (K × X)) → lookup (eq a) es ≡ lookup (eq b) es
 lookup_alike laws a b h [] = refl
@@ -33,7 +33,7 @@ lookup_alike laws a b h (e ∷ es) = rw (laws.congr a b e.0 h, lookup_alike laws
 
 module _ {K V : Type 0} {eq : K → K → Bool} (laws : IsEquivalence eq) (edges : V → K → Bool)
     (alike : (n : V) (x y : K) → eq x y ≡ true → edges n x ≡ edges n y) where
-  -- equal keys are at the ends of the same edges
+  -- Equal keys have the same edges.
   pub graph_from : {S : Type 0} (m : HashMap K V S) (a b c : K) → eq a b ≡ true
       → graph_of eq edges m a c ≡ graph_of eq edges m b c
   graph_from m a b c h = ap (λ v. edge_at edges v c) (lookup_alike laws a b h m.entries)
@@ -46,7 +46,7 @@ module _ {K V : Type 0} {eq : K → K → Bool} (laws : IsEquivalence eq) (edges
       → graph_of eq edges m a b ≡ graph_of eq edges m a c
   graph_to m a b c h = edge_to (get eq m a) b c h
 
--- a list with one more element of `all` passes at the same keys, and at that element
+-- The members of a list with one more element.
 pub member_more : {K : Type 0} (test : K → Bool) (xs : List K) (i : ℕ) (x : K) → i < length xs → x ≡ get_or xs i x
     → list_any test (take (i + 1) xs) ≡ true → (list_any test (take i xs) ≡ true) ⊎ (test x ≡ true)
 member_more test xs i x within is h =
@@ -79,12 +79,12 @@ found_edge : {K V : Type 0} (edges : V → K → Bool) (v : Option V) (b : K) �
 found_edge edges None b h = cc
 found_edge edges (Some v) b h = refl
 
--- what has an edge is in the map
+-- A key with an edge is in the map.
 pub edge_found : {K V S : Type 0} (eq : K → K → Bool) (edges : V → K → Bool) (m : HashMap K V S) (a b : K)
     → graph_of eq edges m a b ≡ true → is_some (get eq m a) ≡ true
 edge_found eq edges m a b h = found_edge edges (get eq m a) b h
 
--- two maps with the same keys find something at the same keys
+-- Maps with the same keys have nodes at the same keys.
 pub same_found : {K V S : Type 0} (eq : K → K → Bool) (m n : HashMap K V S) (q : K) → keys n ≡ keys m
     → is_some (get eq n q) ≡ is_some (get eq m q)
 same_found eq m n q h = is_some-lookup (eq q) n.entries ∙ ap (list_any (eq q)) h ∙ sym (is_some-lookup (eq q) m.entries)
@@ -93,17 +93,16 @@ pub both : (b : Bool) → (b ≡ true) ⊎ (b ≡ false)
 both true = inl refl
 both false = inr refl
 
--- what is reached has a first edge
 pub first_edge : {K : Type 0} (G : K → K → Bool) (a b : K) (xs : List K) → Path G a xs b → (c : K) × (G a c ≡ true)
 first_edge G a b [] p = (b, p)
 first_edge G a b (x ∷ xs) p = (x, p.0)
 
--- what reaches anything is in the map
+-- A key that reaches another is in the map.
 pub reach_found : {K V S : Type 0} (eq : K → K → Bool) (edges : V → K → Bool) (m : HashMap K V S) (a b : K)
     → Reach (graph_of eq edges m) a b → is_some (get eq m a) ≡ true
 reach_found eq edges m a b p = let e = first_edge (graph_of eq edges m) a b p.0 p.1 in edge_found eq edges m a e.0 e.1
 
--- the graph after the node at a key is written
+-- The graph after the node at a key is replaced.
 module _ {K V S : Type 0} (eq : K → K → Bool) (edges : V → K → Bool) (m n : HashMap K V S) (at : K) (v w : V)
     (updates : (q : K) → get eq n q ≡ cond (eq at q) (Some w) (get eq m q))
     (value : (q : K) → eq at q ≡ true → get eq m q ≡ Some v) where
@@ -130,7 +129,7 @@ module _ {K V S : Type 0} (eq : K → K → Bool) (edges : V → K → Bool) (m 
     | inr t ↦ inl (sym (away a b t) ∙ h)
   ]
 
-  -- a row of keys that the node was given edges to is written
+  -- Edges to the keys of a row were added to the node.
   pub written : {T E : Type 0} (row : List K) (r : Result T E) → Grows (edges v) (edges w) (is_member eq row)
       → OnOk r ((q : K) → is_member eq row q ≡ true → edges w q ≡ true)
       → Writes eq edges (IsAt eq at) (IsEdgeTo eq at row) m n r

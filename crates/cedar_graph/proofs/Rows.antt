@@ -1,4 +1,4 @@
--- Rows of keys, and what is written of them.
+-- Rows of keys, and the effect of writing them.
 use Rattle.std.specs.Cmp.{IsEquivalence, nat_eq_equiv}
 use Rattle.std.specs.HashMap.{HashMap, get, keys}
 use Rattle.std.specs.List.{list_any, slice_get, slice_range}
@@ -17,7 +17,6 @@ use Rattle.cedar_graph.specs.laws.Writings.{CountsFound, HasNodes, IsAt, IsEdgeT
 use Rattle.cedar_graph.specs.laws.Writings.{Writes}
 use Rattle.cedar_graph.proofs.Reaches.{graph_from, graph_to, or_cases, same_found}
 
--- a part of a list
 module _ (lists : List ℕ) (i j : ℕ) (ordered : i ≤ j) (within : j ≤ length lists) where
   part_len : length (slice_range lists i j) ≡ j - i
   part_len = omega (arith, length-take (j - i) (drop i lists), length-drop i lists)
@@ -25,7 +24,7 @@ module _ (lists : List ℕ) (i j : ℕ) (ordered : i ≤ j) (within : j ≤ leng
   part_at : (n : ℕ) → n < j - i → get_or (slice_range lists i j) n 0 ≡ get_or lists (i + n) 0
   part_at n h = get_or-take (j - i) (drop i lists) n 0 h ∙ get_or-drop i lists n 0
 
--- where a number stands that is found
+-- The position of a number that is found in a list.
 found_at : (y : ℕ) (xs : List ℕ) → list_any (λ v. nat_eq v y) xs ≡ true
     → (n : ℕ) × (n < length xs) × (get_or xs n 0 ≡ y)
 found_at y [] h = absurd cc
@@ -34,7 +33,7 @@ found_at y (x ∷ xs) h = elim (or_cases (nat_eq x y) (list_any (λ v. nat_eq v 
   | inr further ↦ let r = found_at y xs further in (suc r.0, omega (arith, r.1), r.2)
 ]
 
--- the part of the lists that belongs to number x
+-- The list of the component of number x.
 module _ {K : Type 0} (eq : K → K → Bool) (keys : List K) (E : ℕ → ℕ → Type 0) (component start lists : List ℕ)
     (r : IsReach E (length keys) component start lists) (x : ℕ) (within : x < length keys)
     (i j : ℕ) (i_is : i ≡ get_or start (get_or component x 0) 0)
@@ -71,7 +70,7 @@ module _ {K : Type 0} (eq : K → K → Bool) (keys : List K) (E : ℕ → ℕ �
       ∙ ap (λ m. get_or lists m 0) place ∙ w.3 in
       (n, p.1, omega (arith, part_len lists i j ordered inside), rw at p.3, p.4)
 
-  -- a number that is reached stands in the part
+  -- A reached number has a position in the list.
   pub part_place : (y : ℕ) → Goes E x y
       → (n : ℕ) × (n < length (slice_range lists i j)) × (get_or (slice_range lists i j) n 0 ≡ y)
   part_place y goes =
@@ -84,13 +83,13 @@ module _ {K : Type 0} (eq : K → K → Bool) (keys : List K) (E : ℕ → ℕ �
         part_at lists i j ordered inside n n_in ∙ ap (λ m. get_or lists m 0) place ∙ w.3,
       )
 
-  -- and is found there
+  -- A reached number is found in the list.
   pub part_has : (y : ℕ) → Goes E x y → list_any (λ v. nat_eq v y) (slice_range lists i j) ≡ true
   part_has y goes =
       let p = part_place y goes in
       list_any_at (λ v. nat_eq v y) (slice_range lists i j) p.0 0 p.1 (rw p.2 (nat_eq_equiv.refl y))
 
-  -- a number that is found in the part is reached
+  -- A number that is found in the list is reached.
   pub part_only : (y : ℕ) → list_any (λ v. nat_eq v y) (slice_range lists i j) ≡ true → Goes E x y
   part_only y h =
       let f = found_at y (slice_range lists i j) h in
@@ -100,7 +99,7 @@ module _ {K : Type 0} (eq : K → K → Bool) (keys : List K) (E : ℕ → ℕ �
       r.sound x y within (subst (λ m. IsWithin lists m (get_or start (get_or component x 0 + 1) 0) y) i_is
       (subst (λ m. IsWithin lists i m y) j_is here))
 
-  -- the row of a number, given to the node at its key, is what the number reaches
+  -- After its row is written, the node of a number has edges to exactly the reached keys.
   pub number_written : {V S T F : Type 0} (laws : IsEquivalence eq) (edges : V → K → Bool)
       (alike : (n : V) (x y : K) → eq x y ≡ true → edges n x ≡ edges n y)
       (old new : HashMap K V S) (r : Result T F) (key : K) (row : List K) (known : Known)
@@ -125,7 +124,7 @@ module _ {K : Type 0} (eq : K → K → Bool) (keys : List K) (E : ℕ → ℕ �
         ]) w.ok;
   }
 
--- what was found at the key of a number
+-- The count of nodes at the key of a number.
 pub number_counted : {K V S : Type 0} {eq : K → K → Bool} (laws : IsEquivalence eq) (keys : List K) (x : ℕ) (key : K)
     → slice_get keys x ≡ Some key → (nodes : HashMap K V S) (n : ℕ)
     → CountsFound 1 (is_some (get eq nodes key) ≡ true) n → CountsFound 1 (HasNodes eq nodes (IsKeyAt eq keys x)) n
@@ -134,13 +133,13 @@ number_counted laws keys x key got nodes n c = record {
   all = λ has. c.all (has key (key, got, laws.refl key));
 }
 
--- an answer that nothing was refused
+-- A result without an error.
 abbrev pub done : Result (Unit {0}) (Unit {0})
 done = Ok tt
 
 module _ {K V S : Type 0} (eq : K → K → Bool) (edges : V → K → Bool) (ks : List K) (E : ℕ → ℕ → Type 0)
     (A : K → Type 0) where
-  -- one more row
+  -- One more row was written.
   pub rows_written : {T F : Type 0} (m n o : HashMap K V S) (r : Result T F) (x : ℕ)
       → ((q : K) → IsKeyAt eq ks x q → A q) → keys n ≡ keys m
       → Writes eq edges A (IsRowEdgeBelow eq x ks E) m n done
@@ -159,7 +158,7 @@ module _ {K V S : Type 0} (eq : K → K → Bool) (edges : V → K → Bool) (ks
     ]) w.ok;
   }
 
-  -- none yet
+  -- No row was written yet.
   pub none_written : (m : HashMap K V S) → Writes eq edges A (IsRowEdgeBelow eq 0 ks E) m m done
   none_written m = record {
     alone = λ q out. refl;
@@ -168,7 +167,7 @@ module _ {K V S : Type 0} (eq : K → K → Bool) (edges : V → K → Bool) (ks
     ok = λ a b e found. absurd (omega (arith, e.1));
   }
 
-  -- up to a further number
+  -- The bound of the written rows can be raised.
   pub rows_wider : {T F U G : Type 0} (m o : HashMap K V S) (r : Result T F) (s : Result U G) (x fixed : ℕ)
       → x ≤ fixed → Writes eq edges A (IsRowEdgeBelow eq x ks E) m o r
       → OnOk s ((a b : K) → IsRowEdgeBelow eq fixed ks E a b → is_some (get eq m a) ≡ true
@@ -181,7 +180,7 @@ module _ {K V S : Type 0} (eq : K → K → Bool) (edges : V → K → Bool) (ks
     ok = ok;
   }
 
-  -- one more row, of which nothing was refused
+  -- One more row was written without an error.
   pub rows_next : {T F : Type 0} (m n o : HashMap K V S) (r : Result T F) (x : ℕ)
       → ((q : K) → IsKeyAt eq ks x q → A q) → keys n ≡ keys m
       → Writes eq edges A (IsRowEdgeBelow eq x ks E) m n done

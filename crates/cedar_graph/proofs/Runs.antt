@@ -1,4 +1,4 @@
--- Rows that are made run by run, of the keys of the numbers between those that are known.
+-- Rows that are built in runs: the keys of the numbers between two known numbers.
 use Rattle.std.specs.Cmp.{IsEquivalence}
 use Rattle.std.specs.List.{IsDistinct, list_any, slice_range}
 use Rattle.std.specs.Set.{is_member}
@@ -12,7 +12,7 @@ use Rattle.cedar_graph.specs.declared.close.Known.{Known}
 use Rattle.cedar_graph.specs.laws.Writings.{IsRowTo, TakesKey, TakesRun}
 use Rattle.cedar_graph.proofs.Keyed.{number_same}
 
--- what stands in a list from a place on is found there
+-- An element of a list at or after a position is found from that position on.
 pub found_from : (xs : List ℕ) (i y n : ℕ) → i ≤ n → n < length xs → get_or xs n 0 ≡ y
     → list_any (λ v. nat_eq v y) (slice_range xs i (length xs)) ≡ true
 found_from xs i y n le lt is =
@@ -25,7 +25,7 @@ found_from xs i y n le lt is =
 
 module _ {K : Type 0} {eq : K → K → Bool} (laws : IsEquivalence eq) (keys : List K) (unique : IsDistinct eq keys)
     (numbers : List ℕ) (known : Known) where
-  -- an empty row
+  -- An empty row.
   pub none_taken : (row : List K) → row ≡ [] → IsRowTo eq keys numbers 0 known row
   none_taken row is = record {
     only = λ q h. absurd (let e : is_member eq [] q ≡ true = subst (λ v. is_member eq v q ≡ true) is h in cc);
@@ -33,7 +33,7 @@ module _ {K : Type 0} {eq : K → K → Bool} (laws : IsEquivalence eq) (keys : 
     new = λ q h p. let e : is_member eq [] q ≡ true = subst (λ v. is_member eq v q ≡ true) is h in cc;
   }
 
-  -- a run of numbers none of which is known
+  -- A run of numbers without a known one.
   pub run_taken : (i j : ℕ) (old new : List K) → i ≤ j → IsRowTo eq keys numbers i known old
       → TakesRun eq keys numbers i j old new
       → ((n : ℕ) → i ≤ n → n < j → get_or known.marks.items (get_or numbers n 0) 0 ≡ known.mark → ⊥)
@@ -59,7 +59,7 @@ module _ {K : Type 0} {eq : K → K → Bool} (laws : IsEquivalence eq) (keys : 
     ];
   }
 
-  -- one number, whose key was put in unless it is known
+  -- One number, whose key was appended unless it is known.
   pub key_taken : (n : ℕ) (key : K) (is_known : Bool) (old new : List K) → IsRowTo eq keys numbers n known old
       → slice_get keys (get_or numbers n 0) ≡ Some key → TakesKey eq key is_known old new
       → (is_known ≡ true → get_or known.marks.items (get_or numbers n 0) 0 ≡ known.mark)
@@ -93,7 +93,7 @@ module _ {K : Type 0} {eq : K → K → Bool} (laws : IsEquivalence eq) (keys : 
     ];
   }
 
-  -- a number that is known
+  -- A known number was skipped.
   pub known_passed : (n : ℕ) (row : List K) → IsRowTo eq keys numbers n known row
       → get_or known.marks.items (get_or numbers n 0) 0 ≡ known.mark → IsRowTo eq keys numbers (n + 1) known row
   known_passed n row is marked = record {

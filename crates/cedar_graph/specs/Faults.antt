@@ -1,37 +1,39 @@
--- What the refusals of the closure calls say.
+-- The meaning of the errors of the closure functions.
 use Rattle.std.specs.Prelude.{◌≡◌, Bool, true, false, Result, Ok, Err, IsTrue, ⊤}
 use Rattle.cedar_graph.specs.Graph.{IsClosed, Reach}
 use Rattle.cedar_graph.specs.declared.err.HasCycle.{HasCycle}
 use Rattle.cedar_graph.specs.declared.err.TcError.{TcError}
 use Rattle.cedar_graph.specs.declared.err.TcError.TheVariants.{MissingTcEdge, HasCycle as CycleFound, Memory}
 
--- the key that a refusal for a cycle names
+-- The key in a cycle error.
 abbrev pub vertex_of : {K : Type 0} → HasCycle K → K
 vertex_of e = e.vertex
 
--- the keys of a missing edge meet P, and the key on a cycle meets Q; nothing is said of memory
+-- Holds if the three keys of a missing edge satisfy P, or the key of a cycle satisfies Q, whichever the error is. An
+-- allocation failure satisfies it always.
 abbrev pub MatchFault : {K : Type 0} → TcError K → (K → K → K → Type 0) → (K → Type 0) → Type 0
 MatchFault (MissingTcEdge e) P Q = P e.child e.parent e.grandparent
 MatchFault (CycleFound e) P Q = Q (vertex_of e)
 MatchFault Memory P Q = ⊤
 
--- where it is asked for, a cycle is told, by a key that passes and lies on it; nothing is said of memory, and no
--- other fault comes
+-- Holds if the error is a cycle that was to be checked (`asked`), and its key passes the test and lies on a cycle. An
+-- allocation failure satisfies it always. No other error does.
 abbrev pub NamesCycleAt : {K : Type 0} → (asked : Bool) → (passes : K → Bool) → (K → K → Bool) → TcError K → Type 0
 NamesCycleAt asked passes G e = MatchFault e (λ _ _ _. ⊥) (λ v. IsTrue asked × (passes v ≡ true) × Reach G v v)
 
--- P, unless memory was refused
+-- P, unless the result is an allocation failure.
 abbrev pub UnlessMemory : {T K : Type 0} → Result T (TcError K) → Type 0 → Type 0
 UnlessMemory (Ok x) P = P
 UnlessMemory (Err (MissingTcEdge e)) P = P
 UnlessMemory (Err (CycleFound e)) P = P
 UnlessMemory (Err Memory) P = ⊤
 
--- three keys that break closedness
+-- Holds if three keys show that the graph is not closed. There are edges from a to b and from b to c, but not from a to
+-- c.
 abbrev pub BreaksClosed : {K : Type 0} → (K → K → Bool) → K → K → K → Type 0
 BreaksClosed G a b c = (G a b ≡ true) × (G b c ≡ true) × (G a c ≡ false)
 
--- three keys show that the graph is not closed, or it is closed and a key has an edge to itself; of memory nothing is
--- said
+-- Holds if the error has three keys that show that the graph is not closed. It also holds if the graph is closed and
+-- the error names a key with an edge to itself. An allocation failure satisfies it always.
 abbrev pub DeniesClosed : {K : Type 0} → (K → K → Bool) → TcError K → Type 0
 DeniesClosed G e = MatchFault e (BreaksClosed G) (λ v. IsClosed G × (G v v ≡ true))

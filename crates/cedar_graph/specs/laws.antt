@@ -1,4 +1,4 @@
--- What only the private contracts and the proofs cite, and laws with their proofs.
+-- Definitions that only private contracts and proofs use, and laws.
 pub mod Arcs
 pub mod Checks
 pub mod Deciding

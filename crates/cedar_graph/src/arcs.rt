@@ -33,10 +33,10 @@ use std::alloc::{AllocError, Global};
 use std::collections::{HashMap, HashSet};
 use std::hash::{BuildHasher, Hash};
 
-// Room for so many arcs is made at once where some keys are repaired.
+// The initial capacity for arcs in a repair.
 const ARCS: usize = 64;
 
-// How many nodes may have edges.
+// Counts the nodes that may have edges.
 fn count_edged<K: Clone + Eq + Hash, V: TCNode<K>, S: BuildHasher>(
     nodes: &HashMap<K, V, S>,
 ) -> usize
@@ -49,14 +49,14 @@ fn count_edged<K: Clone + Eq + Hash, V: TCNode<K>, S: BuildHasher>(
     count
 }
 
-// Numbers for the keys of nodes that have edges, and these nodes in the order of the numbers.
+// Numbers for the keys of nodes with edges, and these nodes in the order of the numbers.
 #[derive(Drop)]
 struct Edged<'a, K: Eq + Hash, V, S: BuildHasher> {
     keys: IndexSet<K, S>,
     nodes: Vec<&'a V>,
 }
 
-// Puts a node and its key in, unless the node has no edges.
+// Appends a node and its key, unless the node has no edges.
 fn put_edged<'a, K: Clone + Eq + Hash, V: TCNode<K>, S: BuildHasher>(
     edged: &mut Edged<'a, K, V, S>,
     key: &K,
@@ -78,8 +78,8 @@ fn put_edged<'a, K: Clone + Eq + Hash, V: TCNode<K>, S: BuildHasher>(
     Ok(())
 }
 
-// Numbers for the keys of the map whose nodes have edges, and these nodes. The map is gone through once more only where
-// a node may have some.
+// Numbers the keys of nodes with edges, and collects these nodes. Scans the map a second time only if a node may have
+// edges.
 fn number_edged<'a, K: Clone + Eq + Hash, V: TCNode<K>, S: BuildHasher + Clone>(
     alloc: Global,
     nodes: &'a HashMap<K, V, S>,
@@ -115,7 +115,7 @@ pub(crate) struct Reading<K: Eq + Hash, S: BuildHasher> {
     pub(crate) reads: usize,
 }
 
-// One more arc.
+// Adds an arc from number `a` to the number of the key.
 fn add_arc<K: Clone + Eq + Hash, S: BuildHasher>(
     s: &mut Reading<K, S>,
     a: usize,
@@ -132,8 +132,7 @@ fn add_arc<K: Clone + Eq + Hash, S: BuildHasher>(
     Ok(b)
 }
 
-// The arcs of a node, whose key has the number `a`. What the list is before says nothing: it is set to the edges of the
-// node.
+// Reads the arcs of a node whose key has the number `a`. Overwrites `list` with the edges of the node.
 fn read_node<'a, K: Clone + Eq + Hash, V: TCNode<K>, S: BuildHasher>(
     alloc: Global,
     node: &'a V,
@@ -155,7 +154,7 @@ fn read_node<'a, K: Clone + Eq + Hash, V: TCNode<K>, S: BuildHasher>(
     Ok(())
 }
 
-// The arcs of the node at the key of a number, if there is one.
+// Reads the arcs of the node at the key of number `a`, if there is one.
 fn read_row<'a, K: Clone + Eq + Hash, V: TCNode<K>, S: BuildHasher>(
     alloc: Global,
     nodes: &'a HashMap<K, V, S>,
@@ -175,7 +174,7 @@ fn read_row<'a, K: Clone + Eq + Hash, V: TCNode<K>, S: BuildHasher>(
     }
 }
 
-// The arcs of the nodes of some numbers.
+// Reads the arcs of the nodes of the numbers from `start` up to `end`.
 fn read_rows<K: Clone + Eq + Hash, V: TCNode<K>, S: BuildHasher>(
     alloc: Global,
     nodes: &HashMap<K, V, S>,
@@ -197,7 +196,7 @@ fn read_rows<K: Clone + Eq + Hash, V: TCNode<K>, S: BuildHasher>(
     Ok(())
 }
 
-// Nothing read of some keys, with room for so many arcs.
+// Creates an empty reading of the keys, with capacity for `room` arcs.
 fn nothing_read<K: Clone + Eq + Hash, S: BuildHasher + Drop>(
     alloc: Global,
     keys: IndexSet<K, S>,
@@ -214,7 +213,8 @@ fn nothing_read<K: Clone + Eq + Hash, S: BuildHasher + Drop>(
     })
 }
 
-// What was read, and how many of the numbers are to be fixed, and how many were read.
+// The arcs that were read. The first `fixed` numbers are to be fixed, and the arcs of the first `near` numbers were
+// read.
 #[derive(Drop)]
 pub(crate) struct FixReading<K: Eq + Hash, S: BuildHasher> {
     pub(crate) reading: Reading<K, S>,
@@ -222,7 +222,7 @@ pub(crate) struct FixReading<K: Eq + Hash, S: BuildHasher> {
     pub(crate) near: usize,
 }
 
-// The arcs of nodes that have numbers in their order.
+// Reads the arcs of nodes, in the order of their numbers.
 fn read_nodes<K: Clone + Eq + Hash, V: TCNode<K>, S: BuildHasher>(
     alloc: Global,
     nodes: &[&V],
@@ -240,7 +240,7 @@ fn read_nodes<K: Clone + Eq + Hash, V: TCNode<K>, S: BuildHasher>(
     Ok(())
 }
 
-// The arcs of the nodes of the map: the edges of each node that has some are read once.
+// Reads the arcs of all nodes of the map. Lists the edges of each node with edges once.
 pub(crate) fn read_arcs<K: Clone + Eq + Hash, V: TCNode<K>, S: BuildHasher + Clone>(
     alloc: Global,
     nodes: &HashMap<K, V, S>,
@@ -259,7 +259,7 @@ pub(crate) fn read_arcs<K: Clone + Eq + Hash, V: TCNode<K>, S: BuildHasher + Clo
     })
 }
 
-// Numbers for the keys of a set.
+// Numbers the keys of a set.
 fn number_set<K: Clone + Eq + Hash, S: BuildHasher + Drop, F: BuildHasher>(
     alloc: Global,
     hasher: S,
@@ -282,7 +282,7 @@ fn number_set<K: Clone + Eq + Hash, S: BuildHasher + Drop, F: BuildHasher>(
     Ok(keys)
 }
 
-// The arcs of the keys to fix, and of the keys that they have an edge to.
+// Reads the arcs of the keys to fix, and of the keys to which these have an edge.
 pub(crate) fn read_fix<K: Clone + Eq + Hash, V: TCNode<K>, S: BuildHasher + Clone, F: BuildHasher>(
     alloc: Global,
     fix: &HashSet<K, F>,

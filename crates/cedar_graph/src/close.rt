@@ -1,4 +1,4 @@
-//! Closing and repairing: what the nodes' numbers reach, written back as edges.
+//! Closing and repairing: writing the reached numbers back as edges.
 ghost use Rattle.std.specs.Prelude.{
   ◌≡◌,
   ℕ,
@@ -21,7 +21,7 @@ ghost use Rattle.std.specs.HashSet.{contains, hash_set_len};
 ghost use Rattle.indexmap.specs.IndexSet.{IsUnique};
 ghost use Rattle.cedar_components.specs.Reach.{AreArcs, Goes};
 ghost use Rattle.cedar_graph.specs.Graph.{graph_of, Grows, HasNoLoop, IsTrusted};
-ghost use Rattle.cedar_graph.specs.Calls.{CoversEdged, HasAll, KeepsAll, OnlyAdds};
+ghost use Rattle.cedar_graph.specs.Calls.{CoversEdged, HasAll, IsAtMostNear, KeepsAll, OnlyAdds};
 ghost use Rattle.cedar_graph.specs.laws.Reaches.{HasReached};
 ghost use Rattle.cedar_graph.specs.laws.Arcs.{Ascends, IsKeyAt, IsRowEdge};
 ghost use Rattle.cedar_graph.specs.laws.Readings.{AreRead, IsArc};
@@ -59,7 +59,7 @@ use std::alloc::{AllocError, Global};
 use std::collections::{HashMap, HashSet};
 use std::hash::{BuildHasher, Hash};
 
-// Adds a copy of a key to a row, unless it is known.
+// Appends a copy of a key to a row, unless it is known.
 fn pick_key<K: Clone + Eq + Hash>(row: &mut Vec<K>, key: &K, known: bool) -> Result<(), AllocError>
     requires { ClonesAreEqual K.eq K.is_clone }
     ensures { OnOk result (TakesKey K.eq key.now known row.old.items row.new.items) }
@@ -71,8 +71,8 @@ fn pick_key<K: Clone + Eq + Hash>(row: &mut Vec<K>, key: &K, known: bool) -> Res
     Ok(())
 }
 
-// The numbers whose keys a node has an edge to already: those with this mark, to which so many arcs
-// lead, the last of them to this one.
+// The numbers to whose keys a node already has an edge: the numbers with the mark `mark`. `count` arcs lead to them,
+// the last one to the number `last`.
 #[derive(Drop)]
 pub(crate) struct Known {
     pub(crate) marks: Vec<usize>,
@@ -81,11 +81,10 @@ pub(crate) struct Known {
     pub(crate) last: usize,
 }
 
-// Numbers are gone through run by run where there are so many for each that is known, and one by one where there are
-// fewer.
+// Numbers are processed in runs if there are at least this many for each known number, and one by one otherwise.
 const RUN: usize = 8;
 
-// Adds copies of the keys of the numbers from place `start` up to `end` to a row.
+// Appends copies of the keys of the numbers at the places from `start` up to `end`.
 fn pick_run<K: Clone + Eq + Hash>(
     row: &mut Vec<K>,
     keys: &[K],
@@ -105,7 +104,7 @@ fn pick_run<K: Clone + Eq + Hash>(
     Ok(())
 }
 
-// The place, from `start` on, of the first of these numbers that is known, or their end.
+// Returns the place of the first known number from `start` on, or the end of the list.
 fn next_known(numbers: &[usize], start: usize, known: &Known) -> usize
     requires start { start ≤ length numbers.now }
     requires marks { AllBelow (length known.now.marks.items) numbers.now }
@@ -124,8 +123,8 @@ fn next_known(numbers: &[usize], start: usize, known: &Known) -> usize
     numbers.len()
 }
 
-// Adds copies of the keys of these numbers to an empty row, in their order, but for that of the only one that is known,
-// which costs less to tell than a mark.
+// Appends to an empty row copies of the keys of the numbers, in order, without the only known one. Comparing with one
+// number is faster than reading marks.
 fn pick_others<K: Clone + Eq + Hash>(
     row: &mut Vec<K>,
     keys: &[K],
@@ -147,8 +146,8 @@ fn pick_others<K: Clone + Eq + Hash>(
     Ok(())
 }
 
-// Adds copies of the keys of these numbers to an empty row, in their order, but for those that are known. It is no part
-// of what calls it, where few numbers are gone through.
+// Appends to an empty row copies of the keys of the numbers, in order, without the known ones. It is not inlined,
+// because its caller mostly handles few numbers.
 #[inline(never)]
 fn pick_runs<K: Clone + Eq + Hash>(
     row: &mut Vec<K>,
@@ -177,7 +176,7 @@ fn pick_runs<K: Clone + Eq + Hash>(
     Ok(())
 }
 
-// Adds a copy of a key to a row, unless it is known, and says whether the row had room for it.
+// Appends a copy of a key to a row, unless it is known. Returns whether the row had capacity for it.
 fn pick_if_room<K: Clone + Eq + Hash>(
     row: &mut Vec<K>,
     key: &K,
@@ -198,8 +197,8 @@ fn pick_if_room<K: Clone + Eq + Hash>(
     Ok(true)
 }
 
-// Adds copies of the keys of these numbers to an empty row, in their order, but for those that are known, as long as it
-// has room, and gives the place at which it stopped: no step of it lets the row grow.
+// Appends to an empty row copies of the keys of the numbers, in order, without the known ones, while the row has
+// capacity. Returns the place at which it stopped. The row never grows.
 fn pick_while_room<K: Clone + Eq + Hash>(
     row: &mut Vec<K>,
     keys: &[K],
@@ -224,7 +223,7 @@ fn pick_while_room<K: Clone + Eq + Hash>(
     Ok(numbers.len())
 }
 
-// Copies of the keys of these numbers, in their order, but for those that are known.
+// Returns copies of the keys of the numbers, in order, without the known ones.
 fn pick_row<K: Clone + Eq + Hash>(
     alloc: Global,
     keys: &[K],
@@ -252,8 +251,8 @@ fn pick_row<K: Clone + Eq + Hash>(
     Ok(row)
 }
 
-// Adds to a node an edge to each key of a row, which has none that it has an edge to, and asks nothing of it for a row
-// without keys.
+// Adds edges from a node to the keys of a row. The node must not have any of these edges yet. Does not call the node
+// for an empty row.
 fn fill_node<K: Clone + Eq + Hash, V: TCNode<K>>(
     alloc: Global,
     node: &mut V,
@@ -272,8 +271,8 @@ fn fill_node<K: Clone + Eq + Hash, V: TCNode<K>>(
     node.add_new_edges_to(alloc, row)
 }
 
-// Adds to the node at a key an edge to each key of a row, which has none that it has an edge to, and says how many
-// nodes it found.
+// Adds edges from the node at a key to the keys of a row. The node must not have any of these edges yet. Returns the
+// number of nodes found: 0 or 1.
 fn add_row<K: Clone + Eq + Hash, V: TCNode<K>, S: BuildHasher>(
     alloc: Global,
     nodes: &mut HashMap<K, V, S>,
@@ -294,7 +293,7 @@ fn add_row<K: Clone + Eq + Hash, V: TCNode<K>, S: BuildHasher>(
     Ok(1)
 }
 
-// The numbers that number x reaches, as they are listed for its component.
+// Returns the list of the numbers that number `x` reaches.
 pub(crate) fn listed_for<'a, K: Clone + Eq + Hash, S: BuildHasher>(
     read: &Reading<K, S>,
     reached: &'a Reached,
@@ -309,8 +308,8 @@ pub(crate) fn listed_for<'a, K: Clone + Eq + Hash, S: BuildHasher>(
     &reached.lists[reached.start[component]..reached.start[component + 1]]
 }
 
-// Adds to the node of number x an edge to the key of each number that it reaches, and says how
-// many nodes it found. It has those to known numbers already, and no others.
+// Adds edges from the node of number `x` to the keys of the numbers that `x` reaches. Its existing edges must be the
+// edges to known numbers. Returns the number of nodes found: 0 or 1.
 fn write_number<K: Clone + Eq + Hash, V: TCNode<K>, S: BuildHasher>(
     alloc: Global,
     nodes: &mut HashMap<K, V, S>,
@@ -336,7 +335,7 @@ fn write_number<K: Clone + Eq + Hash, V: TCNode<K>, S: BuildHasher>(
     add_row(alloc, nodes, &keys[x], &mut row)
 }
 
-// Makes known the targets of number x, whose arcs begin at place e, and gives the place after them.
+// Marks the targets of number `x` as known. Its arcs begin at place `e`. Returns the place after them.
 pub(crate) fn mark_targets(
     from: &[usize],
     to: &[usize],
@@ -370,7 +369,7 @@ pub(crate) fn mark_targets(
     k
 }
 
-// Whether number x reaches itself.
+// Checks whether number `x` reaches itself.
 pub(crate) fn goes_back<K: Clone + Eq + Hash, S: BuildHasher>(
     read: &Reading<K, S>,
     reached: &Reached,
@@ -384,16 +383,16 @@ pub(crate) fn goes_back<K: Clone + Eq + Hash, S: BuildHasher>(
     listed_for(read, reached, x).contains(&x)
 }
 
-// What was done, and whether a number to fix may reach itself: one was seen to, or none was looked at.
+// The work done, and whether a number to fix may reach itself. It is also `true` if this was not checked.
 #[derive(Drop)]
 pub(crate) struct Closed {
     pub(crate) work: Work,
     pub(crate) has_loop: bool,
 }
 
-// Adds to the node of each number to fix an edge to the key of each number that it reaches, counts
-// the nodes, and tells whether one of the numbers may reach itself. Where that is asked for it looks at those alone that
-// are marked when it comes to them: on each way back to its beginning there is one.
+// Adds edges from the node of each number to fix to the keys of the numbers that it reaches, and counts the nodes. If
+// `asks` is true, it also checks whether one of the numbers reaches itself. It checks only numbers that are already
+// marked when their turn comes, because every cycle contains such a number.
 pub(crate) fn write_rows<K: Clone + Eq + Hash, V: TCNode<K>, S: BuildHasher>(
     alloc: Global,
     nodes: &mut HashMap<K, V, S>,
@@ -433,7 +432,7 @@ pub(crate) fn write_rows<K: Clone + Eq + Hash, V: TCNode<K>, S: BuildHasher>(
     Ok(Closed { work, has_loop })
 }
 
-// What each number that was read reaches.
+// Computes the numbers that each number reaches.
 pub(crate) fn reach_of<K: Clone + Eq + Hash, V: TCNode<K>, S: BuildHasher>(
     alloc: Global,
     read: &Reading<K, S>,
@@ -446,8 +445,8 @@ pub(crate) fn reach_of<K: Clone + Eq + Hash, V: TCNode<K>, S: BuildHasher>(
     reach(alloc, &read.from, &read.to, keys.len(), &order)
 }
 
-// Adds to the nodes of the numbers to fix the edges that what was read asks for, and tells whether one of these numbers
-// may reach itself: where that is not asked for, it may.
+// Adds the edges that follow from the arcs to the nodes of the numbers to fix. Reports whether one of these numbers may
+// reach itself, which is `true` if `asks` is false.
 fn close_read<K: Clone + Eq + Hash, V: TCNode<K>, S: BuildHasher>(
     alloc: Global,
     nodes: &mut HashMap<K, V, S>,
@@ -467,8 +466,8 @@ fn close_read<K: Clone + Eq + Hash, V: TCNode<K>, S: BuildHasher>(
     write_rows(alloc, nodes, read, &reached, asks)
 }
 
-// Adds an edge to each key that is reached, and tells whether some key may have an edge to itself then: where that is not
-// asked for, it may.
+// Adds edges to all reached keys. Reports whether a key may then have an edge to itself, which is `true` if `asks` is
+// false.
 pub(crate) fn close<K: Clone + Eq + Hash, V: TCNode<K>, S: BuildHasher + Clone>(
     alloc: Global,
     nodes: &mut HashMap<K, V, S>,
@@ -492,7 +491,7 @@ pub(crate) fn close<K: Clone + Eq + Hash, V: TCNode<K>, S: BuildHasher + Clone>(
     close_read(alloc, nodes, &read, asks)
 }
 
-// Adds to the nodes to fix an edge to each key that is reached.
+// Adds edges from the nodes to fix to all reached keys.
 pub(crate) fn repair<K: Clone + Eq + Hash, V: TCNode<K>, S: BuildHasher + Clone, F: BuildHasher>(
     alloc: Global,
     fix: &HashSet<K, F>,
@@ -506,6 +505,8 @@ pub(crate) fn repair<K: Clone + Eq + Hash, V: TCNode<K>, S: BuildHasher + Clone,
     ensures ok { OnOk result (
         IsTrusted (contains K.eq fix.now) (graph_of K.eq V.edges nodes.old)
         → HasReached (graph_of K.eq V.edges nodes.old) (graph_of K.eq V.edges nodes.new)) }
+    ensures reads { IfOk result (λ w. IsAtMostNear K.eq (contains K.eq fix.now)
+        (graph_of K.eq V.edges nodes.old) w.reads) }
     ensures closings { IfOk result (λ w. w.closings ≤ hash_set_len fix.now) }
     ensures visits { IfOk result (λ w. HasAll K.eq fix.now nodes.old
         → hash_set_len fix.now ≤ w.closings) }

@@ -1,4 +1,4 @@
-//! Lists of the keys of sets, which copy no key.
+//! Lists of the keys of sets, without copying keys.
 ghost use Rattle.std.specs.Prelude.{◌≡◌, length, map, IfOk};
 ghost use Rattle.std.specs.Set.{is_member};
 ghost use Rattle.std.specs.HashSet.{contains, hash_set_len, IsUnique};
@@ -7,7 +7,7 @@ use std::alloc::{AllocError, Global};
 use std::collections::HashSet;
 use std::hash::{BuildHasher, Hash};
 
-// The keys of a set.
+// Lists the keys of a set.
 pub(crate) fn members_of<K: Clone + Eq + Hash, S: BuildHasher>(
     alloc: Global,
     set: &HashSet<K, S>,

@@ -1,4 +1,4 @@
-//! Closing and repairing a graph that may have no cycle: a cycle is told before anything is written.
+//! Closing and repairing a graph that must not have a cycle. A cycle is reported before anything is written.
 ghost use Rattle.std.specs.Prelude.{◌≡◌, ℕ, ◌<◌, ◌≤◌, true, None, IfErr, IfOk, OnOk, length};
 ghost use Rattle.std.specs.Option.{IfSome};
 ghost use Rattle.std.specs.Set.{ClonesAreEqual};
@@ -20,7 +20,7 @@ use std::collections::{HashMap, HashSet};
 use std::fmt::{Debug, Display};
 use std::hash::{BuildHasher, Hash};
 
-// For each number whether an arc leads to it.
+// Computes for each number whether an arc leads to it.
 fn marked_targets<K: Clone + Eq + Hash, S: BuildHasher>(
     alloc: Global,
     read: &Reading<K, S>,
@@ -35,7 +35,7 @@ fn marked_targets<K: Clone + Eq + Hash, S: BuildHasher>(
     Ok(led)
 }
 
-// The first number to fix that reaches itself. It looks at those alone to which an arc leads.
+// Returns the first number to fix that reaches itself. Checks only numbers to which an arc leads.
 fn first_loop<K: Clone + Eq + Hash, S: BuildHasher>(
     read: &FixReading<K, S>,
     reached: &Reached,
@@ -56,8 +56,8 @@ fn first_loop<K: Clone + Eq + Hash, S: BuildHasher>(
     None
 }
 
-// Whether each arc leads to a component that comes before its own, as `reach` numbers them where no number reaches
-// itself: then none does.
+// Checks whether each arc leads to a component that comes before its own. If so, no number reaches itself. Otherwise a
+// number may reach itself.
 fn descends<K: Clone + Eq + Hash, S: BuildHasher>(read: &Reading<K, S>, reached: &Reached) -> bool
     requires reach { IsReachOf read.now reached.now }
     requires arcs { AreArcs read.now.from.items read.now.to.items (length read.now.keys.keys) }
@@ -71,8 +71,8 @@ fn descends<K: Clone + Eq + Hash, S: BuildHasher>(read: &Reading<K, S>, reached:
     true
 }
 
-// Refuses what was read where a number to fix reaches itself, by the key of the first that does, which is looked for only
-// where the components do not show that there is none.
+// Returns an error with the key of the first number to fix that reaches itself. The numbers are searched only if the
+// order of the components does not exclude a cycle.
 fn refuse_loop<K: Clone + Eq + Hash + Debug + Display, S: BuildHasher>(
     alloc: Global,
     read: &FixReading<K, S>,
@@ -99,20 +99,27 @@ fn refuse_loop<K: Clone + Eq + Hash + Debug + Display, S: BuildHasher>(
     Ok(())
 }
 
-/// Closes a graph that has no cycle, as [`compute_tc`](crate::compute_tc) does with `enforce_dag`, and where it has one
-/// says so before it writes anything: what a refused call costs is what reading the graph and its strong components
-/// cost, in the number of keys and edges, and not the edges of its closure.
+/// Closes a graph that must not have a cycle, as [`compute_tc`](crate::compute_tc) does with `enforce_dag`. A cycle is
+/// reported before anything is written.
 ///
-/// Each map key must be its node's key, and a copy of a key must equal it. It is refused exactly where a node of the map
-/// lies on a cycle, by [`TcError::HasCycle`](crate::TcError::HasCycle), which names such a node and leaves the map as it
-/// was, or by `TcError::Memory`, after which the former edges stay, and each further edge leads to a key that was
-/// reached. The map's keys and each node's key, rest and what adding keeps always stay.
+/// The caller must ensure that each map key is its node's key, and that a copy of a key equals it. The map's keys and
+/// each node's key, `rest` and `kept` do not change, even if an error is returned.
 ///
-/// Takes memory, hashes, lists edges and recurses as [`compute_tc`](crate::compute_tc) does, and where there is a cycle
-/// one byte more for each key that has edges or to which edges lead. It looks at each edge once more, and asks no node
-/// whether it has an edge.
+/// # Errors
 ///
-/// The original has no such call.
+/// - `HasCycle`: a node of the map lies on a cycle. The error names such a node, and the map is unchanged.
+/// - `Memory`: an allocation failed. No edge is removed, and each added edge leads to a reached key.
+///
+/// # Complexity
+///
+/// As in [`compute_tc`](crate::compute_tc). In addition it reads each edge once more. It calls no `has_edge_to`. For a
+/// graph with a cycle it costs only the reading of the graph and its components, not the edges of the closure.
+///
+/// For a graph with a cycle it allocates one more byte per numbered key.
+///
+/// # Differences from cedar-policy-core
+///
+/// The original has no such function.
 #[tactic(auto, using(crate::specs::laws::Nodes::keys_match_kept))]
 pub fn close_dag<K: Clone + Eq + Hash + Debug + Display, V: TCNode<K>, S: BuildHasher + Clone>(
     alloc: Global,
@@ -131,19 +138,30 @@ pub fn close_dag<K: Clone + Eq + Hash + Debug + Display, V: TCNode<K>, S: BuildH
     Ok(())
 }
 
-/// Closes part of a graph, as [`repair_tc`](crate::repair_tc) does with `enforce_dag`, and where a key of
-/// `nodes_to_fix` lies on a cycle says so before it writes anything.
+/// Closes part of a graph, as [`repair_tc`](crate::repair_tc) does with `enforce_dag`. A cycle through a key of
+/// `nodes_to_fix` is reported before anything is written.
 ///
-/// Each map key must be its node's key, and a copy of a key must equal it. Where the nodes that are not to be fixed have
-/// an edge to all that they reach it is Ok exactly where no key of `nodes_to_fix` lies on a cycle, and then each node's
-/// edges are exactly the keys it reaches. Whatever the graph is, only edges to reached keys are added, and it is
-/// refused only by [`TcError::HasCycle`](crate::TcError::HasCycle), which names a key of `nodes_to_fix` that lies on a
-/// cycle and leaves the map as it was, or by `TcError::Memory`. The map's keys, each node's key, rest and what adding
-/// keeps, the former edges and the nodes that are not to be fixed always stay.
+/// The caller must ensure that each map key is its node's key, and that a copy of a key equals it.
 ///
-/// Takes memory and costs as [`close_dag`] does, for the keys to fix and those that they have an edge to.
+/// Suppose that each node outside `nodes_to_fix` has an edge to every key that it reaches. If no key of `nodes_to_fix`
+/// lies on a cycle, the result is `Ok`, and the edges of each node lead exactly to the keys that it reaches. If one
+/// lies on a cycle, the result is `HasCycle`.
 ///
-/// The original has no such call.
+/// In every graph, only edges to reached keys are added. The map's keys, each node's key, `rest` and `kept`, the
+/// existing edges, and the nodes outside `nodes_to_fix` do not change.
+///
+/// # Errors
+///
+/// - `HasCycle`: a key of `nodes_to_fix` lies on a cycle. The error names such a key, and the map is unchanged.
+/// - `Memory`: an allocation failed. No edge is removed, and each added edge leads to a reached key.
+///
+/// # Complexity
+///
+/// As in [`close_dag`], for the keys to fix and the keys to which they have an edge.
+///
+/// # Differences from cedar-policy-core
+///
+/// The original has no such function.
 #[tactic(auto, using(crate::specs::laws::Nodes::keys_match_kept))]
 pub fn repair_dag<
     K: Clone + Eq + Hash + Debug + Display,

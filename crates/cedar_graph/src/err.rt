@@ -1,4 +1,4 @@
-//! The refusals of the closure calls.
+//! The errors of the closure functions.
 ghost use Rattle.std.specs.Prelude.{◌≡◌};
 ghost use Rattle.cedar_graph.specs.declared.err.TcError.TheVariants.{Memory};
 ghost use Rattle.cedar_graph.specs.Faults.{vertex_of};
@@ -7,40 +7,44 @@ use std::alloc::{AllocError, AllocFailed};
 use std::fmt::{Debug, Display};
 use thiserror::Error;
 
-/// Three keys that show that a graph is not closed: `child` has an edge to `parent` and `parent`
-/// has one to `grandparent`, but `child` has none to `grandparent`.
+/// Three keys that show that a graph is not closed. `child` has an edge to `parent` and `parent` has an edge to
+/// `grandparent`, but `child` has no edge to `grandparent`.
 #[derive(Debug, Drop, PartialEq, Eq)]
 pub struct MissingTcEdge<K> {
-    /// The key whose node lacks an edge.
+    /// The key whose node has no edge to `grandparent`.
     pub child: K,
-    /// The key that `child` has an edge to.
+    /// A key to which `child` has an edge.
     pub parent: K,
-    /// The key that `parent` has an edge to and `child` has not.
+    /// A key to which `parent` has an edge and `child` has none.
     pub grandparent: K,
 }
 
-/// A key that lies on a cycle, which in a closed graph is a key with an edge to itself.
+/// A key that lies on a cycle. In a closed graph it has an edge to itself.
 #[derive(Debug, Drop, PartialEq, Eq)]
 pub struct HasCycle<K> {
     pub(crate) vertex: K,
 }
 
 impl<K> HasCycle<K> {
-    /// The fault that names this key. Takes no memory. The original makes none outside its closure.
+    /// Creates the error for a key. Does not allocate.
+    ///
+    /// # Differences from cedar-policy-core
+    ///
+    /// The original creates this error only in its closure.
     pub fn new(vertex: K) -> HasCycle<K>
         ensures { vertex_of result ≡ vertex }
     {
         HasCycle { vertex }
     }
 
-    /// The key that lies on a cycle, itself. Takes no memory.
+    /// Returns the key that lies on a cycle, and consumes the error. Does not allocate.
     pub fn into_vertex(self) -> K
         ensures { result ≡ vertex_of self }
     {
         self.vertex
     }
 
-    /// The key that lies on a cycle. Takes no memory.
+    /// Returns the key that lies on a cycle. Does not allocate.
     pub fn vertex_with_loop(&self) -> &K
         ensures { result.now ≡ vertex_of self.now }
     {
@@ -48,21 +52,25 @@ impl<K> HasCycle<K> {
     }
 }
 
-/// Why a closure call was refused. Beside the original's two refusals there is one for memory.
+/// The error of a closure function.
+///
+/// # Differences from cedar-policy-core
+///
+/// The variant `Memory` reports a failed allocation. The original has no such variant.
 #[derive(Debug, Drop, PartialEq, Eq, Error)]
 pub enum TcError<K: Debug + Display> {
-    /// The graph is not closed: an edge that leads over another key is missing.
+    /// The graph is not closed: it has a path of two edges without the direct edge.
     #[error("expected all transitive edges to exist, but `{}` -> `{}` and `{}` -> `{}` exists, while `{}` -> `{}` does not", .0.child, .0.parent, .0.parent, .0.grandparent, .0.child, .0.grandparent)]
     MissingTcEdge(MissingTcEdge<K>),
     /// The graph has a cycle.
     #[error("input graph has a cycle containing vertex `{}`", .0.vertex)]
     HasCycle(HasCycle<K>),
-    /// A request for memory was refused.
+    /// An allocation failed.
     #[error("out of memory")]
     Memory,
 }
 
-/// What a closure call answers.
+/// The result of a closure function.
 pub type Result<T, K> = std::result::Result<T, TcError<K>>;
 
 impl<K: Debug + Display> From<AllocError> for TcError<K> {

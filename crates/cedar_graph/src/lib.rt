@@ -1,15 +1,18 @@
-//! The transitive closure of a graph that is kept as a map from keys to nodes.
+//! Transitive closure of a graph whose nodes are the values of a map.
 //!
-//! It knows nothing of what the keys and nodes are: it serves every node type that keeps the laws
-//! of [`TCNode`]. [`compute_tc`] closes a graph, [`repair_tc`] closes the nodes that changed, and
-//! [`enforce_tc_and_dag`] checks that a graph is closed and has no cycle. The first two have
-//! variants that count their [`Work`].
+//! The keys and nodes are generic: any node type that implements [`TCNode`] can be used.
 //!
-//! Both number the keys that matter, read the edges as arcs between numbers, leave it to
-//! `cedar_components` to find what each number reaches, and write that back as edges.
+//! - [`compute_tc`] closes a graph.
+//! - [`repair_tc`] closes the nodes that changed.
+//! - [`close_dag`] and [`repair_dag`] do the same for graphs without cycles, and report a cycle before they write.
+//! - [`enforce_tc_and_dag`] checks that a graph is closed and has no cycle.
+//! - [`compute_tc_counted`] and [`repair_tc_counted`] also count their [`Work`].
 //!
-//! A node type says by ghost members what its calls mean, and the calls' clauses follow. A node
-//! with number keys that holds a set of them:
+//! Each function numbers the keys with edges and reads the edges as arcs between numbers. `cedar_components` computes
+//! the numbers that each number reaches. The result is written back as edges.
+//!
+//! A node type defines by ghost members what its methods mean in contracts. An example is a node with a number as its
+//! key and a set of target keys:
 //!
 //! ```text
 //! impl TCNode<u64> for Plain {
@@ -37,8 +40,8 @@
 //! }
 //! ```
 //!
-//! `contains_both_or_none` is a law of this crate's `specs/laws/Nodes`. A caller of the three calls shows
-//! two things: that each map key is its node's key, and that a copy of a key equals it.
+//! `contains_both_or_none` is a law of this crate's `specs/laws/Nodes`. A caller of the functions must ensure two
+//! conditions: each map key is its node's key, and a copy of a key equals it.
 #![tactic(auto)]
 
 mod arcs;

@@ -1,4 +1,4 @@
-//! Numbers for keys: their places in a set that keeps them in the order in which they came.
+//! Numbers for keys: their positions in an insertion-ordered set.
 ghost use Rattle.std.specs.Prelude.{IfOk};
 ghost use Rattle.std.specs.Set.{ClonesAreEqual};
 ghost use Rattle.cedar_graph.specs.laws.Readings.{HasPut};
@@ -8,7 +8,7 @@ use indexmap::IndexSet;
 use std::alloc::AllocError;
 use std::hash::{BuildHasher, Hash};
 
-// The number of a key of which a copy is put in, if there is no equal one.
+// Inserts a copy of a key, if there is no equal key. Returns the number of the key.
 pub(crate) fn put_key<K: Clone + Eq + Hash, S: BuildHasher>(
     keys: &mut IndexSet<K, S>,
     key: &K,
@@ -20,7 +20,7 @@ pub(crate) fn put_key<K: Clone + Eq + Hash, S: BuildHasher>(
     Ok(number)
 }
 
-// The number of a key, which is a new one if the key has none.
+// Returns the number of a key. A new key gets a new number.
 pub(crate) fn number_of<K: Clone + Eq + Hash, S: BuildHasher>(
     keys: &mut IndexSet<K, S>,
     key: &K,

@@ -1,4 +1,4 @@
-//! The order in which the lists of a closure name numbers.
+//! The order in which the lists of a closure contain their numbers.
 ghost use Rattle.std.specs.Prelude.{◌≡◌, ◌≤◌, ◌++◌, ◌∷◌, [], length, IfOk, OnOk};
 ghost use Rattle.std.specs.List.{range_with_len};
 ghost use Rattle.std.specs.List.Sorted.{IsPermutation};
@@ -6,7 +6,7 @@ ghost use Rattle.std.specs.List.Sorted.{IsPermutation};
 use crate::transitive_closure::TCNode;
 use std::alloc::{AllocError, Global};
 
-// Of each number whether an arc leads to it.
+// Computes for each number whether an arc leads to it.
 fn led_to(alloc: Global, to: &[usize], count: usize) -> Result<Vec<bool>, AllocError>
     ensures { IfOk result (λ v. length v.items ≡ count) }
 {
@@ -19,7 +19,7 @@ fn led_to(alloc: Global, to: &[usize], count: usize) -> Result<Vec<bool>, AllocE
     Ok(led)
 }
 
-// The numbers to which arcs lead, with copies of their keys, and the others.
+// The numbers to which arcs lead, with copies of their keys, and the other numbers.
 #[derive(Drop)]
 struct Parts<K> {
     keys: Vec<K>,
@@ -27,7 +27,7 @@ struct Parts<K> {
     others: Vec<usize>,
 }
 
-// Puts a number and its key last in their part.
+// Appends a number to its part, with its key if an arc leads to it.
 fn put<K: Clone>(
     parts: &mut Parts<K>,
     key: &K,
@@ -49,7 +49,7 @@ fn put<K: Clone>(
     Ok(())
 }
 
-// Parts the numbers of some keys.
+// Splits the numbers of the keys into the two parts.
 fn parts_of<K: Clone>(alloc: Global, keys: &[K], to: &[usize]) -> Result<Parts<K>, AllocError>
     ensures keys { IfOk result (λ p. length p.keys.items ≡ length p.led.items) }
     ensures all { IfOk result (λ p.
@@ -67,7 +67,7 @@ fn parts_of<K: Clone>(alloc: Global, keys: &[K], to: &[usize]) -> Result<Parts<K
     Ok(parts)
 }
 
-// The numbers at some places of a list, and the others behind them.
+// Returns the numbers at the places, and then the others.
 fn at_places(
     alloc: Global,
     numbers: &[usize],
@@ -85,8 +85,8 @@ fn at_places(
     Ok(order)
 }
 
-// The numbers of some keys in an order: those to which arcs lead as the node type likes their keys, and behind them the
-// others, which no list names.
+// Returns the numbers of the keys in order. Numbers to which arcs lead come first, in the order that the node type
+// prefers for their keys. The others follow; no list contains them.
 pub(crate) fn order_of<K: Clone + Eq + Drop, V: TCNode<K>>(
     alloc: Global,
     keys: &[K],

@@ -1,4 +1,4 @@
-//! Nodes with edges, and the closure calls over a map of them.
+//! Nodes with edges, and the closure functions over a map of nodes.
 ghost use Rattle.std.specs.Prelude.{
   ◌≡◌,
   Bool,
@@ -19,7 +19,7 @@ ghost use Rattle.std.specs.List.Sorted.{IsPermutation};
 ghost use Rattle.std.specs.Set.{is_member, ClonesAreEqual};
 ghost use Rattle.std.specs.HashMap.{hash_map_len};
 ghost use Rattle.std.specs.HashSet.{contains, hash_set_len};
-ghost use Rattle.cedar_graph.specs.Calls.{Closes, CoversEdged, HasAll, KeepsAll, Repairs};
+ghost use Rattle.cedar_graph.specs.Calls.{Closes, CoversEdged, HasAll, IsAtMostNear, KeepsAll, Repairs};
 ghost use Rattle.cedar_graph.specs.Graph.{graph_of, Grows, IsClosedWithoutLoop, KeysMatch};
 ghost use Rattle.cedar_graph.specs.Faults.{DeniesClosed};
 
@@ -33,15 +33,15 @@ use std::fmt::{Debug, Display};
 use std::hash::{BuildHasher, Hash};
 use std::mem::replace;
 
-/// A node of a graph: it has a key, a set of edges to keys, and some of its edges are direct.
+/// A node of a graph. It has a key and a set of edges to keys, and some of its edges are direct.
 ///
-/// Sets of keys are taken by the keys' equality, which may be coarser than identity. A node type
-/// says by its ghost members what it means, and is lawful where it keeps the clauses below:
+/// Keys are compared by their equality, which may be coarser than identity. The ghost members define what the methods
+/// mean in contracts. An implementation must satisfy the contracts of the methods.
 ///
-/// - `key`, `edges` and `direct` are its key, its edges and its direct edges;
-/// - `rest` is what else it holds, which no call changes;
-/// - `kept` is what adding an edge keeps beside that; resetting says nothing of it. A node that
-///   has no such thing names the empty value.
+/// - The ghost members `key`, `edges` and `direct` are the key, the edges and the direct edges.
+/// - The ghost member `rest` is the other content of the node, which no method changes.
+/// - The ghost member `kept` is further content that adding an edge does not change, but `reset_edges` may. A node type
+///   without such content uses the unit value.
 pub trait TCNode<K: Eq + Drop> {
     ghost Rest: { Type 0 };
 
@@ -57,12 +57,20 @@ pub trait TCNode<K: Eq + Drop> {
 
     ghost kept: { Self → Kept };
 
-    /// A copy of the node's key. May take memory and be refused it.
+    /// Returns a copy of the node's key.
+    ///
+    /// # Errors
+    ///
+    /// Returns `AllocError` if an allocation fails.
     fn get_key(&self, alloc: Global) -> std::result::Result<K, AllocError>
         ensures { IfOk result (λ k. K.eq (key self.now) k ≡ true) };
 
-    /// Adds an edge to `k`; where the node has one the edges stay. Key, rest and what adding keeps
-    /// stay. May take memory; where it is refused, the edges and the direct edges stay too.
+    /// Adds an edge to `k`. If the node has the edge already, its edges do not change. The key, `rest` and `kept` do
+    /// not change.
+    ///
+    /// # Errors
+    ///
+    /// Returns `AllocError` if an allocation fails, and then leaves the edges and the direct edges unchanged.
     fn add_edge_to(&mut self, alloc: Global, k: K) -> std::result::Result<(), AllocError>
         ensures ok { OnOk result ((q : K) → edges self.new q ≡ (edges self.old q || K.eq k q)) }
         ensures err { OnErr result ((q : K) → edges self.new q ≡ edges self.old q) }
@@ -71,28 +79,36 @@ pub trait TCNode<K: Eq + Drop> {
         ensures rest { rest self.new ≡ rest self.old }
         ensures kept { kept self.new ≡ kept self.old };
 
-    /// The keys that the node has an edge to, in an order of its own; equal keys may come more
-    /// than once. May take memory and be refused it.
+    /// Lists the keys to which the node has an edge, in any order. Equal keys may occur more than once.
+    ///
+    /// # Errors
+    ///
+    /// Returns `AllocError` if an allocation fails.
     fn out_edges(&self, alloc: Global) -> std::result::Result<Vec<&K>, AllocError>
         ensures { IfOk result (λ v. (q : K) →
             is_member K.eq (map (λ x. x.now) v.items) q ≡ edges self.now q) };
 
-    /// Whether the node has an edge to `k`. Takes no memory.
+    /// Returns whether the node has an edge to `k`. Does not allocate.
     fn has_edge_to(&self, k: &K) -> bool
         ensures { result ≡ edges self.now k.now };
 
-    /// Whether the node may have an edge: `false` only where it has none. The default is `true`. A
-    /// closure neither numbers nor visits a node that has none. Takes no memory.
+    /// Returns whether the node may have an edge. `false` is allowed only if it has none. The default returns `true`. A
+    /// closure neither numbers nor visits a node without edges. Does not allocate.
     ///
-    /// The original has no such call.
+    /// # Differences from cedar-policy-core
+    ///
+    /// The original has no such method.
     fn may_have_edges(&self) -> bool
         ensures { result ≡ false → (q : K) → edges self.now q ≡ false }
     {
         true
     }
 
-    /// Takes every edge away but the direct ones. Key, rest and the direct edges stay. May take
-    /// memory; where it is refused, everything stays.
+    /// Removes all edges except the direct ones. The key, `rest` and the direct edges do not change.
+    ///
+    /// # Errors
+    ///
+    /// Returns `AllocError` if an allocation fails, and then leaves the node unchanged.
     fn reset_edges(&mut self, alloc: Global) -> std::result::Result<(), AllocError>
         ensures ok { OnOk result ((q : K) → edges self.new q ≡ direct self.old q) }
         ensures err { OnErr result ((q : K) → edges self.new q ≡ edges self.old q) }
@@ -101,9 +117,15 @@ pub trait TCNode<K: Eq + Drop> {
         ensures key { key self.new ≡ key self.old }
         ensures rest { rest self.new ≡ rest self.old };
 
-    /// Each direct edge's key, and of others only keys that the node has an edge to, in an order
-    /// of its own. The default lists all edges; a node type that keeps its direct edges apart
-    /// writes a body of its own, which lists exactly those. May take memory and be refused it.
+    /// Lists the keys of the direct edges, in any order. The list may also contain other keys to which the node has an
+    /// edge.
+    ///
+    /// The default lists all edges. A node type that stores its direct edges separately overrides the method to list
+    /// only them.
+    ///
+    /// # Errors
+    ///
+    /// Returns `AllocError` if an allocation fails.
     fn direct_edges(&self, alloc: Global) -> std::result::Result<Vec<&K>, AllocError>
         ensures has { IfOk result (λ v. (q : K) → direct self.now q ≡ true →
             is_member K.eq (map (λ x. x.now) v.items) q ≡ true) }
@@ -113,13 +135,20 @@ pub trait TCNode<K: Eq + Drop> {
         self.out_edges(alloc)
     }
 
-    /// Puts the keys that the node has an edge to in the place of what a list has: those that
-    /// [`TCNode::out_edges`] lists, in whatever order. The default makes that list; a node type that
-    /// has its keys at hand writes a body of its own, which takes memory only where the list has no
-    /// room for as many. May take memory and be refused it; then nothing is said of the list. A
-    /// closure lists edges so, in one list for all nodes.
+    /// Replaces the content of `list` by the keys to which the node has an edge. They are the keys of
+    /// [`TCNode::out_edges`], in any order.
     ///
-    /// The original has no such call.
+    /// A closure lists all edges by this method, with one list for all nodes. The default calls [`TCNode::out_edges`].
+    /// A node type that stores its keys can override the method, and then allocates only if the list has too little
+    /// capacity.
+    ///
+    /// # Errors
+    ///
+    /// Returns `AllocError` if an allocation fails. After an allocation failure the content of `list` is unspecified.
+    ///
+    /// # Differences from cedar-policy-core
+    ///
+    /// The original has no such method.
     fn list_edges<'a>(
         &'a self,
         alloc: Global,
@@ -132,12 +161,19 @@ pub trait TCNode<K: Eq + Drop> {
         Ok(())
     }
 
-    /// The order in which the nodes like to be given edges to these keys: the numbers below
-    /// `keys.len()`, which are the keys' places, each once. The default is 0, 1, 2, .., as the keys
-    /// come. It asks no node, and no edge depends on it. A closure asks it once, for copies of the
-    /// keys that edges lead to. Takes memory and may be refused it.
+    /// Returns the order in which the nodes prefer to receive edges to the keys. The result contains each number below
+    /// `keys.len()` once; a number is the position of a key.
     ///
-    /// The original has no such call.
+    /// The default is 0, 1, 2, .., the order of the keys. The edges do not depend on the order. A closure calls this
+    /// once, with copies of the keys to which edges lead.
+    ///
+    /// # Errors
+    ///
+    /// Returns `AllocError` if an allocation fails.
+    ///
+    /// # Differences from cedar-policy-core
+    ///
+    /// The original has no such method.
     fn order(alloc: Global, keys: &[K]) -> std::result::Result<Vec<usize>, AllocError>
         ensures { IfOk result (λ v.
             IsPermutation (range_with_len 0 (length keys.now)) v.items) }
@@ -145,13 +181,20 @@ pub trait TCNode<K: Eq + Drop> {
         (0..keys.len()).collect(alloc)
     }
 
-    /// Adds an edge to each of the keys, which may be equal to one another and to keys that the
-    /// node has an edge to. It may take the keys out of the vector; what it leaves there is not
-    /// said. The default takes all of them and adds one after another as they come. Key, rest and what
-    /// adding keeps stay, whatever the answer. May take memory; where it is refused, the former edges
-    /// stay, and each further edge leads to one of the keys.
+    /// Adds edges to all of the keys. The keys may contain duplicates, and keys to which the node has an edge already.
+    /// The method may remove keys from the vector; its later content is unspecified.
     ///
-    /// The original has no such call.
+    /// The default removes all keys and adds one edge after another, in order. The key, `rest` and `kept` do not
+    /// change.
+    ///
+    /// # Errors
+    ///
+    /// Returns `AllocError` if an allocation fails. After an allocation failure no edge is removed, and each added edge
+    /// leads to one of the keys.
+    ///
+    /// # Differences from cedar-policy-core
+    ///
+    /// The original has no such method.
     fn add_edges_to(
         &mut self,
         alloc: Global,
@@ -171,12 +214,19 @@ pub trait TCNode<K: Eq + Drop> {
         Ok(())
     }
 
-    /// As [`TCNode::add_edges_to`], of keys that the node has no edge to yet: so a node type may
-    /// write a body that does not look for those that it has. The keys may be equal to one another.
-    /// The default calls [`TCNode::add_edges_to`]. A closure calls it once for each node that lacks
-    /// edges.
+    /// Adds edges to all of the keys, as [`TCNode::add_edges_to`] does. The caller must ensure that the node has no
+    /// edge to any of them, so an implementation need not check that. The keys may contain duplicates.
     ///
-    /// The original has no such call.
+    /// The default calls [`TCNode::add_edges_to`]. A closure calls this once for each node that needs further edges.
+    ///
+    /// # Errors
+    ///
+    /// Returns `AllocError` if an allocation fails. After an allocation failure no edge is removed, and each added edge
+    /// leads to one of the keys.
+    ///
+    /// # Differences from cedar-policy-core
+    ///
+    /// The original has no such method.
     fn add_new_edges_to(
         &mut self,
         alloc: Global,
@@ -193,49 +243,60 @@ pub trait TCNode<K: Eq + Drop> {
         self.add_edges_to(alloc, keys)
     }
 
-    // a node has an edge to both of two equal keys, or to none
+    // A node has edges to both of two equal keys, or to neither.
     ghost respects_eq: { (n : Self) (x y : K) → K.eq x y ≡ true → edges n x ≡ edges n y };
 
     ghost direct_are_edges: { (n : Self) (q : K) → direct n q ≡ true → edges n q ≡ true };
 }
 
-/// How much a closure call did.
+/// The work that a closure function did.
 #[derive(Clone, Copy, Debug, PartialEq, Eq)]
 pub struct Work {
-    /// How often the edges of a node were listed, by [`TCNode::list_edges`]: so how often
-    /// [`TCNode::out_edges`] was called, of a node type that leaves that its default body.
+    /// The number of times that the edges of a node were listed by [`TCNode::list_edges`]. If a node type does not
+    /// override that method, this is the number of calls of [`TCNode::out_edges`].
     pub reads: usize,
-    /// How often a node of the map that was to be fixed was visited: in a closure, a node that may
-    /// have edges; in a repair, a node at a key to fix.
+    /// The number of visits of nodes. A closure visits the nodes that may have edges. A repair visits the nodes at the
+    /// keys to fix.
     pub closings: usize,
 }
 
-/// Closes a graph: adds to each node of the map an edge to each key that it reaches over one or
-/// more edges. Keys outside the map may be reached and have no edges themselves.
+/// Closes a graph: adds an edge from each node of the map to each key that it reaches over one or more edges. A key
+/// outside the map can be reached, and has no edges itself.
 ///
-/// Each map key must be its node's key, and a copy of a key must equal it.
+/// The caller must ensure that each map key is its node's key, and that a copy of a key equals it. The map's keys and
+/// each node's key, `rest` and `kept` do not change, even if an error is returned.
 ///
-/// With `enforce_dag` it is refused exactly where a node of the map lies on a cycle, by
-/// [`TcError::HasCycle`](crate::TcError::HasCycle), which names such a node; the graph is closed
-/// all the same. Without it nothing is refused but for memory. The map's keys and each node's key,
-/// rest and what adding keeps always stay. After `TcError::Memory` the former edges stay, and each
-/// further edge leads to a key that was reached.
+/// # Errors
 ///
-/// Takes memory for copies of keys, for numbers in the number of keys and edges, and for the lists
-/// of what each strong component of the graph reaches. Lists the edges of each node that may have
-/// some once, asks [`TCNode::may_have_edges`] of each node, twice where one may have some, and then costs what the keys
-/// with edges, the edges read and the edges added cost, and nothing for a pair of keys without an edge. Of
-/// a node's edges one that leads to what those listed behind it reach costs a look, and any other what
-/// its key reaches: so a node type does well to list its direct edges last.
-/// Asks [`TCNode::order`] once, and hands each node what it lacks in one call of
-/// [`TCNode::add_new_edges_to`]. With `enforce_dag` it asks nodes by [`TCNode::has_edge_to`] only where there is a
-/// cycle, until one has an edge to itself. It does not recurse, whatever the graph is, but where lists are sorted,
-/// as a node type's [`TCNode::order`] may do with all keys: in the logarithm of a list's length.
+/// - `HasCycle`: `enforce_dag` is `true` and a node of the map lies on a cycle. The error names such a node. The graph
+///   is closed all the same.
+/// - `Memory`: an allocation failed. No edge is removed, and each added edge leads to a reached key.
 ///
-/// The keys that have edges or to which edges lead are numbered in a set that hashes as the map does, by a copy of its
-/// builder of hashers: so whoever picks keys makes them collide here only where they collide in the map.
+/// # Complexity
 ///
-/// Unlike the original it takes the allocator and may answer `TcError::Memory`.
+/// Lists the edges of each node with edges once. The further work is proportional to the number of keys with edges, of
+/// edges read and of edges added. A pair of keys without an edge costs nothing.
+///
+/// - Calls [`TCNode::may_have_edges`] for each node, twice if a node may have edges.
+/// - Calls [`TCNode::order`] once.
+/// - Calls [`TCNode::add_new_edges_to`] once for each node that needs edges.
+/// - Calls [`TCNode::has_edge_to`] only if `enforce_dag` is `true` and there is a cycle, until a node has an edge to
+///   itself.
+///
+/// An edge is cheap if later edges of the same node reach its key. So a node type should list its direct edges last.
+///
+/// The function recurses only in sorting, to a depth logarithmic in the length of a list. [`TCNode::order`] may sort
+/// all keys.
+///
+/// Allocates copies of keys, numbers proportional to keys and edges, and the lists of the keys that each strongly
+/// connected component reaches.
+///
+/// The keys with edges and the keys to which edges lead are numbered in a set with a clone of the map's hasher builder.
+/// So keys collide there only if they collide in the map.
+///
+/// # Differences from cedar-policy-core
+///
+/// - The function takes an allocator, and `Memory` is a further error.
 pub fn compute_tc<K: Clone + Eq + Hash + Debug + Display, V: TCNode<K>, S: BuildHasher + Clone>(
     alloc: Global,
     nodes: &mut HashMap<K, V, S>,
@@ -251,9 +312,19 @@ pub fn compute_tc<K: Clone + Eq + Hash + Debug + Display, V: TCNode<K>, S: Build
     Ok(())
 }
 
-/// As [`compute_tc`], and counts: at most as many listings of edges as the map has nodes, and at
-/// most twice as many visits; of both at least as many as it has nodes with an edge. The counts
-/// stay at `usize::MAX` once there.
+/// Closes a graph as [`compute_tc`] does, and counts its work.
+///
+/// - Reads: at most the number of nodes of the map.
+/// - Visits: at most twice the number of nodes.
+/// - Both are at least the number of nodes with an edge.
+///
+/// A count stays at `usize::MAX` once it is there.
+///
+/// # Errors
+///
+/// The errors of [`compute_tc`].
+///
+/// # Differences from cedar-policy-core
 ///
 /// The original counts nothing.
 #[tactic(auto, using(crate::specs::laws::Nodes::keys_match_kept))]
@@ -282,25 +353,32 @@ pub fn compute_tc_counted<
     Ok(closed.work)
 }
 
-/// Closes part of a graph: adds to the nodes at the keys `nodes_to_fix` an edge to each key that
-/// they reach. The other nodes are trusted to have an edge to all that they reach, and left alone;
-/// keys of `nodes_to_fix` that the map lacks do nothing.
+/// Closes part of a graph: adds an edge from each node at a key of `nodes_to_fix` to each key that it reaches. The
+/// other nodes do not change, and are expected to have an edge to every key that they reach. Keys of `nodes_to_fix`
+/// that are not in the map have no effect.
 ///
-/// Each map key must be its node's key, and a copy of a key must equal it.
+/// The caller must ensure that each map key is its node's key, and that a copy of a key equals it.
 ///
-/// Where the trust is right: with `enforce_dag` it is Ok exactly where no key of `nodes_to_fix`
-/// lies on a cycle, and then each node's edges are exactly the keys it reaches; without it they
-/// are so where no key of `nodes_to_fix` lies on a cycle. Whatever the graph is, only edges to
-/// reached keys are added, and memory aside it is refused only with `enforce_dag`, by
-/// [`TcError::HasCycle`](crate::TcError::HasCycle), which names a key of `nodes_to_fix` that lies
-/// on a cycle. The map's keys, each node's key, rest and what adding keeps, the former edges and
-/// the nodes that are not to be fixed always stay.
+/// Suppose that the other nodes have an edge to every key that they reach. If no key of `nodes_to_fix` lies on a cycle,
+/// the result is `Ok`, and the edges of each node lead exactly to the keys that it reaches. If one lies on a cycle and
+/// `enforce_dag` is `true`, the result is `HasCycle`.
 ///
-/// Takes memory and hashes as [`compute_tc`] does, for the keys to fix and those that they have an edge to.
-/// Lists the edges of the nodes at these keys once, and looks at no other node. It recurses as
-/// [`compute_tc`] does, in sorting alone.
+/// In every graph, only edges to reached keys are added. The map's keys, each node's key, `rest` and `kept`, the
+/// existing edges, and the nodes outside `nodes_to_fix` do not change.
 ///
-/// Unlike the original it takes the allocator and may answer `TcError::Memory`.
+/// # Errors
+///
+/// - `HasCycle`: `enforce_dag` is `true` and a key of `nodes_to_fix` lies on a cycle. The error names such a key.
+/// - `Memory`: an allocation failed. No edge is removed, and each added edge leads to a reached key.
+///
+/// # Complexity
+///
+/// As in [`compute_tc`], for the keys to fix and the keys to which they have an edge. Lists the edges of the nodes at
+/// these keys once, and reads no other node. Recurses only in sorting.
+///
+/// # Differences from cedar-policy-core
+///
+/// - The function takes an allocator, and `Memory` is a further error.
 pub fn repair_tc<
     K: Clone + Eq + Hash + Debug + Display,
     V: TCNode<K>,
@@ -323,8 +401,19 @@ pub fn repair_tc<
     Ok(())
 }
 
-/// As [`repair_tc`], and counts: at most twice as many visits as `nodes_to_fix` has keys, and at
-/// least as many as it has where the map has all of them. The counts stay at `usize::MAX` once there.
+/// Closes part of a graph as [`repair_tc`] does, and counts its work.
+///
+/// - Reads: at most the number of keys in `nodes_to_fix` and of keys to which one of their nodes has an edge.
+/// - Visits: at most twice the number of keys in `nodes_to_fix`. If the map has a node at each of them, at least that
+///   number.
+///
+/// A count stays at `usize::MAX` once it is there.
+///
+/// # Errors
+///
+/// The errors of [`repair_tc`].
+///
+/// # Differences from cedar-policy-core
 ///
 /// The original counts nothing.
 #[tactic(auto, using(crate::specs::laws::Nodes::keys_match_kept))]
@@ -345,6 +434,8 @@ pub fn repair_tc_counted<
     ensures keeps { KeepsAll K.eq V.key V.rest V.kept nodes.old nodes.new }
     ensures repairs { Repairs K.eq V.edges enforce_dag (contains K.eq nodes_to_fix.now)
         nodes.old nodes.new result }
+    ensures reads { IfOk result (λ w. IsAtMostNear K.eq (contains K.eq nodes_to_fix.now)
+        (graph_of K.eq V.edges nodes.old) w.reads) }
     ensures closings { IfOk result (λ w. w.closings ≤ 2 * hash_set_len nodes_to_fix.now) }
     ensures visits { IfOk result (λ w. HasAll K.eq nodes_to_fix.now nodes.old
         → hash_set_len nodes_to_fix.now ≤ w.closings) }
@@ -356,19 +447,24 @@ pub fn repair_tc_counted<
     Ok(work)
 }
 
-/// Checks a graph: Ok exactly where it is closed and no node has an edge to itself.
+/// Checks that a graph is closed and that no node has an edge to itself.
 ///
-/// Each map key must be its node's key, and a copy of a key must equal it.
+/// The caller must ensure that each map key is its node's key, and that a copy of a key equals it.
 ///
-/// Refused by [`TcError::MissingTcEdge`](crate::TcError::MissingTcEdge), which names three keys
-/// that show that the graph is not closed; by [`TcError::HasCycle`](crate::TcError::HasCycle) only
-/// where the graph is closed, and it names a key with an edge to itself; and by `TcError::Memory`.
+/// # Errors
 ///
-/// Takes memory, hashes and lists edges as [`compute_tc`] does, and then costs what the keys with edges, the edges and
-/// what each key reaches cost: of a closed graph the edges once more. At the end it asks each node by
-/// [`TCNode::has_edge_to`] once.
+/// - `MissingTcEdge`: the graph is not closed. The error names three keys that show it.
+/// - `HasCycle`: the graph is closed, and the error names a key with an edge to itself.
+/// - `Memory`: an allocation failed.
 ///
-/// Unlike the original it takes the allocator and may answer `TcError::Memory`.
+/// # Complexity
+///
+/// Lists edges as [`compute_tc`] does. The further work is proportional to the number of keys with edges, of edges, and
+/// of reached keys. At the end it calls [`TCNode::has_edge_to`] once for each node. Allocates as [`compute_tc`] does.
+///
+/// # Differences from cedar-policy-core
+///
+/// - The function takes an allocator, and `Memory` is a further error.
 pub fn enforce_tc_and_dag<
     K: Clone + Eq + Hash + Debug + Display,
     V: TCNode<K>,

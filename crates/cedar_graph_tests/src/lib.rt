@@ -1,4 +1,4 @@
-//! The tests of `cedar_graph`: how much its counted calls do.
+//! The tests of `cedar_graph`: the work of its counted functions.
 #![tactic(auto)]
 
 #[cfg(test)]

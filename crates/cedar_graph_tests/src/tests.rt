@@ -1,19 +1,20 @@
-// Tests of the closure calls over nodes with number keys.
+// Tests of the closure functions over nodes with numbers as keys.
 mod counted;
+mod keys;
 mod nodes;
 mod told;
 
 use cedar_keyed_hash::KeyedState;
 use std::hash::{BuildHasherDefault, FoldHasher};
 
-// The builder of hashers of a map that is given none.
+// The default hasher builder of a map.
 type Fixed = BuildHasherDefault<FoldHasher>;
 
 fn fixed() -> Fixed {
     BuildHasherDefault::new()
 }
 
-// A builder of hashers with a key.
+// Returns a hasher builder with a key.
 fn keyed() -> KeyedState {
     KeyedState::with_keys(1, 2)
 }

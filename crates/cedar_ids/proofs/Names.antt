@@ -1,4 +1,4 @@
--- The steps of reading a name, component by component.
+-- The steps of parsing a name, component by component.
 use Rattle.std.proofs.Common.{◌≡◌, ℕ, List, [], ◌∷◌, ◌++◌, true, false, refl, sym, ap, ◌∙◌, Option, Some, None, Err}
 use Rattle.cedar_ids.specs.declared.err.ParseErrors.{ParseErrors}
 use Rattle.cedar_ids.specs.declared.err.ParseErrors.TheVariants.{NotNormalized, InvalidName, Memory}
@@ -10,15 +10,15 @@ use Rattle.cedar_ids.specs.Reading.{is_id}
 use Rattle.cedar_ids.specs.laws.NameReading.{components, name_of_components}
 use Rattle.cedar_ids.specs.laws.NameTextLaws.{some_piece, names_more, names_last}
 
--- a component that was read
+-- A component that was parsed is an id with that text.
 pub id_some : (t x : List ℕ) → IsTextOfOne IsIdText x t → (is_id t ≡ true) × (t ≡ x)
 id_some t x h = (ap is_id h.0.1 ∙ h.0.0, h.0.1)
 
--- a component that is no id
+-- A component that was not parsed is not an id.
 pub id_none : (t : List ℕ) → IsTextOfNone IsIdText t → is_id t ≡ false
 id_none t h = false_from_ne_true (is_id t) (λ e. h t (e, refl))
 
--- one component more
+-- The step for a component that is an id and not the last one.
 pub one_more : (path : List (List ℕ)) (front back rest x : List ℕ) (all : Option NameParts)
     → components rest ≡ front ∷ components back → IsTextOfOne IsIdText x front
     → name_of_components path (components rest) ≡ all → name_of_components (path ++ x ∷ []) (components back) ≡ all
@@ -31,7 +31,7 @@ one_more path front back rest x all e f g =
     ap (name_of_components (path ++ x ∷ [])) p.2 ∙ sym (ap (λ y. name_of_components (path ++ y ∷ []) (p.0 ∷ p.1)) q.1)
     ∙ sym k ∙ j
 
--- a component that is no id
+-- A component that is not an id makes the text invalid.
 pub not_more : (path : List (List ℕ)) (front back rest : List ℕ) (all : Option NameParts)
     → components rest ≡ front ∷ components back → IsTextOfNone IsIdText front
     → name_of_components path (components rest) ≡ all → all ≡ None
@@ -42,7 +42,7 @@ not_more path front back rest all e f g =
     let j : name_of_components path (front ∷ p.0 ∷ p.1) ≡ all = rw (← i) g in
     sym j ∙ k
 
--- the last component
+-- The step for the last component.
 pub at_last : (path : List (List ℕ)) (rest x : List ℕ) (all : Option NameParts) → components rest ≡ rest ∷ []
     → IsTextOfOne IsIdText x rest → name_of_components path (components rest) ≡ all
     → all ≡ Some (record { path = path; basename = x })
@@ -59,7 +59,7 @@ not_last path rest all e f g =
     let j : name_of_components path (rest ∷ []) ≡ all = rw (← e) g in
     sym j ∙ k
 
--- an error of a part is the error of the whole
+-- The error of a component is the error of the whole text.
 pub same_error : {X Y : Type 0} (P : X → List ℕ → Type 0) (Q : Y → List ℕ → Type 0) (e : ParseErrors) (s t : List ℕ)
     → (IsTextOfNone P s → IsTextOfNone Q t) → Reads P (Err e) s → Reads Q (Err e) t
 same_error P Q NotNormalized s t f h = absurd h

@@ -1,4 +1,4 @@
--- The answers of reading a uid.
+-- The results of parsing a uid.
 use Rattle.std.proofs.Common.{◌≡◌, ℕ, List, Bool, true, false, cond, refl, sym, ap, subst, ◌∙◌, Option, Some, None}
 use Rattle.std.proofs.Common.{Result, Ok, Err, IfOk, IsTrue}
 use Rattle.std.specs.Option.{option_map}
@@ -22,7 +22,7 @@ use Rattle.cedar_ids.specs.laws.NameTextLaws.{name_of_text}
 use Rattle.cedar_ids.specs.laws.PrintedLaws.{uid_reading-printed, halves-printed}
 use Rattle.cedar_ids.specs.laws.UidTexts.{uid_found, no_marks, halves_sound, starts_named, named_half}
 
--- what the contract says of an answer
+-- The contract of parsing a uid, as one proposition about the result.
 abbrev pub Answered : Result EntityUID ParseErrors → List ℕ → Type 0
 Answered r t =
     IfOk r (λ u. IsTrue (is_ascii (uid_parts u).eid) → IsPrinted (uid_parts u) t)
@@ -47,7 +47,7 @@ at_no_halves t e = (
   λ m. absurd (no_marks t (sym e) m),
 )
 
--- the name of a uid stands before the first mark of its text
+-- The text before the first mark of a uid's printed text is its name.
 starts_printed : (t : List ℕ) (u : UidParts) → IsPrinted u t → StartsWithName u.name t
 starts_printed t u h =
     starts_named t (printed_name u.name) (escaped u.eid) u.name (ap uid_halves h.2 ∙ halves-printed u h.0) (h.0, refl)

@@ -1,10 +1,10 @@
--- How the characters of an eid are written.
+-- The table of escapes: how the characters of an eid are printed.
 use Rattle.std.specs.Prelude.{ℕ, List, [], ◌∷◌, ◌++◌, Bool, Option, Some, None, false, if◌then◌else◌, ◌==◌, nat_lt}
 use Rattle.std.specs.Prelude.{◌||◌, ◌&&◌, not, nat_le, codes}
 use Rattle.std.specs.List.{flat_map, list_all}
 use Rattle.std.specs.Fmt.{digits}
 
--- the text of an ASCII character
+-- The escape of an ASCII character. For example, a line feed is written `\n` and the byte 1 is written `\u{1}`.
 abbrev pub escape : ℕ → List ℕ
 escape c =
     if c == 0 then codes "\\0"
@@ -17,26 +17,26 @@ escape c =
     else (if nat_lt c 32 || (c == 127) then codes "\\u{" ++ (digits 16 false c ++ codes "}")
     else c ∷ [])))))))
 
--- the text of an ASCII text
+-- The escaped form of an ASCII text: the escapes of its characters, one after another.
 abbrev pub escaped : List ℕ → List ℕ
 escaped text = flat_map escape text
 
--- an ASCII character
+-- Whether a character is ASCII.
 abbrev pub is_ascii_byte : ℕ → Bool
 is_ascii_byte c = nat_lt c 128
 
--- each character is ASCII
+-- Whether every character of a text is ASCII.
 abbrev pub is_ascii : List ℕ → Bool
 is_ascii text = list_all is_ascii_byte text
 
--- an ASCII character that is its own escape: neither a control character, nor a quote, nor a backslash
+-- Whether an ASCII character is its own escape: not a control character, not a quote and not a backslash.
 abbrev pub is_own_escape_byte : ℕ → Bool
 is_own_escape_byte c = nat_le 32 c && nat_lt c 127 && not (c == 39) && not (c == 34) && not (c == 92)
 
--- each character is ASCII and its own escape
+-- Whether every character of a text is an ASCII character that is its own escape.
 abbrev pub is_own_escape : List ℕ → Bool
 is_own_escape text = list_all is_own_escape_byte text
 
--- what is known of the text of any text
+-- The specified output of printing a text: its escaped form if it is ASCII, else unspecified.
 abbrev pub escaped_output : List ℕ → Option (List ℕ)
 escaped_output text = if is_ascii text then Some (escaped text) else None

@@ -1,22 +1,22 @@
-//! What an escaped eid stands for: reading the table of escapes backwards.
+//! Decodes the escape sequences of an eid's text.
 ghost use Rattle.std.specs.Prelude.{◌≡◌, ◌++◌, ◌<◌, IfOk, OnOk};
 ghost use Rattle.cedar_ids.specs.laws.Decode.{hex_value, more_digits, next_scan, short_value, code_bytes, emits};
 ghost use Rattle.cedar_ids.specs.laws.Decode.{decode};
 
 use std::alloc::{AllocError, Global};
 
-// Where in an escape the next byte stands.
+// The state of the decoder before the next byte.
 #[derive(Clone, Copy)]
 enum Scan {
-    // outside an escape
+    // Outside an escape.
     Plain,
-    // after a backslash
+    // After a backslash.
     Slash,
-    // among the digits of a code, with their value so far
+    // Between `\u` and `}`, with the value of the digits read so far.
     Digits(u32),
 }
 
-// The value of a digit in lower case.
+// Returns the value of a lower-case hexadecimal digit, or 0 for any other byte.
 fn hex_value(b: u8) -> u32
     ensures value { result ≡ hex_value b }
     ensures small { result < 16 }
@@ -28,7 +28,8 @@ fn hex_value(b: u8) -> u32
     }
 }
 
-// The value with one byte more, which stays where it is far past every code.
+// Returns the value of the digits after one more byte. A value of 0x1000000 or more does not change: it is far above
+// every code point.
 fn more_digits(n: u32, b: u8) -> u32
     ensures { result ≡ more_digits n b }
 {
@@ -42,7 +43,7 @@ fn more_digits(n: u32, b: u8) -> u32
     }
 }
 
-// Where the byte after this one stands.
+// Returns the state after this byte.
 fn next_scan(scan: Scan, b: u8) -> Scan
     ensures { result ≡ next_scan scan b }
 {
@@ -61,7 +62,7 @@ fn next_scan(scan: Scan, b: u8) -> Scan
     }
 }
 
-// What a letter after a backslash stands for.
+// Returns the byte that a one-letter escape denotes, given the letter after the backslash.
 fn short_value(b: u8) -> u8
     ensures { result ≡ short_value b }
 {
@@ -74,7 +75,7 @@ fn short_value(b: u8) -> u8
     }
 }
 
-// Puts the character with this code at the end, if there is one.
+// Appends the UTF-8 bytes of this code point. Appends nothing if no character has the code point.
 fn push_code(out: &mut Vec<u8>, n: u32) -> Result<(), AllocError>
     ensures { OnOk result (out.new.items ≡ out.old.items ++ code_bytes n) }
 {
@@ -90,7 +91,7 @@ fn push_code(out: &mut Vec<u8>, n: u32) -> Result<(), AllocError>
     Ok(())
 }
 
-// Puts what this byte completes at the end.
+// Appends the bytes that are complete once `b` is read.
 fn emit(out: &mut Vec<u8>, scan: Scan, b: u8) -> Result<(), AllocError>
     ensures { OnOk result (out.new.items ≡ out.old.items ++ emits scan b) }
 {
@@ -114,7 +115,7 @@ fn emit(out: &mut Vec<u8>, scan: Scan, b: u8) -> Result<(), AllocError>
     Ok(())
 }
 
-// The text that an escaped text stands for. What is no escape is read somehow.
+// Decodes an escaped text. The result for a text with an invalid escape is unspecified.
 pub(crate) fn decoded(alloc: Global, text: &[u8]) -> Result<Vec<u8>, AllocError>
     ensures { IfOk result (λ v. v.items ≡ decode text.now) }
 {

@@ -1,4 +1,4 @@
-//! Entity types, eids and uids: making, taking apart, reading, comparing and printing them.
+//! Entity types, eids and uids: construction, parsing, comparison and printing.
 ghost use Rattle.std.specs.Prelude.{◌≡◌, ◌↔◌, Some, IsTrue, IfOk, codes};
 ghost use Rattle.std.specs.Option.{option_copied};
 ghost use Rattle.std.specs.Ordering.{as_partial_cmp};
@@ -28,13 +28,17 @@ use std::fmt;
 use std::hash::{Hash, Hasher};
 use std::marker::Model;
 
-/// The last component of the types of actions. A constant here, a static in the original.
+/// The last component of every action type's name.
+///
+/// # Differences from cedar-policy-core
+///
+/// This is a constant; the original has a static.
 pub const ACTION_ENTITY_TYPE: &str = "Action";
 
 /// The type of an entity: a name.
 ///
-/// Equality, order and hash are the name's, and so look at no location. `clone` copies no letter.
-/// `Display` writes the name.
+/// Equality, order and hash use only the name, so they ignore locations. `clone` shares the text of the name and copies
+/// no characters. `Display` writes the name.
 #[derive(Clone, Debug, Drop, PartialEq, Eq, PartialOrd, Ord, Hash)]
 pub enum EntityType {
     /// The type with this name.
@@ -42,25 +46,25 @@ pub enum EntityType {
 }
 
 impl EntityType {
-    /// Says whether the last component of the name is `Action`, whatever its path. Takes no memory.
+    /// Returns whether the last component of the name is `Action`, in any namespace. Does not allocate.
     pub fn is_action(&self) -> bool
         ensures { result ≡ is_action_name (type_name self.now) }
     {
         self.name().basename().as_ref() == ACTION_ENTITY_TYPE
     }
 
-    /// The name. Takes no memory.
+    /// Returns the name. Does not allocate.
     pub fn name(&self) -> &Name
         ensures value { result.now ≡ type_name self.now }
         ensures valid { IsName result.now }
     {
         let EntityType::EntityType(name) = self;
-        // No effect at run time: this call says that the components are ids.
+        // No effect at run time: the contract of this call states that the components are ids.
         let _ = name.basename();
         name
     }
 
-    /// The name. Takes no memory.
+    /// Returns the name. Does not allocate.
     pub fn into_name(self) -> Name
         ensures { result ≡ type_name self }
     {
@@ -68,14 +72,17 @@ impl EntityType {
         name
     }
 
-    /// The location of the name, if it has one. Takes no memory.
+    /// Returns the location of the name, if it has one. Does not allocate.
     pub fn loc(&self) -> Option<&Loc> {
         let EntityType::EntityType(name) = self;
         name.loc()
     }
 
-    /// The type with a copy of this location, or with none. It copies no letter, and is refused only
-    /// where a shared part can't be shared once more.
+    /// Returns the type with a copy of the given location, or without a location for `None`. Copies no characters.
+    ///
+    /// # Errors
+    ///
+    /// Returns `AllocError` if a shared part cannot be shared once more.
     pub fn with_loc(&self, loc: Option<&Loc>) -> Result<EntityType, AllocError>
         ensures { IfOk result (λ t. type_name t ≡ type_name self.now) }
     {
@@ -87,7 +94,15 @@ impl EntityType {
         Ok(EntityType::EntityType(name))
     }
 
-    /// The type whose name is `Name::qualify_with_name` of this type's name. Takes memory as that does.
+    /// Returns the type whose name is [`Name::qualify_with_name`] of this type's name.
+    ///
+    /// # Errors
+    ///
+    /// Returns `AllocError` if an allocation fails.
+    ///
+    /// # Complexity
+    ///
+    /// As [`Name::qualify_with_name`].
     pub fn qualify_with(
         &self,
         alloc: Global,
@@ -100,10 +115,16 @@ impl EntityType {
         Ok(EntityType::EntityType(name))
     }
 
-    /// Reads a printed name as a type. Its location is the whole text.
+    /// Reads a printed name as an entity type. The location of the type is the whole text.
     ///
-    /// `InvalidName` comes exactly where the text is no name; `Memory` where a growth was refused. Takes
-    /// memory linear in the text, and time linear in it.
+    /// # Errors
+    ///
+    /// - `InvalidName`: the text is not a name.
+    /// - `Memory`: an allocation failed.
+    ///
+    /// # Complexity
+    ///
+    /// O(n), where n is the length of the text. Allocates O(n) bytes.
     pub fn from_normalized_str(alloc: Global, text: &str) -> Result<EntityType, ParseErrors>
         ensures { Reads IsTypeText result text.now }
     {
@@ -138,7 +159,7 @@ impl AsRef<Name> for EntityType {
 
 /// The id of an entity within its type: any text.
 ///
-/// Equality, order (by bytes) and hash are those of the text. `clone` takes memory for a copy of the text.
+/// Equality, order and hash use the text. The order compares bytes. `clone` allocates a copy of the text.
 #[derive(Clone, Debug, Drop, PartialEq, Eq, PartialOrd, Ord, Hash)]
 pub enum Eid {
     /// The eid with this text.
@@ -146,15 +167,19 @@ pub enum Eid {
 }
 
 impl Eid {
-    /// The eid with this text. Takes no memory.
+    /// Creates an eid with this text. Does not allocate.
     pub fn new(text: String) -> Eid
         ensures { result ≡ Eid.Eid text }
     {
         Eid::Eid(text)
     }
 
-    /// The text as it stands between the quotes of a printed uid: by the table of escapes where it is
-    /// ASCII, else as `str::escape_debug` writes it. Takes memory for the new text.
+    /// Returns the escaped text, as it is printed between the quotes of a uid. An ASCII text is escaped by the table of
+    /// escapes. Any other text is written as by `str::escape_debug`.
+    ///
+    /// # Errors
+    ///
+    /// Returns `AllocError` if an allocation fails.
     pub fn escaped(&self, alloc: Global) -> Result<String, AllocError>
         ensures { IsTrue (is_ascii (eid_bytes self.now)) →
             IfOk result (λ s. string_bytes s ≡ escaped (eid_bytes self.now)) }
@@ -162,7 +187,11 @@ impl Eid {
         Escaped(self.as_ref()).to_string(alloc)
     }
 
-    /// The text. Takes no memory. The original gives its small string here.
+    /// Returns the text. Does not allocate.
+    ///
+    /// # Differences from cedar-policy-core
+    ///
+    /// The original returns a `SmolStr`.
     pub fn into_smolstr(self) -> String
         ensures { self ≡ Eid.Eid result }
     {
@@ -170,7 +199,7 @@ impl Eid {
         text
     }
 
-    /// The text. Takes no memory.
+    /// Returns the text. Does not allocate.
     pub fn as_ref(&self) -> &str
         ensures { result.now ≡ eid_bytes self.now }
     {
@@ -179,10 +208,10 @@ impl Eid {
     }
 }
 
-/// What a uid holds: the type of the entity, its eid, and a location if it has one.
+/// The content of a uid: the type of the entity, its eid and an optional location.
 ///
-/// Contracts see the components of the type's name and the bytes of the eid. Equality, order and hash are
-/// those of the type and then the eid.
+/// Equality, order and hash use the type and then the eid. Contracts see the components of the type's name and the
+/// bytes of the eid.
 #[derive(Debug, Drop)]
 pub struct EntityUIDImpl {
     ty: EntityType,
@@ -200,7 +229,11 @@ impl Model for EntityUIDImpl {
 }
 
 impl EntityUIDImpl {
-    /// The location, if there is one. Takes no memory: the original gives a copy.
+    /// Returns the location, if there is one. Does not allocate.
+    ///
+    /// # Differences from cedar-policy-core
+    ///
+    /// The original returns a copy.
     pub fn loc(&self) -> Option<&Loc> {
         self.loc.as_ref()
     }
@@ -271,12 +304,12 @@ impl Hash for EntityUIDImpl {
 
 /// The uid of an entity: its type and its eid.
 ///
-/// Equality, order and hash are those of the type and then the eid, and so look at no location. `clone`
-/// takes memory for the eid's text alone. `Display` writes the type, `::"`, the escaped eid and `"`: exactly
-/// so where the eid is ASCII, else with the eid as `str::escape_debug` writes it.
+/// Equality, order and hash use the type and then the eid, and ignore locations. `clone` allocates only a copy of the
+/// eid's text. `Display` writes the type, `::"`, the escaped eid and `"`. If the eid is not ASCII, it is written as by
+/// `str::escape_debug`.
 #[derive(Clone, Debug, Drop)]
 pub enum EntityUID {
-    /// The uid that holds this.
+    /// The uid with this content.
     EntityUID(EntityUIDImpl),
 }
 
@@ -334,12 +367,21 @@ impl Hash for EntityUID {
 }
 
 impl EntityUID {
-    /// The uid of a type of one identifier, which is read from `typename`, and of an eid, which is the
-    /// second text as it stands. It has no location, and its type has none.
+    /// Creates a uid from a type name of one identifier and an eid. The eid is taken as it is, without unescaping.
+    /// Neither the uid nor its type has a location.
     ///
-    /// `InvalidName` comes exactly where `typename` is no identifier or a reserved word; `Memory` where a
-    /// growth was refused. Takes memory linear in both texts. The original reads `typename` by its parser,
-    /// which allows blanks around the identifier.
+    /// # Errors
+    ///
+    /// - `InvalidName`: `typename` is not an identifier, or it is a reserved word.
+    /// - `Memory`: an allocation failed.
+    ///
+    /// # Complexity
+    ///
+    /// O(n), where n is the length of both texts. Allocates O(n) bytes.
+    ///
+    /// # Differences from cedar-policy-core
+    ///
+    /// The original parses `typename` with its parser, which allows blanks around the identifier.
     pub fn with_eid_and_type(
         alloc: Global,
         typename: &str,
@@ -353,7 +395,7 @@ impl EntityUID {
         Ok(EntityUID::from_components(ty, Eid::Eid(eid), None))
     }
 
-    /// The type and the eid; the location is dropped. Takes no memory.
+    /// Returns the type and the eid, and drops the location. Does not allocate.
     pub fn components(self) -> (EntityType, Eid)
         ensures name { type_name result.0 ≡ (uid_parts self).name }
         ensures eid { eid_bytes result.1 ≡ (uid_parts self).eid }
@@ -362,31 +404,31 @@ impl EntityUID {
         (ty, eid)
     }
 
-    /// The location, if there is one. Takes no memory.
+    /// Returns the location, if there is one. Does not allocate.
     pub fn loc(&self) -> Option<&Loc> {
         let EntityUID::EntityUID(uid) = self;
         uid.loc()
     }
 
-    /// The uid with this type, this eid and this location. Takes no memory.
+    /// Creates a uid from a type, an eid and an optional location. Does not allocate.
     pub fn from_components(ty: EntityType, eid: Eid, loc: Option<Loc>) -> EntityUID
         ensures { uid_parts result ≡ record { name = type_name ty; eid = eid_bytes eid } }
     {
         EntityUID::EntityUID(EntityUIDImpl { ty, eid, loc })
     }
 
-    /// The type. Takes no memory.
+    /// Returns the type. Does not allocate.
     pub fn entity_type(&self) -> &EntityType
         ensures value { type_name result.now ≡ (uid_parts self.now).name }
         ensures valid { IsName (uid_parts self.now).name }
     {
         let EntityUID::EntityUID(uid) = self;
-        // No effect at run time: this call says that the components are ids.
+        // No effect at run time: the contract of this call states that the components are ids.
         let _ = uid.ty.name();
         &uid.ty
     }
 
-    /// The eid. Takes no memory.
+    /// Returns the eid. Does not allocate.
     pub fn eid(&self) -> &Eid
         ensures { eid_bytes result.now ≡ (uid_parts self.now).eid }
     {
@@ -394,8 +436,8 @@ impl EntityUID {
         &uid.eid
     }
 
-    /// Says whether the type is one of actions: whether the last component of its name is `Action`. Takes
-    /// no memory.
+    /// Returns whether the uid has an action type: whether the last component of the type's name is `Action`. Does not
+    /// allocate.
     pub fn is_action(&self) -> bool
         ensures { result ≡ is_action_uid (uid_parts self.now) }
     {

@@ -1,22 +1,26 @@
-//! Why a text is no id, name or uid.
+//! The errors of parsing ids, names and uids.
 ghost use Rattle.std.specs.Prelude.{◌≡◌};
 ghost use Rattle.cedar_ids.specs.declared.err.ParseErrors.TheVariants.{Memory};
 
 use std::alloc::{AllocError, AllocFailed};
 use thiserror::Error;
 
-/// Why a text was not read. The original holds the errors of its parser here.
+/// The reason why a text could not be parsed.
+///
+/// # Differences from cedar-policy-core
+///
+/// The original stores the errors of its parser here.
 #[derive(Debug, Drop, Error)]
 pub enum ParseErrors {
-    /// The text of a uid lacks its last `"` or a `::"` before that, or what stands between these is no
-    /// escaped text. Only `EntityUID::from_normalized_str` answers it.
+    /// The text of a uid does not end in `"`, has no `::"` before that, or has an invalid escaped text between the two.
+    /// Only [`EntityUID::from_normalized_str`](crate::EntityUID::from_normalized_str) returns this error.
     #[error("not a normalized entity uid")]
     NotNormalized,
-    /// The text is no identifier, or no name, as the call asked for; of a uid, what stands before the first
-    /// `::"` is no name.
+    /// The text is not an identifier or not a name, whichever the function reads. For a uid, the text before the first
+    /// `::"` is not a name.
     #[error("not a valid name")]
     InvalidName,
-    /// A growth of memory was refused. It says nothing of the text.
+    /// An allocation failed. The text may be valid or invalid.
     #[error("out of memory")]
     Memory,
 }

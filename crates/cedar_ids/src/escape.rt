@@ -1,4 +1,4 @@
-//! How an eid or a policy id is written: the table of escapes.
+//! The escaping of eids and policy ids.
 ghost use Rattle.std.specs.Prelude.{◌≡◌, ◌<◌};
 ghost use Rattle.std.specs.Str.{IsAscii};
 ghost use Rattle.std.specs.Fmt.{WritesOnOk};
@@ -6,11 +6,11 @@ ghost use Rattle.cedar_ids.specs.Escape.{escape, escaped, escaped_output, is_own
 
 use std::fmt;
 
-/// A text as it is written between the quotes of a printed uid.
+/// A text in its escaped form, as it is printed between the quotes of a uid.
 ///
-/// `Display` writes each ASCII character by the table of escapes, exactly; a text with a character past
-/// ASCII is written as `str::escape_debug` writes it, and nothing is proved of that. It takes no memory and
-/// reads the text at most three times.
+/// `Display` writes each character of an ASCII text by the table of escapes. It writes any other text as by
+/// `str::escape_debug`. It reads the text at most three times and does not allocate. The output is proved only for an
+/// ASCII text.
 #[derive(Debug, Drop)]
 pub struct Escaped<'a>(pub &'a str);
 
@@ -29,17 +29,23 @@ impl fmt::Display for Escaped<'_> {
     }
 }
 
-/// Says whether a text is printable ASCII without quotes and backslashes: such a text is its own escape, so it is
-/// written as it is.
+/// Returns whether a text is printable ASCII without quotes and backslashes. Such a text is its own escape, so it is
+/// written unchanged.
 ///
-/// Takes no memory. Its cost is linear in the text. It is this project's own.
+/// # Complexity
+///
+/// O(n), where n is the length of the text. Does not allocate.
+///
+/// # Differences from cedar-policy-core
+///
+/// The original has no such function.
 pub fn is_own_escape(text: &[u8]) -> bool
     ensures { result ≡ is_own_escape text.now }
 {
     text.iter().all(|b| is_own_escape_byte(*b))
 }
 
-// Says whether a byte is an ASCII character that is its own escape.
+// Returns whether a byte is an ASCII character that is its own escape.
 fn is_own_escape_byte(b: u8) -> bool
     ensures { result ≡ is_own_escape_byte b }
 {

@@ -1,4 +1,4 @@
-//! Identifiers: those that are no reserved word, and any.
+//! Identifiers, with and without the reserved words.
 ghost use Rattle.std.specs.Prelude.{◌≡◌, Some, List, ℕ, IsTrue};
 ghost use Rattle.std.specs.Rc.{rc_str_bytes};
 ghost use Rattle.std.specs.Ordering.{as_partial_cmp};
@@ -22,11 +22,11 @@ use std::hash::{Hash, Hasher};
 use std::marker::Model;
 use std::rc::RcStr;
 
-/// An identifier that is not a reserved word, as a component of a name is: an ASCII letter or `_`, and
-/// then ASCII letters, digits and `_`.
+/// An identifier that is not a reserved word: an ASCII letter or `_`, followed by ASCII letters, digits and `_`. The
+/// components of a name are such identifiers.
 ///
-/// Contracts see its text. Equality, order (by bytes) and hash are those of the text. `clone` shares the
-/// text and copies no letter. `Display` writes the text.
+/// Equality, order and hash use the text. The order compares bytes. `clone` shares the text and copies no
+/// characters. `Display` writes the text. Contracts see the text.
 #[derive(Drop, Debug)]
 pub struct Id {
     text: RcStr,
@@ -95,10 +95,17 @@ fn is_id(text: &str) -> bool
 }
 
 impl Id {
-    /// Reads an identifier that is not reserved: the whole text, with no blank around it.
+    /// Reads an identifier that is not a reserved word. The identifier must be the whole text, without blanks around
+    /// it.
     ///
-    /// `InvalidName` comes exactly where the text is none; `Memory` where a growth was refused. Takes
-    /// memory for a copy of the text, and time linear in it.
+    /// # Errors
+    ///
+    /// - `InvalidName`: the text is not such an identifier.
+    /// - `Memory`: an allocation failed.
+    ///
+    /// # Complexity
+    ///
+    /// O(n), where n is the length of the text. Allocates a copy of the text.
     pub fn from_normalized_str(alloc: Global, text: &str) -> Result<Id, ParseErrors>
         ensures { Reads IsIdText result text.now }
     {
@@ -110,7 +117,7 @@ impl Id {
         }
     }
 
-    /// The text. Takes no memory.
+    /// Returns the text. Does not allocate.
     pub fn as_ref(&self) -> &str
         ensures value { result.now ≡ self.now }
         ensures valid { IsTrue (is_id self.now) }
@@ -184,11 +191,11 @@ impl fmt::Display for Id {
     }
 }
 
-/// An identifier, reserved or not: an ASCII letter or `_`, and then ASCII letters, digits and `_`. Keys of
+/// An identifier, reserved or not: an ASCII letter or `_`, followed by ASCII letters, digits and `_`. The keys of
 /// annotations are such identifiers.
 ///
-/// Contracts see its text. Equality, order (by bytes) and hash are those of the text. `clone` shares the
-/// text and copies no letter. `Display` writes the text.
+/// Equality, order and hash use the text. The order compares bytes. `clone` shares the text and copies no
+/// characters. `Display` writes the text. Contracts see the text.
 #[derive(Drop, Debug)]
 pub struct AnyId {
     word: RcStr,
@@ -208,10 +215,17 @@ impl Model for AnyId {
 }
 
 impl AnyId {
-    /// Reads an identifier, also a reserved word: the whole text, with no blank around it.
+    /// Reads an identifier, which may be a reserved word. The identifier must be the whole text, without blanks around
+    /// it.
     ///
-    /// `InvalidName` comes exactly where the text is none; `Memory` where a growth was refused. Takes
-    /// memory for a copy of the text, and time linear in it.
+    /// # Errors
+    ///
+    /// - `InvalidName`: the text is not an identifier.
+    /// - `Memory`: an allocation failed.
+    ///
+    /// # Complexity
+    ///
+    /// O(n), where n is the length of the text. Allocates a copy of the text.
     pub fn from_normalized_str(alloc: Global, text: &str) -> Result<AnyId, ParseErrors>
         ensures { Reads IsIdentifierText result text.now }
     {
@@ -223,7 +237,7 @@ impl AnyId {
         }
     }
 
-    /// The text. Takes no memory.
+    /// Returns the text. Does not allocate.
     pub fn as_ref(&self) -> &str
         ensures value { result.now ≡ self.now }
         ensures valid { IsTrue (is_identifier self.now) }

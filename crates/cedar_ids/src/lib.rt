@@ -1,8 +1,8 @@
-//! Identifiers: names, entity types, eids, uids and policy ids, each with its text.
+//! Identifiers of Cedar: names, entity types, eids, uids and policy ids, with their texts.
 //!
-//! Contracts see a name as its components and a uid as a name and the bytes of an eid, so equality, order
-//! and hash never look at a location. Two places hold what callers read: `specs/Printed.antt` says how
-//! names and uids are written, `specs/Reads.antt` and `specs/ReadsUid.antt` what is read from a text.
+//! Equality, order and hash ignore locations. Contracts see a name as its components, and a uid as a name and the bytes
+//! of an eid. `specs/Printed.antt` specifies how names and uids are printed. `specs/Reads.antt` and
+//! `specs/ReadsUid.antt` specify how they are parsed.
 #![tactic(auto)]
 
 mod decode;

@@ -1,25 +1,28 @@
-//! Places in a text. Nothing that compares, orders or hashes looks at one.
+//! Locations in a source text. Comparisons and hashes of other types ignore them.
 ghost use Rattle.std.specs.Prelude.{◌≡◌};
 
 use std::rc::RcStr;
 
-/// A place in a text: from the byte at `start` up to the byte before `end` of `src`.
+/// A location in a text: the bytes of `src` from `start` to before `end`.
 ///
-/// Nothing checks that `start` and `end` lie in `src`. Equality compares all three fields; no other type
-/// of this crate looks at a `Loc` when it is compared, ordered or hashed. `clone` shares the text. The
-/// original holds a span of its diagnostics library in place of the two numbers.
+/// No function checks that `start` and `end` lie in `src`. Equality compares all three fields. All other types of this
+/// crate ignore their locations when they are compared, ordered or hashed. `clone` shares the text.
+///
+/// # Differences from cedar-policy-core
+///
+/// The original stores a span of its diagnostics library in place of the two numbers.
 #[derive(Clone, Debug, Drop, PartialEq, Eq)]
 pub struct Loc {
-    /// The first byte.
+    /// The index of the first byte.
     pub start: usize,
-    /// The byte after the last one.
+    /// The index after the last byte.
     pub end: usize,
-    /// The text that the place is in.
+    /// The text that contains the location.
     pub src: RcStr,
 }
 
 impl Loc {
-    /// The place from `start` up to `end` in `src`. Takes no memory.
+    /// Creates a location from `start` to before `end` in `src`. Does not allocate.
     pub fn new(start: usize, end: usize, src: RcStr) -> Loc
         ensures { result ≡ record { start = start; end = end; src = src } }
     {

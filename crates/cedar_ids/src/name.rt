@@ -1,4 +1,4 @@
-//! Names: components that are joined by `::`.
+//! Names: identifiers separated by `::`.
 ghost use Rattle.std.specs.Prelude.{◌≡◌, ◌<◌, ◌∷◌, [], Some, IsTrue, IfOk, MatchOption, length};
 ghost use Rattle.std.specs.Option.{option_copied};
 ghost use Rattle.std.specs.List.{list_all};
@@ -24,11 +24,12 @@ use std::hash::{Hash, Hasher};
 use std::marker::Model;
 use std::rc::{Rc, RcStr};
 
-/// A name: a path of identifiers, none or more, and a last one, its basename. It may have a location.
+/// A name: a path of zero or more identifiers, followed by a last identifier, the basename. It has an optional
+/// location.
 ///
-/// Contracts see the components alone. Equality, order and hash are those of the components: the order is
-/// by the basename, and then by the path as a list, each text by bytes. `clone` shares path and texts: it
-/// copies no letter. `Display` writes the components joined by `::`.
+/// Equality, order and hash use only the components. The order compares the basenames first and then the paths as
+/// lists, each text by bytes. `clone` shares the path and the texts, and copies no characters. `Display` writes the
+/// components separated by `::`. Contracts see only the components.
 #[derive(Debug, Drop)]
 pub struct Name {
     path: Rc<Vec<Id>>,
@@ -48,7 +49,7 @@ impl Model for Name {
     ghost invariant = { λ n. IsName (record { path = n.path.value.items; basename = n.basename }) };
 }
 
-// The text before the first `::`, and the text after it.
+// Returns the text before the first `::` and the text after it, if there is a `::`.
 fn split_mark(text: &str) -> Option<(&str, &str)>
     ensures parts { MatchOption result (components text.now ≡ text.now ∷ [])
         (λ x. components text.now ≡ x.0.now ∷ components x.1.now) }
@@ -57,7 +58,7 @@ fn split_mark(text: &str) -> Option<(&str, &str)>
     text.split_once("::")
 }
 
-// Reads a name whose location is `loc`.
+// Reads a name, and gives it the location `loc`.
 pub(crate) fn read_name(alloc: Global, text: &str, loc: Option<Loc>) -> Result<Name, ParseErrors>
     ensures { Reads IsNameText result text.now }
 {
@@ -77,11 +78,20 @@ pub(crate) fn read_name(alloc: Global, text: &str, loc: Option<Loc>) -> Result<N
 }
 
 impl Name {
-    /// Reads one identifier as a name without a path. `A::B` is refused. The name has no location.
+    /// Reads one identifier as a name without a path. The name has no location. `A::B` is invalid here.
     ///
-    /// `InvalidName` comes exactly where the text is no identifier or a reserved word; `Memory` where a
-    /// growth was refused. Takes memory for a copy of the text, and time linear in it. The original reads
-    /// by its parser, which allows blanks around the identifier.
+    /// # Errors
+    ///
+    /// - `InvalidName`: the text is not an identifier, or it is a reserved word.
+    /// - `Memory`: an allocation failed.
+    ///
+    /// # Complexity
+    ///
+    /// O(n), where n is the length of the text. Allocates a copy of the text.
+    ///
+    /// # Differences from cedar-policy-core
+    ///
+    /// The original uses its parser, which allows blanks around the identifier.
     pub fn parse_unqualified_name(alloc: Global, text: &str) -> Result<Name, ParseErrors>
         ensures { Reads IsUnqualifiedText result text.now }
     {
@@ -94,10 +104,16 @@ impl Name {
         })
     }
 
-    /// Reads a printed name: identifiers joined by `::`, with no blank. Its location is the whole text.
+    /// Reads a printed name: identifiers separated by `::`, without blanks. The location of the name is the whole text.
     ///
-    /// `InvalidName` comes exactly where the text is no such name; `Memory` where a growth was refused.
-    /// Takes memory linear in the text, and time linear in it.
+    /// # Errors
+    ///
+    /// - `InvalidName`: the text is not such a name.
+    /// - `Memory`: an allocation failed.
+    ///
+    /// # Complexity
+    ///
+    /// O(n), where n is the length of the text. Allocates O(n) bytes.
     pub fn from_normalized_str(alloc: Global, text: &str) -> Result<Name, ParseErrors>
         ensures { Reads IsNameText result text.now }
     {
@@ -106,7 +122,7 @@ impl Name {
         read_name(alloc, text, Some(loc))
     }
 
-    /// The last component. Takes no memory.
+    /// Returns the last component. Does not allocate.
     pub fn basename(&self) -> &Id
         ensures value { result.now ≡ self.now.basename }
         ensures valid { IsName self.now }
@@ -114,19 +130,19 @@ impl Name {
         &self.basename
     }
 
-    /// Says whether the name is a basename alone, with no path before it. Takes no memory.
+    /// Returns whether the name has no path. Does not allocate.
     pub fn is_unqualified(&self) -> bool
         ensures { result ≡ is_unqualified self.now }
     {
         self.path.is_empty()
     }
 
-    /// The location, if the name has one. Takes no memory.
+    /// Returns the location, if the name has one. Does not allocate.
     pub fn loc(&self) -> Option<&Loc> {
         self.loc.as_ref()
     }
 
-    // The name with this location.
+    // Returns the name with the given location.
     pub(crate) fn with_loc(&self, loc: Option<Loc>) -> Result<Name, AllocError>
         ensures { IfOk result (λ n. n ≡ self.now) }
     {
@@ -139,11 +155,18 @@ impl Name {
         })
     }
 
-    /// A name without a path, put into a namespace: the path becomes all components of the namespace. A
-    /// name that has a path is given back as it is, and so is every name where there is no namespace. The
-    /// location stays that of this name.
+    /// Returns the name inside a namespace. If this name has no path, all components of the namespace become its path.
+    /// If this name has a path, or `namespace` is `None`, the name is returned unchanged. The result has the location
+    /// of this name.
     ///
-    /// Takes memory for the new path alone, linear in the components of the namespace; no letter is copied.
+    /// # Errors
+    ///
+    /// Returns `AllocError` if an allocation fails.
+    ///
+    /// # Complexity
+    ///
+    /// O(n), where n is the number of components of the namespace. Allocates only the new path and copies no
+    /// characters.
     pub fn qualify_with_name(
         &self,
         alloc: Global,
@@ -166,7 +189,7 @@ impl Name {
         })
     }
 
-    // The path, and then the basename.
+    // Returns all components: the path, followed by the basename.
     fn components(&self, alloc: Global) -> Result<Vec<Id>, AllocError>
         ensures items { IfOk result (λ v. v.items ≡ all_components self.now) }
         ensures valid { IfOk result (λ v. IsTrue (list_all is_id v.items)) }

@@ -1,11 +1,11 @@
 //! Lists with at least one element.
-/// A list with at least one element: a first one, and those that follow it in order.
+/// A list with at least one element: the first element, and the other elements in order.
 ///
-/// Both fields are public, so it is made and taken apart by them, which takes no memory.
+/// Both fields are public and serve as constructor and accessors.
 #[derive(Debug, Drop)]
 pub struct NonEmpty<T> {
     /// The first element.
     pub head: T,
-    /// The elements after it.
+    /// The other elements.
     pub tail: Vec<T>,
 }

@@ -1,4 +1,4 @@
-//! Ids of policies and templates: any text.
+//! Ids of policies and templates.
 ghost use Rattle.std.specs.Prelude.{◌≡◌, List, ℕ, IfOk};
 ghost use Rattle.std.specs.String.{string_bytes};
 ghost use Rattle.std.specs.Ordering.{as_partial_cmp};
@@ -20,8 +20,8 @@ use std::marker::Model;
 
 /// The id of a policy or of a template: any text.
 ///
-/// Contracts see its bytes. Equality, order (by bytes) and hash are those of the text. `clone` takes memory
-/// for a copy of the text.
+/// Equality, order and hash use the text. The order compares bytes. `clone` allocates a copy of the text.
+/// Contracts see the bytes of the text.
 #[derive(Drop, Debug)]
 pub struct PolicyID {
     text: String,
@@ -37,7 +37,11 @@ impl Model for PolicyID {
 }
 
 impl PolicyID {
-    /// The id with a copy of this text. Takes memory for the copy.
+    /// Creates an id with a copy of this text.
+    ///
+    /// # Errors
+    ///
+    /// Returns `AllocError` if an allocation fails.
     pub fn from_string(alloc: Global, text: &str) -> Result<PolicyID, AllocError>
         ensures { IfOk result (λ id. id ≡ text.now) }
     {
@@ -45,14 +49,18 @@ impl PolicyID {
         Ok(PolicyID::from_smolstr(text))
     }
 
-    /// The id with this text. Takes no memory. The original takes its small string here.
+    /// Creates an id with this text. Does not allocate.
+    ///
+    /// # Differences from cedar-policy-core
+    ///
+    /// The original takes a `SmolStr`.
     pub fn from_smolstr(id: String) -> PolicyID
         ensures { result ≡ string_bytes id }
     {
         PolicyID { text: id }
     }
 
-    /// The text. Takes no memory.
+    /// Returns the text. Does not allocate.
     pub fn into_smolstr(self) -> String
         ensures { string_bytes result ≡ self }
     {
@@ -60,7 +68,7 @@ impl PolicyID {
         text
     }
 
-    /// The text. Takes no memory.
+    /// Returns the text. Does not allocate.
     pub fn as_ref(&self) -> &str
         ensures { result.now ≡ self.now }
     {
@@ -125,7 +133,7 @@ impl Hash for PolicyID {
     }
 }
 
-/// Writes the text by the table of escapes, with no quotes around it. Takes no memory.
+/// Writes the escaped text, without quotes around it. Does not allocate.
 impl fmt::Display for PolicyID {
     ghost output = { λ i. escaped_output i };
 

@@ -1,4 +1,4 @@
-//! Reading a uid: the marks in its text, and what stands between them.
+//! Parsing of uids.
 ghost use Rattle.std.specs.Prelude.{◌≡◌, IfOk, true, IsTrue};
 ghost use Rattle.std.specs.Str.{bytes_eq};
 ghost use Rattle.std.specs.Option.{option_map};
@@ -21,14 +21,14 @@ use crate::name::read_name;
 use std::alloc::{AllocError, Global};
 use std::rc::RcStr;
 
-// What stands before the first `::"`, and between that and a last `"`.
+// Returns the text before the first `::"`, and the text between that mark and a final `"`.
 fn uid_halves(text: &str) -> Option<(&str, &str)>
     ensures { option_map (λ x. (x.0.now, x.1.now)) result ≡ uid_halves text.now }
 {
     text.strip_suffix('"')?.split_once("::\"")
 }
 
-// Says whether a text is what is printed for an eid.
+// Returns whether `text` is the escaped text of `eid`.
 fn is_escape_of(alloc: Global, eid: &str, text: &str) -> Result<bool, AllocError>
     ensures { IfOk result
         (λ b. is_ascii eid.now ≡ true → b ≡ bytes_eq (escaped eid.now) text.now) }
@@ -37,7 +37,8 @@ fn is_escape_of(alloc: Global, eid: &str, text: &str) -> Result<bool, AllocError
     Ok(again.as_str() == text)
 }
 
-// The eid of which a text that holds an escape, or a character past ASCII, is what is printed.
+// Returns the eid whose escaped text is `text`, if there is one. Used for a text with a backslash, a quote, a control
+// character or a non-ASCII character.
 fn unescaped(alloc: Global, text: &str) -> Result<Option<String>, AllocError>
     ensures { IfOk result (λ o. ascii_part o ≡ eid_of text.now) }
 {
@@ -51,7 +52,7 @@ fn unescaped(alloc: Global, text: &str) -> Result<Option<String>, AllocError>
     }
 }
 
-// The eid of which a text is what is printed.
+// Returns the eid whose escaped text is `text`, if there is one.
 fn eid_text(alloc: Global, text: &str) -> Result<Option<String>, AllocError>
     ensures { IfOk result (λ o. ascii_part o ≡ eid_of text.now) }
 {
@@ -64,19 +65,35 @@ fn eid_text(alloc: Global, text: &str) -> Result<Option<String>, AllocError>
 }
 
 impl EntityUID {
-    /// Reads a printed uid: a name, `::"`, an escaped text and `"`, with no blank. The escaped text must be
-    /// the one that printing gives: `\u{41}` for an `A` is refused, and so is a `'` without its `\`.
+    /// Reads a printed uid: a name, `::"`, an escaped text and `"`, without blanks. The escaped text must be exactly
+    /// the text that printing produces. For example, `\u{41}` in place of `A` is invalid, and so is a `'` without its
+    /// `\`.
     ///
-    /// The checks, in this order: `NotNormalized` where the text lacks its last `"` or a `::"` before that;
-    /// `InvalidName` where what stands before the first `::"` is no name; `NotNormalized` where the rest is
-    /// no escaped text. `Memory` where a growth was refused. What is promised of a text whose eid is past
-    /// ASCII is the order of the checks; printed as `str::escape_debug` writes it, it reads back as well.
+    /// The location of the uid is the whole text. The location of its type is the part of the text before the first
+    /// `::"`.
     ///
-    /// The location of the uid is the whole text; that of its type is the part of it before the first
-    /// `::"`, where the original's lies in a text of its own. Takes memory linear in the text, and time
-    /// linear in it.
+    /// A text with a non-ASCII eid is valid if it is written as by `str::escape_debug`. For such a text only the order
+    /// of the checks is proved.
+    ///
+    /// # Errors
+    ///
+    /// The first failed check in this order decides:
+    ///
+    /// - `NotNormalized`: the text has no final `"`, or no `::"` before it.
+    /// - `InvalidName`: the text before the first `::"` is not a name.
+    /// - `NotNormalized`: the rest is not an escaped text.
+    /// - `Memory`: an allocation failed.
+    ///
+    /// # Complexity
+    ///
+    /// O(n), where n is the length of the text. Allocates O(n) bytes.
+    ///
+    /// # Differences from cedar-policy-core
+    ///
+    /// The location of the type lies in the text of the uid. In the original it lies in a text of its own.
     pub fn from_normalized_str(alloc: Global, text: &str) -> Result<EntityUID, ParseErrors>
-        // A uid with an ASCII eid is answered only for its own text, and for its own text nothing else.
+        // A uid with an ASCII eid is returned only for its own printed text. For that text, every other result is an
+        // allocation error.
         ensures printed { IfOk result
             (λ u. IsTrue (is_ascii (uid_parts u).eid) → IsPrinted (uid_parts u) text.now) }
         ensures exact { (v : EntityUID) → IsPrinted (uid_parts v) text.now →
@@ -84,7 +101,7 @@ impl EntityUID {
 
         ensures order { FollowsChecks result text.now }
 
-        // No text is that of two uids.
+        // No text is the printed text of two uids.
         ensures only { (u v : UidParts) → IsPrinted u text.now → IsPrinted v text.now → u ≡ v }
     {
         let Some((name, eid)) = uid_halves(text) else {

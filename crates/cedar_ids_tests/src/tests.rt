@@ -1,11 +1,11 @@
-// What no clause says: the worked texts, the texts of refusals, locations, texts past ASCII, and each call
-// once with ample memory. No function holds a thing over what may fail.
+// Tests of behavior that no contract states: worked examples, error messages, locations, non-ASCII texts, and one run
+// of each function with enough memory. No function owns a value while another operation may fail.
 mod locations;
 mod round_trip;
 mod rows;
 mod uids;
 
-// Whether a thing that could be made is equal to another one.
+// Returns whether a result is `Ok` and its value equals another one.
 fn is_equal<T: Eq + Drop, E: Drop>(made: Result<T, E>, other: &T) -> bool {
     match made {
         Ok(x) => {
@@ -20,7 +20,7 @@ fn is_equal<T: Eq + Drop, E: Drop>(made: Result<T, E>, other: &T) -> bool {
     }
 }
 
-// Whether a thing could be made, and differs from another one.
+// Returns whether a result is `Ok` and its value differs from another one.
 fn is_other<T: Eq + Drop, E: Drop>(made: Result<T, E>, other: &T) -> bool {
     match made {
         Ok(x) => {

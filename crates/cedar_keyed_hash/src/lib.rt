@@ -1,23 +1,25 @@
-//! Hashing with a key: a builder of hashers for maps whose ids strangers pick.
+//! Hashing with a random key, for maps whose keys untrusted parties choose.
 //!
-//! A map that hashes by a seed that stands in the source is slow where somebody picks ids that collide under it. A
-//! [`KeyedState`] has 128 bits that are drawn when a program starts, so that who does not know them cannot pick such
-//! ids. What it computes is no cryptographic hash: it hides no id, and who can see hashes or orders of iteration may
-//! learn of the key. Nothing in these crates shows either. It is made for speed: one multiplication for each eight
-//! bytes.
+//! A map whose hasher has a fixed seed becomes slow if somebody chooses keys that collide under the seed. A
+//! [`KeyedState`] has a key of 128 bits, which a program draws at random when it starts. Without the key nobody can
+//! choose colliding keys.
+//!
+//! The hash is not a cryptographic hash: it does not hide its input. Whoever can see hash values or an order of
+//! iteration may learn something of the key. No call of the store shows either. The hasher is made for speed: it
+//! multiplies once for each eight bytes.
 #![tactic(auto)]
 
 ghost use Rattle.std.specs.Prelude.{◌≡◌, ◌+◌, ◌≤◌, ◌<◌, length};
-ghost use Rattle.cedar_keyed_hash.specs.Keyed.{mixed, word_at, half_at, short, keyed};
+ghost use Rattle.cedar_keyed_hash.specs.Keyed.{first_hasher, half_at, hasher_with, keyed, mixed, short, word_at};
 
 use std::alloc::Global;
 use std::hash::{BuildHasher, Hasher};
 use std::random::RandomSource;
 use std::{fmt, io};
 
-/// What builds keyed hashers: all of one builder hash alike, and those of two with other keys do not.
+/// A builder of keyed hashers. Two hashers of one builder hash alike; hashers of builders with different keys do not.
 ///
-/// It is copied by assignment and takes no memory.
+/// The type is `Copy`.
 #[derive(Clone, Copy)]
 pub struct KeyedState {
     seed: u64,
@@ -25,18 +27,33 @@ pub struct KeyedState {
 }
 
 impl KeyedState {
-    /// A builder with a key that is drawn from a source of random bytes, `rt` in a program. Refused where the source
-    /// is.
+    /// Creates a builder with a key of 16 random bytes from `source`. A program passes `rt`.
+    ///
+    /// The result is [`from_bytes`](KeyedState::from_bytes) of the bytes that the source writes. A contract cannot name
+    /// these bytes, so a test shows it.
+    ///
+    /// # Errors
+    ///
+    /// Returns the error of `source` if it cannot provide the bytes.
     pub fn new(source: &impl RandomSource) -> io::Result<KeyedState> {
         let mut bytes = [0; 16];
         source.fill_bytes(&mut bytes)?;
-        let keys = u128::from_le_bytes(bytes);
-        Ok(KeyedState::with_keys((keys & 0xFFFF_FFFF_FFFF_FFFF) as u64, (keys >> 64) as u64))
+        Ok(KeyedState::from_bytes(&bytes))
     }
 
-    /// A builder with this key, in two halves, for who draws keys elsewhere or wants the same order twice. Neither half
-    /// may be known to who picks ids.
-    pub fn with_keys(seed: u64, key: u64) -> KeyedState {
+    /// Creates a builder with a key of 16 bytes. The first eight bytes are the seed and the last eight the key of
+    /// [`with_keys`](KeyedState::with_keys). In each, the lowest byte comes first.
+    pub fn from_bytes(bytes: &[u8; 16]) -> KeyedState
+        ensures { first_hasher result ≡ hasher_with (word_at bytes.now 0) (word_at bytes.now 8) }
+    {
+        KeyedState::with_keys(word_at(bytes, 0), word_at(bytes, 8))
+    }
+
+    /// Creates a builder with a key of two halves. Use it to draw the key yourself, or to get the same hashes twice. An
+    /// attacker who chooses the ids must know neither half.
+    pub fn with_keys(seed: u64, key: u64) -> KeyedState
+        ensures { first_hasher result ≡ hasher_with seed key }
+    {
         KeyedState { seed, key }
     }
 }
@@ -57,13 +74,13 @@ impl BuildHasher for KeyedState {
 }
 
 impl fmt::Debug for KeyedState {
-    /// Writes `KeyedState { .. }`, and nothing of the key.
+    /// Writes `KeyedState { .. }`. The key is not shown.
     fn fmt<W: fmt::Write>(&self, f: &mut fmt::Formatter<W>) -> fmt::Result {
         f.debug_struct("KeyedState").finish_non_exhaustive()
     }
 }
 
-/// A hasher with a key: its state goes through one multiplication by the key for each eight bytes.
+/// A hasher with a key. It multiplies its state by the key once for each eight bytes.
 #[derive(Clone, Copy)]
 pub struct KeyedHasher {
     state: u64,
@@ -97,7 +114,7 @@ impl Hasher for KeyedHasher {
     }
 }
 
-// The two halves of a product, joined.
+// Returns the exclusive or of the two halves of the product.
 #[tactic(auto, unfolding(crate::specs::Keyed::mixed))]
 fn mixed(a: u64, b: u64) -> u64
     ensures { result ≡ mixed a b }
@@ -106,7 +123,7 @@ fn mixed(a: u64, b: u64) -> u64
     (product & 0xFFFF_FFFF_FFFF_FFFF) as u64 ^ (product >> 64) as u64
 }
 
-// Eight bytes as a number, the first of them lowest.
+// Returns the eight bytes from `at` on as a number, lowest byte first.
 #[tactic(auto, unfolding(crate::specs::Keyed::word_at))]
 fn word_at(bytes: &[u8], at: usize) -> u64
     requires { at + 8 ≤ length bytes.now }
@@ -115,7 +132,7 @@ fn word_at(bytes: &[u8], at: usize) -> u64
     half_at(bytes, at) | half_at(bytes, at + 4) << 32
 }
 
-// Four bytes as a number, the first of them lowest.
+// Returns the four bytes from `at` on as a number, lowest byte first.
 #[tactic(auto, unfolding(crate::specs::Keyed::half_at))]
 fn half_at(bytes: &[u8], at: usize) -> u64
     requires { at + 4 ≤ length bytes.now }
@@ -125,7 +142,7 @@ fn half_at(bytes: &[u8], at: usize) -> u64
     u32::from_le_bytes(four) as u64
 }
 
-// Fewer than eight bytes as a number: no two texts of one length have the same.
+// Returns fewer than eight bytes as a number. Different texts of the same length have different numbers.
 fn short(bytes: &[u8]) -> u64
     ensures { result ≡ short bytes.now }
 {

@@ -1,4 +1,4 @@
--- From the empty mask of the bytes of a block that a line may not have.
+-- Conclusions from an empty mask of invalid bytes.
 use Rattle.std.proofs.Common.{◌≡◌, ℕ, ◌+◌, ◌%◌, ◌^◌, ◌≤◌, true, ◌||◌, ◌==◌, List, map, length, get_or, Fits, w8, sym, ap, ◌∙◌, arith}
 use Rattle.std.proofs.lemmas.Bool.{agree_below, agree_below_at, eqb-true}
 use Rattle.std.proofs.lemmas.Simd.{map-map, mask_l-mod, length-chunk, none_from_empty_mask}
@@ -6,7 +6,7 @@ use Rattle.std.proofs.lemmas.List.{length-map}
 use lib.Lanes.{chunk, mask_l, top}
 use Rattle.cedar_lines.specs.Lines.{is_line_byte, HasLineBytesIn}
 
--- no lane is set, and a lane is set for each byte that a line may not have
+-- If the mask is empty and each invalid byte has a bit in it, all bytes of the block are valid.
 pub HasLineBytesIn-from_mask : (d : List ℕ) (i n : ℕ) (z : List ℕ) → i + n ≤ length d → n ≤ 64
     → ((k : ℕ) → Fits w8 (get_or d k 0)) → (mask_l (map (top 7) z) % 2 ^ 64 == 0) ≡ true
     → (f : ℕ → ℕ) → z ≡ map f (chunk i n d)

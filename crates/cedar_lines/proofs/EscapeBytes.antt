@@ -1,4 +1,4 @@
--- From the masks of the bytes that are not their own escape.
+-- Conclusions from the masks of the bytes that need an escape.
 use Rattle.std.proofs.Common.{◌≡◌, ℕ, suc, ◌+◌, ◌-◌, ◌/◌, ◌%◌, ◌^◌, ◌<◌, ◌≤◌, true, false, Bool, ◌||◌, cond, List, [], ◌∷◌, map, length, drop, get_or, Fits, w8, sym, ap, subst, ◌∙◌, refl, arith, get_or-drop, length-drop, pow_pos, ⊎_elim}
 use Rattle.std.specs.Int.{bit_at}
 use Rattle.std.proofs.lemmas.Nat.{div-add-mod'}
@@ -9,7 +9,7 @@ use Rattle.std.proofs.lemmas.List.{length-map, get_or-map}
 use lib.Lanes.{chunk, mask_l, top}
 use Rattle.cedar_ids.specs.Escape.{is_own_escape, is_own_escape_byte}
 
--- each byte from a place up to another is its own escape
+-- Whether no byte from one place up to another needs an escape.
 abbrev pub AreOwnEscapesIn : List ℕ → ℕ → ℕ → Type 0
 AreOwnEscapesIn xs from to = (k : ℕ) → from ≤ k → k < to → is_own_escape_byte (get_or xs k 0) ≡ true
 
@@ -17,7 +17,7 @@ is_clear : (b : Bool) → cond {A = ℕ} b 1 0 ≡ 0 → b ≡ false
 is_clear true h = absurd (omega arith)
 is_clear false h = refl
 
--- a lane is set for each byte that is not its own escape
+-- If each byte that needs an escape has a bit in the mask, a byte without a bit needs none.
 pub own_escape-from_bit : (d : List ℕ) (i n : ℕ) (z : List ℕ) → i + n ≤ length d → n ≤ 64
     → ((k : ℕ) → Fits w8 (get_or d k 0)) → (f : ℕ → ℕ) → z ≡ map f (chunk i n d)
     → agree_below (λ x. top 7 (f x) || is_own_escape_byte x) (λ _. true) 256 ≡ true → (k : ℕ) → k < n
@@ -37,7 +37,7 @@ own_escape-from_bit d i n z room few fits f lanes all k low clear =
     sym (ap (λ b. b || is_own_escape_byte (get_or d (i + k) 0)) goes)
     ∙ agree_below_at (λ x. stop x || is_own_escape_byte x) (λ _. true) 256 (get_or d (i + k) 0) all (fits (i + k)).fits
 
--- a mask of which nothing is left once it is shifted down has no bit from there on
+-- If a mask is empty after a shift down, it has no bits from there on.
 pub no_bit_from : (m by k : ℕ) → m / 2 ^ by ≡ 0 → by ≤ k → bit_at m k ≡ 0
 no_bit_from m by k none past =
     bit_at_above m by k (small m (2 ^ by) (pow_pos by) none) past
@@ -45,7 +45,7 @@ no_bit_from m by k none past =
     small : (m p : ℕ) → 0 < p → m / p ≡ 0 → m < p
     small m p pos none = grind (arith, div-add-mod' m p)
 
--- eight bytes more, of which those that were not seen have no bit in the mask of the eight
+-- Eight more bytes. The bytes that were not checked before have no bit in the mask.
 pub AreOwnEscapesIn-eight : (d : List ℕ) (from seen at to m : ℕ) → at ≤ seen → to ≡ at + 8 → AreOwnEscapesIn d from seen
     → ((k : ℕ) → k < 8 → bit_at m k ≡ 0 → is_own_escape_byte (get_or d (at + k) 0) ≡ true)
     → ((k : ℕ) → seen ≤ at + k → bit_at m k ≡ 0) → AreOwnEscapesIn d from to
@@ -55,13 +55,13 @@ AreOwnEscapesIn-eight d from seen at to m met end before eight clear k low high 
     subst (λ j. is_own_escape_byte (get_or d j 0) ≡ true) place
     (eight (k - at) (omega arith) (clear (k - at) (omega arith)))) (cases_lt k seen)
 
--- bytes that are each their own escape
+-- If no byte needs an escape, the text needs none.
 pub is_own_escape-from_bytes : (d : List ℕ) → AreOwnEscapesIn d 0 (length d) → is_own_escape d ≡ true
 is_own_escape-from_bytes [] h = refl
 is_own_escape-from_bytes (c ∷ cs) h =
     rw (h 0 (omega arith) (omega arith), is_own_escape-from_bytes cs (λ k low high. h (suc k) (omega arith) (omega arith))) refl
 
--- the same of those from a place on
+-- The same for the bytes from a place on.
 pub is_own_escape-from_place : (d : List ℕ) (from : ℕ) → AreOwnEscapesIn d from (length d)
     → is_own_escape (drop from d) ≡ true
 is_own_escape-from_place d from h =

@@ -1,4 +1,4 @@
--- Bytes that a line may have are ASCII and so a text.
+-- Valid bytes of a line are ASCII and so a text.
 use Rattle.std.specs.Prelude.{Option, None, Some, IfSome}
 use Rattle.std.proofs.Common.{◌≡◌, ℕ, zero, suc, ◌<◌, List, [], ◌∷◌, true, arith, length, refl}
 use Rattle.std.specs.Cmp.{first_so, second_so}
@@ -19,13 +19,13 @@ line_is_ascii (c ∷ cs) h (suc i) = line_is_ascii cs (second_so (is_line_byte c
 pub text_of_line : (d : List ℕ) → list_all is_line_byte d ≡ true → IsUtf8 d
 text_of_line d h = IsUtf8-from_ascii d (line_is_ascii d h)
 
--- bytes that are each one that a line may have
+-- If each byte is valid, the line passes the test of all bytes.
 pub list_all-from_line_bytes : (d : List ℕ) → HasLineBytesIn d 0 (length d) → list_all is_line_byte d ≡ true
 list_all-from_line_bytes [] h = refl
 list_all-from_line_bytes (c ∷ cs) h =
     rw (h 0 (omega arith) (omega arith), list_all-from_line_bytes cs (λ k low high. h (suc k) (omega arith) (omega arith))) refl
 
--- where there is something, each byte is one that a line may have
+-- If there is a result, each byte of the line is valid.
 pub readable-if_some : {A : Type 0} (o : Option A) (d : List ℕ) → IfSome o (λ _. HasLineBytesIn d 0 (length d))
     → IfSome o (λ _. list_all is_line_byte d ≡ true)
 readable-if_some None d h = h

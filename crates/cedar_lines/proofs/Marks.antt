@@ -13,7 +13,7 @@ is_set : (b : Bool) → cond {A = ℕ} b 1 0 ≡ 1 → b ≡ true
 is_set true h = refl
 is_set false h = absurd (omega arith)
 
--- bit k is set where lane k of a block is a tab
+-- If each bit states whether its byte is a tab, the mask marks the tabs.
 pub MarksTabs-from_bits : (d : List ℕ) (i n m : ℕ) → i + n ≤ length d
     → ((k : ℕ) → bit_at m k ≡ cond (get_or (chunk i n d) k 0 == 9) 1 0) → MarksTabs d i (i + n) m
 MarksTabs-from_bits d i n m room bits =
@@ -29,7 +29,7 @@ MarksTabs-from_bits d i n m room bits =
           cc) (cases_lt k n);
     }
 
--- the tabs of the bytes from a place on, as places of the whole
+-- A mask of the tabs in a part of a line is a mask of the tabs in the line.
 pub MarksTabs-from_chunk : (d : List ℕ) (from to m : ℕ) → from ≤ to → to ≤ length d
     → let v = chunk from (to - from) d in MarksTabs v 0 (length v) m → MarksTabs d from to m
 MarksTabs-from_chunk d from to m ordered within h =
@@ -45,7 +45,7 @@ MarksTabs-from_chunk d from to m ordered within h =
           (omega (arith, there.0), sym (lane k (omega (arith, there.0))) ∙ subst (HasTabAt v) (first k) there.1);
     }
 
--- ---- the bits of a mask that is shifted up
+-- ---- The bits of a mask that is shifted up
 in_word : (n k : ℕ) → k < 64 → bit_at (n % 2 ^ 64) k ≡ bit_at n k
 in_word n k l = sym (bit_at_cat_low (n / 2 ^ 64) 64 (n % 2 ^ 64) k l) ∙ ap (λ x. bit_at x k) (div-add-mod' n (2 ^ 64))
 
@@ -62,7 +62,7 @@ shl_high m by k high l =
 shl_above : (m by k : ℕ) → 64 ≤ k → bit_at (m * 2 ^ by % 2 ^ 64) k ≡ 0
 shl_above m by k high = bit_at_above (m * 2 ^ by % 2 ^ 64) 64 k (omega arith) high
 
--- the tabs of two runs of places, of which the second begins no later than the first ends
+-- The masks of two ranges mark the tabs of both. The second range begins no later than the first ends.
 pub MarksTabs-or : (d : List ℕ) (from mid seen to by a b : ℕ) → from + by ≡ mid → mid ≤ seen → seen ≤ to → to ≤ from + 64
     → MarksTabs d from seen a → MarksTabs d mid to b → MarksTabs d from to (bit_or a (b * 2 ^ by % 2 ^ 64))
 MarksTabs-or d from mid seen to by a b same met ordered few front back =
@@ -86,7 +86,7 @@ MarksTabs-or d from mid seen to by a b same met ordered few front back =
           (omega (arith, there.0), there.1)) (cases_lt (bit_at a k) 1);
     }
 
--- before the lowest tab that is marked there is none
+-- There is no tab before the lowest marked one.
 pub HasNoTabIn-lowest : (d : List ℕ) (start from to m bit : ℕ) → MarksTabsFrom d start from to m → bit_at m bit ≡ 1
     → ((k : ℕ) → k < bit → bit_at m k ≡ 0) → HasNoTabIn d start (from + bit)
 HasNoTabIn-lowest d start from to m bit h set below k low high =
@@ -96,7 +96,7 @@ HasNoTabIn-lowest d start from to m bit h set below k low high =
     let clear = below (k - from) (omega (arith, marked.0)) in
     omega (arith, marked.1, clear))
 
--- behind the lowest tab that is marked, the others are left
+-- After the lowest marked tab the other marked tabs are left.
 pub MarksTabsFrom-next : (d : List ℕ) (start from to m bit rest : ℕ) → to ≤ from + 64 → MarksTabsFrom d start from to m
     → bit_at m bit ≡ 1 → ((k : ℕ) → k < bit → bit_at m k ≡ 0)
     → ((k : ℕ) → k < 64 → k ≢ bit → bit_at rest k ≡ bit_at m k)

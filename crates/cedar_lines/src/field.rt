@@ -1,4 +1,4 @@
-//! Reading a field as a uid.
+//! Reading of a field as a uid.
 ghost use Rattle.std.specs.Prelude.{◌≡◌, IfOk};
 ghost use Rattle.cedar_ids.specs.Escape.{is_ascii};
 ghost use Rattle.cedar_ids.specs.TextOf.{IsPrinted};
@@ -10,15 +10,26 @@ use cedar_ids::entity::EntityUID;
 use cedar_ids::err::ParseErrors;
 use std::alloc::{AllocError, Global};
 
-// Whether the eid of a uid is ASCII.
+// Returns whether the eid of a uid is ASCII.
 fn has_ascii_eid(uid: &EntityUID) -> bool
     ensures { result ≡ is_ascii (uid_parts uid.now).eid }
 {
     uid.eid().as_ref().is_ascii()
 }
 
-/// The uid with an ASCII eid whose text a field is, if there is one. Takes memory for the uid, and is refused only
-/// where that is; its cost is linear in the field. It is this project's own.
+/// Reads a field as a uid with an ASCII eid. Returns nothing if the field is not the text of such a uid.
+///
+/// # Errors
+///
+/// Returns `AllocError` if an allocation fails.
+///
+/// # Complexity
+///
+/// O(n), where n is the length of the field. Allocates the uid.
+///
+/// # Differences from cedar-policy-core
+///
+/// The original has no such function.
 pub fn uid_field(alloc: Global, text: &str) -> Result<Option<EntityUID>, AllocError>
     ensures { IfOk result (ReadsAs (λ (u : EntityUID). IsPrinted (uid_parts u) text.now) (λ u. u)) }
 {

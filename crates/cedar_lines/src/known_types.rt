@@ -1,4 +1,5 @@
-//! Reading uids of which many have one type: the types that were read are known by their texts, and shared.
+//! Reading of uids with a cache of their types. Many uids have the same type, so types are cached by their texts and
+//! shared.
 ghost use Rattle.std.specs.Prelude.{◌≡◌, ◌++◌, List, ℕ, IfOk, MatchOption, IfSome, IsTrue, codes};
 ghost use Rattle.std.specs.String.{string_bytes};
 ghost use Rattle.cedar_ids.specs.Escape.{is_own_escape};
@@ -19,7 +20,7 @@ use cedar_ids::escape::is_own_escape;
 use std::alloc::{AllocError, Global};
 use std::marker::Model;
 
-// A type, and its text with the mark `::"` behind it. Contracts see the name of the type.
+// A cached type, and its text with the mark `::"` after it. Contracts see the name of the type.
 #[derive(Drop)]
 struct KnownType {
     marked: String,
@@ -39,69 +40,103 @@ impl Model for KnownType {
     ghost invariant = { λ k. IsMarked (type_name k.ty) (string_bytes k.marked) };
 }
 
-/// The types that fields before have named, by their texts, so that uids to come share them: up to 16, those that came
-/// first. It says nothing of what a line is. It is this project's own.
+/// A cache of the types in earlier fields, keyed by their texts, so that later uids share them. It has up to 16 types,
+/// each with a text of up to 256 bytes. If the cache is full, every fourth type that is read and not cached replaces a
+/// cached one. The replaced places follow one another, so types that are no longer read disappear. The cache never
+/// changes how a field is read.
+///
+/// # Differences from cedar-policy-core
+///
+/// The original has no such type.
 #[derive(Drop)]
 pub struct KnownTypes {
     types: Vec<KnownType>,
+    // The number of types that were read and not cached since the cache was full.
+    misses: usize,
 }
 
 impl KnownTypes {
-    /// Nothing is known. It takes no memory.
+    /// Creates an empty cache. Does not allocate.
     pub fn new(alloc: Global) -> KnownTypes {
         KnownTypes {
             types: Vec::new(alloc),
+            misses: 0,
         }
     }
 }
 
-// So many types are known at the most.
+// The maximum number of cached types.
 const MOST: usize = 16;
 
-// What stands between the text of a type and an eid.
+// The length in bytes of the longest text of a type that is cached.
+const LONGEST: usize = 256;
+
+// The number of misses for each replacement. Assume that each miss replaced a type, and that slightly more types than
+// places were read in rotation. Then each type would be replaced just before it is read again.
+const MISSES: usize = 4;
+
+// The text between a type and an eid.
 const MARK: &str = "::\"";
 
-// A text with the mark behind it.
+// Returns a text with the mark after it.
 fn with_mark(alloc: Global, text: &str) -> Result<String, AllocError>
     ensures { IfOk result (λ t. string_bytes t ≡ text.now ++ codes "::\"") }
 {
-    let mut marked = String::with_capacity(alloc, text.len())?;
+    let mut marked = String::with_capacity(alloc, text.len().saturating_add(MARK.len()))?;
     marked.push_str(text)?;
     marked.push_str(MARK)?;
     Ok(marked)
 }
 
-// A type that was read is known from then on, while there are few.
-fn keep_type(
+// Creates the cache entry of a type.
+fn known_type(alloc: Global, text: &str, ty: &EntityType) -> Result<KnownType, AllocError>
+    requires { IsNameText (type_name ty.now) text.now }
+    ensures { IfOk result (λ k. k ≡ type_name ty.now) }
+{
+    let marked = with_mark(alloc, text)?;
+    Ok(KnownType {
+        marked,
+        ty: ty.clone()?,
+    })
+}
+
+// Caches a type, if its text is not too long. If the cache is full, every fourth type replaces another.
+fn cache_type(
     alloc: Global,
-    known: &mut Vec<KnownType>,
+    known: &mut KnownTypes,
     text: &str,
     ty: &EntityType,
 ) -> Result<(), AllocError>
     requires { IsNameText (type_name ty.now) text.now }
 {
-    if known.len() >= MOST {
+    if text.len() > LONGEST {
         return Ok(());
     }
-    let marked = with_mark(alloc, text)?;
-    known.push(KnownType {
-        marked,
-        ty: ty.clone()?,
-    })?;
+    if known.types.len() < MOST {
+        known.types.push(known_type(alloc, text, ty)?)?;
+        return Ok(());
+    }
+    known.misses = known.misses.wrapping_add(1);
+    if known.misses % MISSES != 0 {
+        return Ok(());
+    }
+    if let Some(place) = known.types.get_mut(known.misses / MISSES % MOST) {
+        *place = known_type(alloc, text, ty)?;
+    }
     Ok(())
 }
 
-// The type whose text this is, if it is that of one, read anew.
+// Reads the type with this text and caches it. Returns nothing if the text is not a type.
 fn read_type(
     alloc: Global,
-    known: &mut Vec<KnownType>,
+    known: &mut KnownTypes,
     text: &str,
 ) -> Result<Option<EntityType>, AllocError>
     ensures { IfOk result (λ o. IfSome o (λ t. IsNameText (type_name t) text.now)) }
 {
     match EntityType::from_normalized_str(alloc, text) {
         Ok(ty) => {
-            keep_type(alloc, known, text, &ty)?;
+            cache_type(alloc, known, text, &ty)?;
             Ok(Some(ty))
         }
         Err(ParseErrors::Memory) => Err(AllocError),
@@ -110,7 +145,7 @@ fn read_type(
     }
 }
 
-// What stands before the first `::"`, and between that and a last `"`, where the second is its own escape.
+// Returns the text before the first `::"`, and the text between it and the last `"`, if the second needs no escape.
 fn unescaped_halves(text: &str) -> Option<(&str, &str)>
     ensures split { IfSome result (λ r. text.now ≡ r.0.now ++ (codes "::\"" ++ (r.1.now ++ codes "\""))) }
     ensures own_escape { IfSome result (λ r. IsTrue (is_own_escape r.1.now)) }
@@ -122,7 +157,7 @@ fn unescaped_halves(text: &str) -> Option<(&str, &str)>
     None
 }
 
-// The uid of a type and an eid that is its own escape. Its text is that of the type, the mark, the eid and a quote.
+// Creates the uid of a type and an eid that needs no escape. Its text is the type, the mark, the eid and a quote.
 fn uid_of_parts(ty: EntityType, eid: String) -> EntityUID
     requires { IsTrue (is_own_escape (string_bytes eid)) }
     ensures { (name : List ℕ) → IsNameText (type_name ty) name →
@@ -131,14 +166,15 @@ fn uid_of_parts(ty: EntityType, eid: String) -> EntityUID
     EntityUID::from_components(ty, Eid::new(eid), None)
 }
 
-// A type that is known, shared once more.
+// Returns a new reference to a cached type.
 fn type_of(known: &KnownType) -> Result<EntityType, AllocError>
     ensures { IfOk result (λ t. type_name t ≡ known.now) }
 {
     known.ty.clone()
 }
 
-// What stands behind the text of a type and the mark, where that is its own escape.
+// Returns the text after the type and the mark, if it needs no escape. `unclosed` is the text of a uid without its last
+// quote.
 #[inline(always)]
 fn eid_of_type<'a>(known: &KnownType, unclosed: &'a str) -> Option<&'a str>
     ensures made { IfSome result (λ e. IsMadeOf known.now e.now (unclosed.now ++ codes "\"")) }
@@ -151,7 +187,7 @@ fn eid_of_type<'a>(known: &KnownType, unclosed: &'a str) -> Option<&'a str>
     None
 }
 
-// The type that is known and the eid of which a text is made, if that is its own escape.
+// Returns the cached type and the eid of the text of a uid, if the type is cached and the eid needs no escape.
 #[inline(always)]
 fn known_halves<'a, 'b>(known: &'a [KnownType], text: &'b str) -> Option<(&'a KnownType, &'b str)>
     ensures made { IfSome result (λ r. IsMadeOf r.0.now r.1.now text.now) }
@@ -166,10 +202,11 @@ fn known_halves<'a, 'b>(known: &'a [KnownType], text: &'b str) -> Option<(&'a Kn
     None
 }
 
-// The uid of a type that is read anew and an eid that is its own escape, if the first text is that of a type.
+// Creates the uid of this type and an eid that needs no escape. Reads and caches the type. Returns nothing if the first
+// text is not a type.
 fn uid_of_halves(
     alloc: Global,
-    known: &mut Vec<KnownType>,
+    known: &mut KnownTypes,
     name: &str,
     eid: &str,
 ) -> Result<Option<EntityUID>, AllocError>
@@ -184,10 +221,10 @@ fn uid_of_halves(
     Ok(Some(uid_of_parts(ty, eid)))
 }
 
-// The uid with a text, where that is read without an escape and of a name.
+// Reads a uid whose eid needs no escape, and caches its type.
 fn uid_without_escape(
     alloc: Global,
-    known: &mut Vec<KnownType>,
+    known: &mut KnownTypes,
     text: &str,
 ) -> Result<Option<EntityUID>, AllocError>
     ensures { IfOk result (λ o. IfSome o (λ u. IsPrinted (uid_parts u) text.now)) }
@@ -198,11 +235,11 @@ fn uid_without_escape(
     }
 }
 
-// The uid with a text, of which no type that is known is a part.
+// Reads a uid whose type is not cached.
 #[inline(never)]
 fn read_uid(
     alloc: Global,
-    known: &mut Vec<KnownType>,
+    known: &mut KnownTypes,
     text: &str,
 ) -> Result<Option<EntityUID>, AllocError>
     ensures { IfOk result (ReadsAs (λ (u : EntityUID). IsPrinted (uid_parts u) text.now) (λ u. u)) }
@@ -213,13 +250,24 @@ fn read_uid(
     uid_field(alloc, text)
 }
 
-/// The uid with an ASCII eid whose text a field is, if there is one: what [`uid_field`] answers. Where the eid has no
-/// escape its type is shared with other uids of that type, and neither has a location; any other text is read by
-/// itself. A type that is read so is known from then on, while there is room.
+/// Reads a field as a uid with an ASCII eid. Returns nothing if the field is not the text of such a uid. The result is
+/// the same as [`uid_field`]'s.
 ///
-/// Takes memory for the uid, for its type where that is not known, and for what is known then, and is refused only
-/// where that is. Its cost is linear in the field and in the texts of the types that are known. It is this project's
-/// own.
+/// If the eid has no escape, the type is cached in `known` and shared with other uids of the type. The uid then has no
+/// location. Any other uid is read without the cache.
+///
+/// # Errors
+///
+/// Returns `AllocError` if an allocation fails.
+///
+/// # Complexity
+///
+/// O(n), where n is the length of the field and of the texts of the cached types. Allocates the uid, and also its type
+/// and a cache entry if the type is not cached.
+///
+/// # Differences from cedar-policy-core
+///
+/// The original has no such function.
 #[inline(always)]
 pub fn uid_of_text(
     alloc: Global,
@@ -229,8 +277,8 @@ pub fn uid_of_text(
     ensures { IfOk result (ReadsAs (λ (u : EntityUID). IsPrinted (uid_parts u) text.now) (λ u. u)) }
 {
     let Some((one, eid)) = known_halves(&known.types, text) else {
-        // What is read moves here by itself, so that a uid of a known type need not.
-        if let Some(uid) = read_uid(alloc, &mut known.types, text)? {
+        // This function reads uids of cached types without a further move. Only the result of `read_uid` is moved.
+        if let Some(uid) = read_uid(alloc, known, text)? {
             return Ok(Some(uid));
         }
         return Ok(None);
@@ -240,9 +288,21 @@ pub fn uid_of_text(
     Ok(Some(uid_of_parts(ty, eid)))
 }
 
-/// What [`uid_of_text`] answers. Where the type is known the eid stands in the room of a text, which is taken.
+/// Reads a field as a uid, as [`uid_of_text`] does. If the type is cached, the eid is written into the buffer of
+/// `room`, which is moved into the uid.
 ///
-/// Takes memory as that does, for the eid only where there is less room than it needs. It is this project's own.
+/// # Errors
+///
+/// Returns `AllocError` if an allocation fails.
+///
+/// # Complexity
+///
+/// O(n), where n is the length of the field and of the texts of the cached types. Allocates as [`uid_of_text`] does,
+/// but the eid only if the buffer is too small.
+///
+/// # Differences from cedar-policy-core
+///
+/// The original has no such function.
 pub fn uid_in(
     alloc: Global,
     known: &mut KnownTypes,
@@ -252,7 +312,7 @@ pub fn uid_in(
     ensures { IfOk result (ReadsAs (λ (u : EntityUID). IsPrinted (uid_parts u) text.now) (λ u. u)) }
 {
     let Some((one, eid)) = known_halves(&known.types, text) else {
-        return read_uid(alloc, &mut known.types, text);
+        return read_uid(alloc, known, text);
     };
     let ty = type_of(one)?;
     let eid = text_in(alloc, room, eid)?;

@@ -1,5 +1,5 @@
-// Bytes and tabs of a line, sixteen at a time. Most lines have from 16 to 64 bytes: a look at each costs some six
-// instructions, and vectors of more bytes do not fit into them.
+// Checks of the bytes of a line and masks of its tabs, sixteen bytes at a time. Most lines have 16 to 64 bytes. One
+// step costs about six instructions, and wider vectors would not fit into such lines.
 ghost use Rattle.std.specs.Prelude.{◌≡◌, ◌≢◌, ℕ, ◌+◌, ◌<◌, ◌≤◌, IfSome, IsTrue, length};
 ghost use Rattle.std.specs.Int.{bit_at};
 ghost use Rattle.cedar_lines.specs.Lines.{HasLineBytesIn};
@@ -7,19 +7,20 @@ ghost use Rattle.cedar_lines.specs.laws.Fields.{MarksTabs};
 
 use std::simd::prelude::*;
 
-// Whether each of the 16 bytes from a place on is a tab or printable ASCII.
+// Returns whether each of the 16 bytes from a place on is a tab or printable ASCII.
 #[inline(always)]
 fn has_line_bytes_at(line: &[u8], at: usize) -> bool
     requires { at + 16 ≤ length line.now }
     ensures { IsTrue result → HasLineBytesIn line.now at (at + 16) }
 {
     let v = u8x16::from_slice(&line[at..]);
-    // Those below a blank come out above the others.
+    // Bytes below a blank become larger than all others.
     let from_blank = v - u8x16::splat(b' ');
     (from_blank.simd_gt(u8x16::splat(94)) & v.simd_ne(u8x16::splat(b'\t'))).to_bitmask() == 0
 }
 
-// Whether each byte of a line of 16 or more is a tab or printable ASCII. The last sixteen may have been seen in part.
+// Returns whether each byte of a line is a tab or printable ASCII. The line has at least 16 bytes. The last sixteen may
+// overlap the bytes before them.
 #[inline(always)]
 pub(crate) fn has_line_bytes(line: &[u8]) -> bool
     requires { 16 ≤ length line.now }
@@ -35,7 +36,7 @@ pub(crate) fn has_line_bytes(line: &[u8]) -> bool
     has_line_bytes_at(line, line.len() - 16)
 }
 
-// The tabs among the 16 bytes from a place on.
+// Returns a mask of the tabs among the 16 bytes from a place on.
 #[inline(always)]
 fn tabs_at(line: &[u8], at: usize) -> u64
     requires { at + 16 ≤ length line.now }
@@ -46,7 +47,7 @@ fn tabs_at(line: &[u8], at: usize) -> u64
         .to_bitmask()
 }
 
-// The tabs among fewer than 16 bytes, one by one.
+// Returns a mask of the tabs among fewer than 16 bytes, which are checked one by one.
 fn tabs_of_few(bytes: &[u8]) -> u64
     requires { length bytes.now < 16 }
     ensures { MarksTabs bytes.now 0 (length bytes.now) result }
@@ -60,7 +61,7 @@ fn tabs_of_few(bytes: &[u8]) -> u64
     tabs
 }
 
-// The tabs among at most 64 bytes. The last sixteen may have been seen in part.
+// Returns a mask of the tabs among at most 64 bytes. The last sixteen may overlap the bytes before them.
 #[inline(always)]
 fn tabs_of(bytes: &[u8]) -> u64
     requires { length bytes.now ≤ 64 }
@@ -79,8 +80,8 @@ fn tabs_of(bytes: &[u8]) -> u64
     tabs | (tabs_at(bytes, last) << last)
 }
 
-// The tabs of a line of 16 to 64 bytes, if each of its bytes is a tab or printable ASCII: one look at each does for both.
-// The last sixteen may have been seen in part.
+// Returns a mask of the tabs of a line, if each byte is a tab or printable ASCII. The line has 16 to 64 bytes. One scan
+// does both. The last sixteen bytes may overlap the bytes before them.
 #[inline(always)]
 pub(crate) fn tabs_of_line(line: &[u8]) -> Option<u64>
     requires long { 16 ≤ length line.now }
@@ -104,7 +105,7 @@ pub(crate) fn tabs_of_line(line: &[u8]) -> Option<u64>
     None
 }
 
-// The tabs from a place up to another, at most 64 bytes on.
+// Returns a mask of the tabs from one place to another, which is at most 64 bytes further.
 #[inline(always)]
 pub(crate) fn tabs_in(line: &[u8], from: usize, to: usize) -> u64
     requires ordered { from ≤ to }
@@ -115,7 +116,7 @@ pub(crate) fn tabs_in(line: &[u8], from: usize, to: usize) -> u64
     tabs_of(&line[from..to])
 }
 
-// The place of the lowest bit of a mask.
+// Returns the place of the lowest bit of a mask.
 #[inline(always)]
 pub(crate) fn lowest_bit(mask: u64) -> usize
     requires { mask ≢ 0 }
@@ -126,7 +127,7 @@ pub(crate) fn lowest_bit(mask: u64) -> usize
     mask.trailing_zeros() as usize
 }
 
-// A mask without one of its bits.
+// Returns a mask without one of its bits.
 #[inline(always)]
 pub(crate) fn without_bit(mask: u64, bit: usize) -> u64
     requires bound { bit < 64 }
@@ -138,7 +139,7 @@ pub(crate) fn without_bit(mask: u64, bit: usize) -> u64
     mask & !(1 << bit)
 }
 
-// A mask with one more bit.
+// Returns a mask with one more bit.
 #[inline(always)]
 fn with_bit(mask: u64, bit: usize) -> u64
     requires { bit < 64 }

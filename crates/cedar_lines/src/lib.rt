@@ -1,9 +1,9 @@
-//! What the program's lines share: the fields of a line, a field that is a uid, the types that such fields name, texts in
-//! the room of others, and a line that is written.
+//! The parts that all lines of the program share: fields, uids as fields, cached entity types, texts in reused buffers,
+//! and output lines.
 //!
-//! `specs/Lines.antt` says which bytes a line may have and how a line is written, `specs/Reads.antt` what reading
-//! answers. The lines on the store are those of `cedar_entity_lines`, those on policy sets those of
-//! `cedar_policy_lines`.
+//! The commands on the store are in `cedar_entity_lines`, and the commands on policy sets in `cedar_policy_lines`.
+//! `specs/Lines.antt` defines the bytes of a line and of an output line. `specs/Reads.antt` defines the result of
+//! reading.
 #![tactic(auto)]
 
 mod eid_bytes;

@@ -8,8 +8,8 @@ ghost use Rattle.cedar_lines.specs.laws.Fields.{HasNoTabIn, MarksTabs, block_end
 use crate::lanes::{has_line_bytes, lowest_bit, tabs_in, tabs_of_line, without_bit};
 use std::alloc::AllocError;
 
-// Puts the fields that end at tabs behind those before. The tabs are those from a place on, up to 64 bytes behind it or
-// to the end of the line. The first of the fields begins at `start`. Where the field after them begins.
+// Appends the fields that end at the tabs of a block, and returns the start of the field after them. The block has up
+// to 64 bytes from the place `from` on, and `tabs` is the mask of its tabs. The first field starts at `start`.
 #[inline(always)]
 fn push_fields<'a>(
     fields: &mut Vec<&'a str>,
@@ -39,7 +39,7 @@ fn push_fields<'a>(
     Ok(next)
 }
 
-// Puts the fields between the tabs of a line of at most 64 bytes in the place of those before. The tabs are marked.
+// Replaces `fields` by the fields of a line of at most 64 bytes, given the mask of its tabs.
 #[inline(always)]
 fn set_marked_fields<'a>(
     fields: &mut Vec<&'a str>,
@@ -57,7 +57,7 @@ fn set_marked_fields<'a>(
     Ok(())
 }
 
-// Puts the fields between the tabs of a line in the place of those before.
+// Replaces `fields` by the fields of a line.
 fn set_fields<'a>(fields: &mut Vec<&'a str>, line: &'a str) -> Result<(), AllocError>
     requires { IsAscii line.now }
     ensures { OnOk result (map (λ x. x.now) fields.new.items ≡ slice_split (λ b. b == 9) line.now) }
@@ -75,15 +75,15 @@ fn set_fields<'a>(fields: &mut Vec<&'a str>, line: &'a str) -> Result<(), AllocE
     Ok(())
 }
 
-// Whether a byte is a tab or printable ASCII.
+// Returns whether a byte is a tab or printable ASCII.
 fn is_line_byte(b: u8) -> bool
     ensures { result ≡ is_line_byte b }
 {
     b == b'\t' || (32 <= b && b <= 126)
 }
 
-// Whether a line has tabs and printable ASCII alone. A short one is gone through to its end, which costs less a byte
-// than to stop at the first that is neither.
+// Returns whether a line has only tabs and printable ASCII characters. A short line is scanned to its end. That costs
+// less for each byte than a loop that stops early.
 fn has_line_bytes_alone(line: &[u8]) -> bool
     ensures { result ≡ list_all is_line_byte line.now }
 {
@@ -97,7 +97,7 @@ fn has_line_bytes_alone(line: &[u8]) -> bool
     is_readable
 }
 
-// The tabs of a line that is neither short nor long, if it has tabs and printable ASCII alone.
+// Returns a mask of the tabs of a line of 16 to 64 bytes, if it has only tabs and printable ASCII characters.
 #[inline(always)]
 fn tabs_of_some(line: &[u8]) -> Option<u64>
     ensures few { IfSome result (λ _tabs. length line.now ≤ 64) }
@@ -110,17 +110,17 @@ fn tabs_of_some(line: &[u8]) -> Option<u64>
     None
 }
 
-// The text that a line is.
+// Returns a line as a string.
 #[inline(always)]
 fn text_of(line: &[u8]) -> &str
     requires { list_all is_line_byte line.now ≡ true }
     ensures { result.now ≡ line.now }
 {
-    // SAFETY: such bytes are ASCII and so a text, which the check proves.
+    // SAFETY: these bytes are ASCII and so valid UTF-8, which the contract proves.
     unsafe { str::from_utf8_unchecked(line) }
 }
 
-// What `read_fields` does with any line.
+// Reads a line of any length as `read_fields` does.
 #[inline(never)]
 fn read_others<'a>(fields: &mut Vec<&'a str>, line: &'a [u8]) -> Result<bool, AllocError>
     ensures readable { IfOk result (λ is_readable. is_readable ≡ list_all is_line_byte line.now) }
@@ -134,11 +134,20 @@ fn read_others<'a>(fields: &mut Vec<&'a str>, line: &'a [u8]) -> Result<bool, Al
     Ok(true)
 }
 
-/// Whether a line has tabs and printable ASCII alone. If it has, what stands between its tabs takes the place of the
-/// fields.
+/// Checks whether a line has only tabs and printable ASCII characters. If so, replaces `fields` by the texts between
+/// its tabs.
 ///
-/// Takes memory where there is no room for as many fields, and is refused only where that is; then nothing is said of
-/// the fields. Its cost is linear in the line. It is this project's own.
+/// # Errors
+///
+/// Returns `AllocError` if an allocation fails. The content of `fields` is then unspecified.
+///
+/// # Complexity
+///
+/// O(n), where n is the length of the line. Allocates only if `fields` has not enough capacity.
+///
+/// # Differences from cedar-policy-core
+///
+/// The original has no such function.
 pub fn read_fields<'a>(fields: &mut Vec<&'a str>, line: &'a [u8]) -> Result<bool, AllocError>
     ensures readable { IfOk result (λ is_readable. is_readable ≡ list_all is_line_byte line.now) }
     ensures fields { IfOk result (λ is_readable. IsTrue is_readable →

@@ -1,14 +1,24 @@
-//! Texts in the room of others: what comes and goes with each line asks for memory once.
+//! Texts in reused buffers, so that values which are created for each line allocate once.
 ghost use Rattle.std.specs.Prelude.{◌≡◌, IfOk};
 ghost use Rattle.std.specs.String.{string_bytes};
 
 use std::alloc::{AllocError, Global};
 use std::mem;
 
-/// A copy of a text in the room of another, which is taken; where that has none, in its own.
+/// Copies a text into the buffer of `room`, and returns it. `room` is empty afterwards. If `room` has no buffer, the
+/// copy gets one of its own.
 ///
-/// Takes memory where there is less room than the text needs, and is refused only where that is. It is this project's
-/// own.
+/// # Errors
+///
+/// Returns `AllocError` if an allocation fails.
+///
+/// # Complexity
+///
+/// O(n), where n is the length of the text. Allocates only if the buffer is too small.
+///
+/// # Differences from cedar-policy-core
+///
+/// The original has no such function.
 #[inline(always)]
 pub fn text_in(alloc: Global, room: &mut String, text: &str) -> Result<String, AllocError>
     ensures { IfOk result (λ t. string_bytes t ≡ text.now) }
@@ -19,7 +29,7 @@ pub fn text_in(alloc: Global, room: &mut String, text: &str) -> Result<String, A
     refilled(alloc, room, text)
 }
 
-// A copy of a text in the room of another, which is taken.
+// Copies a text into the buffer of `room`.
 #[inline(never)]
 fn refilled(alloc: Global, room: &mut String, text: &str) -> Result<String, AllocError>
     ensures { IfOk result (λ t. string_bytes t ≡ text.now) }

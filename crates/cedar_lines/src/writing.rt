@@ -1,13 +1,22 @@
-//! Writing a line.
+//! Output lines.
 ghost use Rattle.std.specs.Prelude.{◌≡◌, ◌++◌, OnOk};
 ghost use Rattle.cedar_lines.specs.Lines.{written_line};
 
 use std::alloc::AllocError;
 
-/// Adds a text and a line feed to what is written.
+/// Appends a text and a line feed to the output.
 ///
-/// Takes memory where there is no room for them, and is refused only where that is; then nothing is said of what was
-/// added. Its cost is linear in the text. It is this project's own.
+/// # Errors
+///
+/// Returns `AllocError` if an allocation fails. The bytes appended to `out` are then unspecified.
+///
+/// # Complexity
+///
+/// O(n), where n is the length of the text. Allocates only if `out` has not enough capacity.
+///
+/// # Differences from cedar-policy-core
+///
+/// The original has no such function.
 pub fn push_line(out: &mut Vec<u8>, text: &str) -> Result<(), AllocError>
     ensures { OnOk result (out.new.items ≡ out.old.items ++ written_line text.now) }
 {

@@ -1,4 +1,4 @@
--- Policy sets that `==` finds equal are the same.
+-- Policy sets that `==` reports as equal are equal.
 use Rattle.std.specs.Prelude.{◌≡◌, true}
 use Rattle.std.specs.Cmp.{first_so, second_so}
 use Rattle.std.specs.Cmp.Lexicographic.{pointwise, pointwise_decides}
@@ -9,7 +9,6 @@ use Rattle.cedar_policy.specs.laws.PolicyLaws.{same_policy_decides}
 use Rattle.cedar_policy_maps.specs.PolicySets.{SetParts}
 use Rattle.cedar_policy_set.specs.SetEquality.{same_policy_set}
 
--- two sets that are equal are the same
 pub same_set_is : (a b : SetParts) → same_policy_set a b ≡ true → a ≡ b
 same_set_is a b h =
     let both = pointwise same_body a.bodies b.bodies in

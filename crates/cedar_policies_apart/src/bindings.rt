@@ -1,10 +1,10 @@
-//! Copies of what slots are bound to, which share nothing with what they are copies of.
+//! Deep copies of the bindings of slots.
 use cedar_apart::uid_apart;
 use cedar_binding::{SlotEnv, bound_to, no_bindings};
 use cedar_terms::slot::SlotId;
 use std::alloc::{AllocError, Global};
 
-// Binds a slot as it is bound elsewhere, if it is.
+// Binds a slot as in `values`, if it is bound there.
 fn bind_as(
     alloc: Global,
     own: &mut SlotEnv,
@@ -17,7 +17,7 @@ fn bind_as(
     Ok(())
 }
 
-// A copy of bindings.
+// Copies bindings.
 pub(crate) fn bindings_apart(alloc: Global, values: &SlotEnv) -> Result<SlotEnv, AllocError> {
     let mut own = no_bindings(alloc);
     bind_as(alloc, &mut own, values, SlotId::Principal)?;

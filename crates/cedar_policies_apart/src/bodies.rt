@@ -1,4 +1,4 @@
-//! Copies of bodies of policies and templates, which share nothing with what they are copies of.
+//! Deep copies of the bodies of policies and templates.
 ghost use Rattle.std.specs.Prelude.{◌≡◌, IfOk};
 ghost use Rattle.std.specs.Option.{option_copied};
 
@@ -12,7 +12,7 @@ use cedar_scope::{PrincipalConstraint, ResourceConstraint};
 use cedar_terms::Expr;
 use std::alloc::{AllocError, Global};
 
-// A copy of the key of an annotation.
+// Copies the key of an annotation.
 fn key_apart(alloc: Global, key: &AnyId) -> Result<AnyId, AllocError>
     ensures { IfOk result (λ k. k ≡ key.now) }
 {
@@ -22,7 +22,7 @@ fn key_apart(alloc: Global, key: &AnyId) -> Result<AnyId, AllocError>
     }
 }
 
-// A copy of an annotation. It has no location.
+// Copies an annotation, without its location.
 fn annotation_apart(alloc: Global, annotation: &Annotation) -> Result<Annotation, AllocError>
     ensures { IfOk result (λ a. a ≡ annotation.now) }
 {
@@ -30,7 +30,7 @@ fn annotation_apart(alloc: Global, annotation: &Annotation) -> Result<Annotation
     Ok(Annotation { val, loc: None })
 }
 
-// Copies of annotations, with their keys.
+// Copies annotations, with their keys.
 fn annotations_apart(alloc: Global, annotations: Iter<'_>) -> Result<Annotations, AllocError> {
     let mut own = Vec::new(alloc);
     for (key, annotation) in annotations {
@@ -41,7 +41,7 @@ fn annotations_apart(alloc: Global, annotations: Iter<'_>) -> Result<Annotations
     Annotations::try_from_iter(alloc, own)
 }
 
-// A copy of a clause, if there is one.
+// Copies a clause, if there is one.
 fn clause_apart(alloc: Global, clause: Option<&Expr>) -> Result<Option<Expr>, AllocError>
     ensures { IfOk result (λ c. c ≡ option_copied clause.entry) }
 {
@@ -54,7 +54,7 @@ fn clause_apart(alloc: Global, clause: Option<&Expr>) -> Result<Option<Expr>, Al
     }
 }
 
-// A copy of a template.
+// Copies a template.
 pub(crate) fn template_apart(alloc: Global, template: &Template) -> Result<Template, AllocError> {
     let annotations = annotations_apart(alloc, template.annotations())?;
     let principal = constraint_apart(alloc, template.principal_constraint().as_inner())?;
@@ -74,7 +74,7 @@ pub(crate) fn template_apart(alloc: Global, template: &Template) -> Result<Templ
     )
 }
 
-// A static policy of its own, with a body that has no slot. Where the body has one, it is refused.
+// Copies a static policy. Returns an error if the body has a slot.
 pub(crate) fn static_apart(alloc: Global, template: &Template) -> Result<StaticPolicy, AllocError> {
     let annotations = annotations_apart(alloc, template.annotations())?;
     let principal = constraint_apart(alloc, template.principal_constraint().as_inner())?;

@@ -1,4 +1,4 @@
-//! Copies of what principal, action and resource have to be, which share nothing with what they are copies of.
+//! Deep copies of the constraints of principal, action and resource.
 ghost use Rattle.std.specs.Prelude.{◌≡◌, IfOk, map};
 ghost use Rattle.cedar_ids.specs.UidOf.{uid_parts};
 ghost use Rattle.cedar_ids.specs.Views.{type_name};
@@ -12,7 +12,7 @@ use cedar_scope::{EntityReference, PrincipalOrResourceConstraint};
 use std::alloc::{AllocError, Global};
 use std::rc::Rc;
 
-// A copy of a uid, to be shared within the copy.
+// Copies a uid, to be shared within the copy.
 fn own_uid(alloc: Global, uid: &EntityUID) -> Result<Rc<EntityUID>, AllocError>
     ensures { IfOk result (λ u. uid_parts u.value ≡ uid_parts uid.now) }
 {
@@ -21,7 +21,7 @@ fn own_uid(alloc: Global, uid: &EntityUID) -> Result<Rc<EntityUID>, AllocError>
     Ok(own)
 }
 
-// A copy of a type, to be shared within the copy.
+// Copies a type, to be shared within the copy.
 fn own_type(alloc: Global, ty: &EntityType) -> Result<Rc<EntityType>, AllocError>
     ensures { IfOk result (λ t. type_name t.value ≡ type_name ty.now) }
 {
@@ -30,7 +30,7 @@ fn own_type(alloc: Global, ty: &EntityType) -> Result<Rc<EntityType>, AllocError
     Ok(own)
 }
 
-// A copy of what is referred to.
+// Copies a reference to a uid or a slot.
 fn reference_apart(
     alloc: Global,
     reference: &EntityReference,
@@ -46,7 +46,7 @@ fn reference_apart(
     }
 }
 
-// A copy of what a principal or a resource has to be.
+// Copies the constraint of a principal or a resource.
 pub(crate) fn constraint_apart(
     alloc: Global,
     constraint: &PrincipalOrResourceConstraint,
@@ -75,7 +75,7 @@ pub(crate) fn constraint_apart(
     }
 }
 
-// Copies of uids.
+// Copies uids.
 fn uids_apart(alloc: Global, uids: &[Rc<EntityUID>]) -> Result<Vec<EntityUID>, AllocError>
     ensures { IfOk result (λ v. map uid_parts v.items ≡ map (λ u. uid_parts u.value) uids.now) }
 {
@@ -87,7 +87,7 @@ fn uids_apart(alloc: Global, uids: &[Rc<EntityUID>]) -> Result<Vec<EntityUID>, A
     Ok(own)
 }
 
-// A copy of what an action has to be.
+// Copies the constraint of an action.
 pub(crate) fn rule_apart(
     alloc: Global,
     rule: &ActionConstraint,

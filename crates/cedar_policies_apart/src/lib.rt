@@ -1,4 +1,4 @@
-//! Copies of policy sets that share nothing with what they are copies of, so that they may go to another thread.
+//! Deep copies of policy sets. A copy can be sent to another thread.
 //!
 //! Proved: a copy is equal to its source.
 #![tactic(auto)]

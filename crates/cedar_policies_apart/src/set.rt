@@ -1,4 +1,4 @@
-//! Copies of policy sets.
+//! Deep copies of policy sets.
 ghost use Rattle.std.specs.Prelude.{◌≡◌, IfOk};
 
 use crate::bindings::bindings_apart;
@@ -10,7 +10,7 @@ use cedar_policy_set::PolicySet;
 use std::alloc::{AllocError, Global};
 use std::hash::BuildHasher;
 
-// Links a template, and keeps the link in the set alone.
+// Links a template. Drops the returned policy.
 fn link<S: BuildHasher + Copy>(
     alloc: Global,
     set: &mut PolicySet<S>,
@@ -22,7 +22,7 @@ fn link<S: BuildHasher + Copy>(
     Ok(())
 }
 
-// A link joins, as another set has it.
+// Adds a copy of a link to `own`.
 fn join_link<S: BuildHasher + Copy>(
     alloc: Global,
     own: &mut PolicySet<S>,
@@ -36,7 +36,7 @@ fn join_link<S: BuildHasher + Copy>(
     }
 }
 
-// The links that come before the policy with an id join, in their order.
+// Adds copies of the links before the policy with an id, in order.
 fn join_links_before<S: BuildHasher + Copy>(
     alloc: Global,
     own: &mut PolicySet<S>,
@@ -52,7 +52,7 @@ fn join_links_before<S: BuildHasher + Copy>(
     Ok(())
 }
 
-// The links that are left join, in their order.
+// Adds copies of the remaining links, in order.
 fn join_links<S: BuildHasher + Copy>(
     alloc: Global,
     own: &mut PolicySet<S>,
@@ -64,7 +64,7 @@ fn join_links<S: BuildHasher + Copy>(
     Ok(())
 }
 
-// A template joins.
+// Adds a copy of a template.
 fn join_template<S: BuildHasher + Copy>(
     alloc: Global,
     own: &mut PolicySet<S>,
@@ -77,7 +77,7 @@ fn join_template<S: BuildHasher + Copy>(
     }
 }
 
-// A static policy joins.
+// Adds a copy of a static policy.
 fn join_static<S: BuildHasher + Copy>(
     alloc: Global,
     own: &mut PolicySet<S>,
@@ -90,7 +90,7 @@ fn join_static<S: BuildHasher + Copy>(
     }
 }
 
-// What a set binds, bound once more in its orders: before each static policy the links that come before it.
+// Builds a copy of a set in the order of its bodies and policies. The links before a static policy are added before it.
 fn bound_apart<S: BuildHasher + Copy>(
     alloc: Global,
     set: &PolicySet<S>,
@@ -109,12 +109,19 @@ fn bound_apart<S: BuildHasher + Copy>(
     Ok(own)
 }
 
-/// A copy of a policy set, which shares nothing with it, and has no locations. It hashes ids as the set does. What was
-/// made is compared with the set, so that what is given is equal to it.
+/// Returns a deep copy of a policy set, without locations. It has the same hasher builder. The copy is compared with
+/// the set, so it is equal.
 ///
-/// It takes memory, and is refused where that is. It is also refused where a clause has more than `CEDAR_LEVELS` levels,
-/// which none has that came as nodes, and where a link stands before a static policy though its template stands behind
-/// that one: no set that calls made one after another is such a one. It walks the set, and writes and reads each clause.
+/// # Errors
+///
+/// - `AllocError`: an allocation failed.
+/// - `AllocError`: a clause has more than `CEDAR_LEVELS` levels. A clause that was decoded from nodes never has.
+/// - `AllocError`: a link comes before a static policy, and its template comes after that policy. A set that was built by
+///   single calls never has such a link.
+///
+/// # Complexity
+///
+/// Visits the whole set, and encodes and decodes each clause.
 pub fn set_apart<S: BuildHasher + Copy>(
     alloc: Global,
     set: &PolicySet<S>,

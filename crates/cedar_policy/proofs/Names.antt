@@ -1,4 +1,4 @@
--- The uid that reading a text answers, among those with an ASCII eid.
+-- The uid that is parsed from a text, among the uids with an ASCII eid.
 use Rattle.std.proofs.Common.{◌≡◌, ℕ, List, Bool, true, false, ◌&&◌, refl, sym, ap, subst, ◌∙◌}
 use Rattle.std.proofs.lemmas.Bool.{false≢true}
 use Rattle.std.specs.List.{list_all}
@@ -24,7 +24,7 @@ each_true true true h = (refl, refl)
 each_true true false h = absurd (cc)
 each_true false q h = absurd (cc)
 
--- the test says what the relation says
+-- `is_printed_uid` is true if `IsPrinted` holds.
 is_printed_true : (u : UidParts) (text : List ℕ) → IsPrinted u text → is_printed_uid u text ≡ true
 is_printed_true u text h =
     both_true _ _ (both_true _ _ (both_true _ _ h.0.0 h.0.1) h.1) ((same_text_decides text (printed_uid u)).1 h.2)
@@ -38,7 +38,7 @@ printed_where_true u text h =
       (same_text_decides text (printed_uid u)).0 outer.1,
     )
 
--- a uid that was read is that of the text, and of no other text with an ASCII eid
+-- A parsed uid with an ASCII eid is the only uid with that text.
 pub reads_only : (v : EntityUID) (text : List ℕ) → (is_ascii (uid_parts v).eid ≡ true → IsPrinted (uid_parts v) text)
     → ((u : EntityUID) → IsPrinted (uid_parts u) text → v ≡ u)
     → (u : EntityUID) → is_ascii (uid_parts u).eid ≡ true → same_uid v u ≡ is_printed_uid (uid_parts u) text
@@ -50,7 +50,7 @@ reads_only v text printed exact u ascii =
     (λ w. IsPrinted (uid_parts w) text) same (printed (ap (λ w. is_ascii (uid_parts w).eid) same ∙ ascii))))
     (λ e. (same_uid_decides v u).1 (exact u (printed_where_true (uid_parts u) text e)))
 
--- what is read as no uid is the text of none with an ASCII eid
+-- A text from which no uid is parsed is not the printed form of a uid with an ASCII eid.
 pub reads_none : (text : List ℕ) → ((u : EntityUID) → IsPrinted (uid_parts u) text → ⊥) → (u : EntityUID)
     → is_ascii (uid_parts u).eid ≡ true → false ≡ is_printed_uid (uid_parts u) text
 reads_none text none u ascii =

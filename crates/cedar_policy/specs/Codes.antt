@@ -1,4 +1,4 @@
--- How a proof tells policies apart.
+-- The code by which a proof distinguishes policies.
 use Rattle.std.specs.Prelude.{ℕ, List, Option, refl}
 use Rattle.std.specs.Coded.{Coded, code_by, coded×, coded_option}
 use Rattle.cedar_ids.specs.Codes.{text_code}
@@ -8,7 +8,7 @@ use Rattle.cedar_binding.specs.Bindings.{EnvParts}
 use Rattle.cedar_binding.specs.Codes.{env_code}
 use Rattle.cedar_policy.specs.Policies.{PolicyParts}
 
--- a policy: its template, its link and its bindings
+-- The code of a policy: its template, its link and its bindings.
 abbrev pub policy_code : Coded PolicyParts
 policy_code =
     code_by (BodyParts × (Option (List ℕ) × EnvParts)) (coded× body_code (coded× (coded_option text_code) env_code))

@@ -1,4 +1,4 @@
--- The faults of a template as callers see them: no location is in them.
+-- The errors of validating a template as callers see them. Locations are not part of them.
 use Rattle.std.specs.Prelude.{List, map}
 use Rattle.cedar_ids.specs.NonEmpties.{all_of}
 use Rattle.cedar_ids.specs.Uid.{UidParts}
@@ -10,8 +10,8 @@ use Rattle.cedar_policy.specs.declared.err.TemplateValidationError.TheVariants.{
 use Rattle.cedar_policy.specs.declared.err.TemplateValidationError.TheVariants.{InvalidActionType, SlotCacheMismatch}
 use Rattle.cedar_policy.specs.declared.err.TemplateValidationError.TheVariants.{InvalidExpression, Memory}
 
--- a slot in the clause, uids that are no actions, slots that are not those of the condition, a clause that is
--- not valid, and want of memory
+-- An error of validation: a slot in the clause, uids that are not actions, inconsistent slots, an invalid clause, or an
+-- allocation failure.
 pub data Fault : Type 0 where
   slot_in_clause : SlotId → Fault
   no_actions : List UidParts → Fault
@@ -19,7 +19,7 @@ pub data Fault : Type 0 where
   invalid_clause : ExprValidationError → Fault
   no_memory : Fault
 
--- the fault that a refusal names
+-- The error as callers see it.
 abbrev pub fault_of : TemplateValidationError → Fault
 fault_of (SlotsInConditionClause s) = slot_in_clause s
 fault_of (InvalidActionType us) = no_actions (map (λ u. uid_parts u.value) (all_of us))

@@ -1,4 +1,4 @@
--- A policy as callers see it: a static policy, or a link. No location is in it.
+-- A policy as callers see it: a static policy or a link. Locations are not part of it.
 use Rattle.std.specs.Prelude.{◌≡◌, ℕ, List, [], Option, Some, None}
 use Rattle.std.specs.Option.{option_map, unwrap_or}
 use Rattle.cedar_ids.specs.Uid.{UidParts}
@@ -13,21 +13,21 @@ use Rattle.cedar_body.specs.Bodies.{BodyParts, body_slots, with_id}
 use Rattle.cedar_body.specs.declared.effect.Effect.{Effect}
 use Rattle.cedar_binding.specs.Bindings.{EnvParts, no_env, FitsSlots}
 
--- its template, its own id where it is a link, and what it binds
+-- The parts of a policy: its template, its own id if it is a link, and its bindings.
 pub record PolicyParts : Type 0 where
   pub template : BodyParts
   pub link : Option (List ℕ)
   pub env : EnvParts
 
--- its id: that of the link, else that of the template
+-- The id of a policy: the link's id, or the template's id for a static policy.
 abbrev pub policy_id : PolicyParts → List ℕ
 policy_id p = unwrap_or p.link p.template.id
 
--- the static policy of a body
+-- The static policy of a body.
 abbrev pub static_policy : BodyParts → PolicyParts
 static_policy b = record { template = b; link = None; env = no_env }
 
--- a body that constrains nothing
+-- The body with these parts, whose scope constraints allow any request.
 abbrev pub unconstrained : List ℕ → AnnotationsView → Effect → ExprTree → BodyParts
 unconstrained i a f e =
     record {
@@ -41,43 +41,43 @@ unconstrained i a f e =
           Some e;
     }
 
--- what holds of each policy: the bound ids are the ids of its template's slots, the action's, if it is one of them, is
--- bound to an action, and what is no link has none
+-- The invariant of policies. The bindings fit the slots of the template, and a policy without a link has a template
+-- without slots.
 pub record IsPolicy (p : PolicyParts) : Type 0 where
   pub total : FitsSlots (body_slots p.template) p.env
   pub unlinked : p.link ≡ None → body_slots p.template ≡ []
 
--- another id for a policy whose link is this: the template's where there is none, else the link's
+-- The policy with another id: the template gets the new id if there is no link, else the link gets it.
 abbrev pub renamed : List ℕ → Option (List ℕ) → PolicyParts → PolicyParts
 renamed i None p = record { template = with_id i p.template; link = None; env = p.env }
 renamed i (Some l) p = record { template = p.template; link = Some i; env = p.env }
 
--- the same policy under another id
+-- The same policy with another id.
 abbrev pub with_policy_id : List ℕ → PolicyParts → PolicyParts
 with_policy_id i p = renamed i p.link p
 
--- the same link, its template under another id; none where it is no link
+-- The same link, with another id for its template. `None` for a static policy.
 abbrev pub with_template_id : List ℕ → PolicyParts → Option PolicyParts
 with_template_id i p = option_map (λ l. record { template = with_id i p.template; link = Some l; env = p.env }) p.link
 
--- a constraint with its slot filled, where that is bound
+-- The constraint with its slot filled, if a uid is bound to the slot.
 abbrev pub filled_by : Option UidParts → Constraint → Constraint
 filled_by None c = c
 filled_by (Some u) c = filled u c
 
--- and so with the constraint of an action
+-- The action constraint with its slot filled, if a uid is bound to the slot.
 abbrev pub filled_rule_by : Option UidParts → ActionRule → ActionRule
 filled_rule_by None a = a
 filled_rule_by (Some u) a = filled_rule u a
 
--- what the principal, the action and the resource of a policy have to be
+-- The constraint on a policy's principal: its template's constraint with the slot filled.
 abbrev pub principal_of : PolicyParts → Constraint
 principal_of p = filled_by (p.env Principal) p.template.principal
 
--- the constraint of a policy's action, with its slot filled
+-- The constraint on a policy's action: its template's constraint with the slot filled.
 abbrev pub action_of : PolicyParts → ActionRule
 action_of p = filled_rule_by (p.env Action) p.template.action
 
--- the constraint of a policy's resource, with its slot filled
+-- The constraint on a policy's resource: its template's constraint with the slot filled.
 abbrev pub resource_of : PolicyParts → Constraint
 resource_of p = filled_by (p.env Resource) p.template.resource

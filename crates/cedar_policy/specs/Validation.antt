@@ -1,4 +1,4 @@
--- What validating a template answers.
+-- The results of validating a template.
 use Rattle.std.specs.Prelude.{◌≡◌, [], map, Option, Some, None, Result, Ok, Err}
 use Rattle.cedar_ids.specs.Name.{NameParts}
 use Rattle.cedar_ids.specs.NonEmpties.{all_of}
@@ -15,22 +15,21 @@ use Rattle.cedar_policy.specs.declared.err.TemplateValidationError.TheVariants.{
 use Rattle.cedar_policy.specs.declared.err.TemplateValidationError.TheVariants.{InvalidActionType, SlotCacheMismatch}
 use Rattle.cedar_policy.specs.declared.err.TemplateValidationError.TheVariants.{InvalidExpression, Memory}
 
--- the first function that a clause calls and that may not be called
+-- The first unknown function that a clause calls, if there is one.
 abbrev pub clause_fault : Option ExprTree → Option NameParts
 clause_fault None = None
 clause_fault (Some e) = first_unknown_function e
 
--- no slot stands in a clause
+-- Whether a clause contains no slot.
 abbrev pub HasPlainClause : Option ExprTree → Type 0
 HasPlainClause c = clause_slots c ≡ []
 
--- and the uids of an action's constraint are those of actions
+-- Whether a clause contains no slot and all uids of an action constraint are actions.
 abbrev pub HasActions : Option ExprTree → ActionRule → Type 0
 HasActions c a = HasPlainClause c × (non_actions a ≡ [])
 
--- the first fault of a clause and an action's constraint: a slot in the clause, the first one; else uids that
--- are no actions, all of them; else a function that is not known, the first one. Want of memory says nothing
--- of them
+-- Whether an error is the first one of a clause and an action constraint. The checks are, in this order: the clause
+-- contains a slot, some uids are not actions, and the clause calls an unknown function. `Memory` implies nothing.
 abbrev pub IsTemplateFault : TemplateValidationError → Option ExprTree → ActionRule → Type 0
 IsTemplateFault (SlotsInConditionClause s) c a = IsFirst s (clause_slots c)
 IsTemplateFault (InvalidActionType us) c a = HasPlainClause c
@@ -40,7 +39,7 @@ IsTemplateFault (InvalidExpression (exprs.UnknownFunction f)) c a = HasActions c
 IsTemplateFault (InvalidExpression exprs.Memory) c a = ⊥
 IsTemplateFault Memory c a = Unit {0}
 
--- the template itself where there is no fault, else the first one
+-- Whether a result is right: the template itself if there is no error, else the first error.
 abbrev pub Validated : Result BodyParts TemplateValidationError → BodyParts → Type 0
 Validated (Ok t) b = HasActions b.clause b.action × (clause_fault b.clause ≡ None) × (t ≡ b)
 Validated (Err e) b = IsTemplateFault e b.clause b.action

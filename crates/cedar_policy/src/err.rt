@@ -1,4 +1,4 @@
-//! Why a body is no static policy, and why a template is not valid.
+//! The errors of creating static policies and of validating templates.
 ghost use Rattle.std.specs.Prelude.{◌≡◌, IfOk, map};
 ghost use Rattle.cedar_ids.specs.NonEmpties.{all_of};
 ghost use Rattle.cedar_ids.specs.UidOf.{uid_parts};
@@ -13,14 +13,18 @@ use std::alloc::{AllocError, AllocFailed};
 use std::rc::Rc;
 use thiserror::Error;
 
-/// Why a body is no static policy. Two refusals are equal where they name the same slot, wherever it stands;
-/// the original has no refusal for memory.
+/// The reason why a body is not a static policy. Two errors are equal if they contain the same slot, regardless of its
+/// location.
+///
+/// # Differences from cedar-policy-core
+///
+/// The original has no variant for allocation failures.
 #[derive(Clone, Debug, Drop, PartialEq, Eq, Error)]
 pub enum UnexpectedSlotError {
-    /// It has this slot: the first one of its condition.
+    /// The body has this slot, which is the first one of its condition.
     #[error("found slot `{}` where slots are not allowed", .0.id)]
     FoundSlot(Slot),
-    /// Memory was refused.
+    /// An allocation failed.
     #[error("out of memory")]
     Memory,
 }
@@ -45,24 +49,28 @@ impl<T: Drop> From<AllocFailed<T>> for UnexpectedSlotError {
     }
 }
 
-/// Why a template is not valid. `clone` takes memory for a list of uids, which are shared, and for a name. The
-/// original has no refusal for memory, and its refusals of slots and actions hold structs of its parser.
+/// The reason why a template is invalid. `clone` allocates for a list of uids, which are shared, and for a name.
+///
+/// # Differences from cedar-policy-core
+///
+/// The original has no variant for allocation failures. In the original, the variants for slots and actions contain
+/// structs of its parser.
 #[derive(Debug, Drop, Error)]
 pub enum TemplateValidationError {
-    /// This slot stands in the clause: it is the first one there.
+    /// The clause contains this slot, which is the first one in it.
     #[error("found slot `{}` in a condition clause", .0.id)]
     SlotsInConditionClause(Slot),
-    /// These uids of the action's constraint, in the order of its list, are not actions.
+    /// These uids of the action constraint are not actions. They are in the order of its list.
     #[error("the action constraint holds uids that are not actions: {}", JoinedUids(.0))]
     InvalidActionType(NonEmpty<Rc<EntityUID>>),
-    /// The slots that a template keeps are not those of its condition. It is never answered, since no such
-    /// template can be made.
+    /// The stored slots of a template differ from the slots of its condition. This error is never returned, because no
+    /// such template can be created.
     #[error("template slot cache is inconsistent with condition expression")]
     SlotCacheMismatch,
-    /// The clause is not valid: it calls a function that is not known.
+    /// The clause is invalid: it calls an unknown function.
     #[error("{0}")]
     InvalidExpression(ExprValidationError),
-    /// Memory was refused.
+    /// An allocation failed.
     #[error("out of memory")]
     Memory,
 }
@@ -112,7 +120,7 @@ impl Clone for TemplateValidationError {
     }
 }
 
-// A list of the same uids, which are shared.
+// Copies a list of uids, which are shared.
 fn copy_of_uids(euids: &NonEmpty<Rc<EntityUID>>) -> Result<NonEmpty<Rc<EntityUID>>, AllocError>
     ensures { IfOk result (λ copy. map (λ u. uid_parts u.value) (all_of copy)
         ≡ map (λ u. uid_parts u.value) (all_of euids.now)) }

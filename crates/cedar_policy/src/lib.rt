@@ -1,13 +1,18 @@
 //! Templates, static policies and links.
 //!
-//! A template is a body with its slots, those of its condition; a static policy is a body without slots; a
-//! policy is a template together with a uid for each of its slots. Contracts see the first two as the parts of
-//! their body and a policy as its template, its own id where it is a link, and its bindings
-//! (`specs/Policies.antt`), never a location. What linking answers stands in `specs/Links.antt`, what makes a
-//! static policy in `specs/Statics.antt`, what validation finds in `specs/Validation.antt`, what a policy
-//! leaves unknown in `specs/Unknowns.antt`, and how it is written in `specs/PolicyTexts.antt`.
+//! A template is a body with the slots of its condition. A static policy is a body without slots. A policy is a
+//! template with a uid for each of its slots.
 //!
-//! The names of the crates of bodies and of bindings are here too.
+//! Contracts see a template and a static policy as the parts of their body. Contracts see a policy as its template, its
+//! own id if it is a link, and its bindings (`specs/Policies.antt`). Contracts see no locations.
+//!
+//! - `specs/Links.antt` specifies linking.
+//! - `specs/Statics.antt` specifies the creation of static policies.
+//! - `specs/Validation.antt` specifies validation.
+//! - `specs/Unknowns.antt` specifies the unknown entities of a policy.
+//! - `specs/PolicyTexts.antt` specifies how policies are printed.
+//!
+//! This crate re-exports the names of the crates for bodies and bindings.
 #![tactic(auto)]
 
 pub mod err;

@@ -42,21 +42,23 @@ use std::hash::{BuildHasher, BuildHasherDefault};
 use std::marker::Model;
 use std::rc::Rc;
 
-/// A policy: a template, which it shares, and a uid for each of its slots. It is a link with an id of its own,
-/// or a static policy, whose template has no slots.
+/// A policy: a shared template with a uid for each of its slots. It is either a link, with an id of its own, or a
+/// static policy, whose template has no slots.
 ///
-/// Contracts see the parts of the template, the id of the link and the bindings, without locations. Equality is
-/// theirs, looks at no location and takes no memory. `clone` shares the template and takes memory for the policy's
-/// own block, the id and the bindings. `Display` writes a static policy as its template; a link by the id of its
-/// template and its bindings, in the order of slots. It takes no memory.
+/// Equality uses the template, the link's id and the bindings. It ignores locations and does not allocate. `clone`
+/// shares the template, and allocates for the policy's own block, the id and the bindings. Contracts see the same
+/// parts, without locations.
 ///
-/// A policy is one pointer, to a block of its own, so that moving one moves little however much stands in it.
+/// `Display` writes a static policy as its template. It writes a link as the id of its template and its bindings, in
+/// the order of slots. Writing does not allocate.
+///
+/// A policy is one pointer to a block of its own, so moving a policy is cheap.
 #[derive(Drop)]
 pub struct Policy {
     parts: Box<Parts>,
 }
 
-// What a policy holds.
+// The parts of a policy.
 #[derive(Drop)]
 struct Parts {
     template: Rc<Template>,
@@ -87,7 +89,7 @@ impl Model for Policy {
 }
 
 impl Policy {
-    // The policy of these parts. Takes memory for its block, and is refused only where that is.
+    // Creates a policy from its parts. Allocates its block.
     pub(crate) fn of(
         alloc: Global,
         template: Rc<Template>,
@@ -108,7 +110,7 @@ impl Policy {
         Ok(Policy { parts })
     }
 
-    // The static policy of a template without slots. Takes memory as `of` does.
+    // Creates the static policy of a template without slots. Allocates its block.
     pub(crate) fn unlinked(alloc: Global, template: Rc<Template>) -> Result<Policy, AllocError>
         requires { body_slots template.value ≡ [] }
         ensures { IfOk result (λ p. p ≡ static_policy template.value) }
@@ -116,8 +118,15 @@ impl Policy {
         Policy::of(alloc, template, None, no_bindings(alloc))
     }
 
-    /// The policy of a static policy. Takes memory to share its body and for the policy's block, and is refused only
-    /// where that is. In the original this is a conversion.
+    /// Creates a policy from a static policy. Its body is moved into a shared template.
+    ///
+    /// # Errors
+    ///
+    /// Returns `AllocError` if an allocation fails.
+    ///
+    /// # Differences from cedar-policy-core
+    ///
+    /// In the original this is a conversion by `From`.
     pub fn from_static(alloc: Global, policy: StaticPolicy) -> Result<Policy, AllocError>
         ensures { IfOk result (λ p. p ≡ static_policy policy) }
     {
@@ -125,11 +134,20 @@ impl Policy {
         Policy::unlinked(alloc, template)
     }
 
-    /// The static policy with this effect, clause and id, that constrains nothing and has no annotations. No slot
-    /// may stand in the clause: in a debug build the original looks and panics.
+    /// Creates a static policy with this effect, clause and id. It has no annotations, and its scope constraints allow
+    /// any request. The caller must ensure that the clause contains no slot.
     ///
-    /// Takes memory to share the clause and the template, to look for slots, linear in the clause, and for the policy's
-    /// block; it is refused only where that is.
+    /// # Errors
+    ///
+    /// Returns `AllocError` if an allocation fails.
+    ///
+    /// # Complexity
+    ///
+    /// O(n), where n is the number of nodes of the clause. Allocates O(n).
+    ///
+    /// # Differences from cedar-policy-core
+    ///
+    /// In a debug build, the original checks the clause for slots and panics if it finds one.
     pub fn from_when_clause(
         alloc: Global,
         effect: Effect,
@@ -145,11 +163,20 @@ impl Policy {
         Policy::from_when_clause_annos(alloc, effect, when, id, loc, annotations)
     }
 
-    /// The static policy with this effect, clause and id and these annotations, that constrains nothing. No slot
-    /// may stand in the clause: in a debug build the original looks and panics.
+    /// Creates a static policy with this effect, clause, id and annotations. Its scope constraints allow any request.
+    /// The caller must ensure that the clause contains no slot.
     ///
-    /// Takes memory to share the template, to look for slots, linear in the clause, and for the policy's block; it is
-    /// refused only where that is.
+    /// # Errors
+    ///
+    /// Returns `AllocError` if an allocation fails.
+    ///
+    /// # Complexity
+    ///
+    /// O(n), where n is the number of nodes of the clause. Allocates O(n).
+    ///
+    /// # Differences from cedar-policy-core
+    ///
+    /// In a debug build, the original checks the clause for slots and panics if it finds one.
     pub fn from_when_clause_annos(
         alloc: Global,
         effect: Effect,
@@ -177,35 +204,43 @@ impl Policy {
         Policy::unlinked(alloc, template)
     }
 
-    /// The template. Takes no memory, as no reader here does but for those of constraints and the condition.
+    /// Returns the template. Does not allocate.
     pub fn template(&self) -> &Template
         ensures { result.now ≡ self.now.template }
     {
         &self.parts.template
     }
 
-    /// The template as it is shared. The original shares it once more, and calls this within its crate alone.
+    /// Returns the shared template. Does not allocate.
+    ///
+    /// # Differences from cedar-policy-core
+    ///
+    /// The original returns a further shared pointer, and this function is private to its crate.
     pub fn template_arc(&self) -> &Rc<Template>
         ensures { result.now.value ≡ self.now.template }
     {
         &self.parts.template
     }
 
-    /// The effect.
+    /// Returns the effect. Does not allocate.
     pub fn effect(&self) -> Effect
         ensures { result ≡ self.now.template.effect }
     {
         self.parts.template.effect()
     }
 
-    /// The annotation at a key, if there is one; the cost is logarithmic in their number.
+    /// Returns the annotation with this key, if there is one. Does not allocate.
+    ///
+    /// # Complexity
+    ///
+    /// O(log n), where n is the number of annotations.
     pub fn annotation(&self, key: &AnyId) -> Option<&Annotation>
         ensures { option_map (λ a. a.now) result ≡ value_at key.now self.now.template.annotations }
     {
         self.parts.template.annotation(key)
     }
 
-    /// All annotations with their keys, by key.
+    /// Iterates over the annotations with their keys, in ascending order of the keys. Does not allocate.
     pub fn annotations(&self) -> Iter<'_>
         ensures pairs { result ≡ self.now.template.annotations }
         ensures ascending { KeysAscend self.now.template.annotations }
@@ -213,15 +248,19 @@ impl Policy {
         self.parts.template.annotations()
     }
 
-    /// The annotations as they are shared.
+    /// Returns the shared annotations. Does not allocate.
     pub fn annotations_arc(&self) -> &Rc<Annotations>
         ensures { result.now.value ≡ self.now.template.annotations }
     {
         self.parts.template.annotations_arc()
     }
 
-    /// What the principal has to be: what the template says, with the bound uid in place of the slot. No slot
-    /// stands in it. Takes memory for the uid, which it copies, and is refused only where that is.
+    /// Returns the template's constraint on the principal, with the bound uid in place of the slot. The result contains
+    /// no slot. Copies the bound uid.
+    ///
+    /// # Errors
+    ///
+    /// Returns `AllocError` if an allocation fails.
     pub fn principal_constraint(&self, alloc: Global) -> Result<PrincipalConstraint, AllocError>
         ensures fills { IfOk result (λ c. c ≡ principal_of self.now) }
         ensures no_slot { IfOk result (λ c. has_slot c ≡ false) }
@@ -233,9 +272,16 @@ impl Policy {
         }
     }
 
-    /// What the action has to be: what the template says, with the bound uid in place of the slot. No slot stands in
-    /// it. Takes memory for a list and for the uid, which it copies, and is refused only where that is. The original
-    /// has no slot of the action, and answers a reference.
+    /// Returns the template's constraint on the action, with the bound uid in place of the slot. The result contains no
+    /// slot. Copies a list of uids and the bound uid.
+    ///
+    /// # Errors
+    ///
+    /// Returns `AllocError` if an allocation fails.
+    ///
+    /// # Differences from cedar-policy-core
+    ///
+    /// The original has no slot for the action, and returns a reference.
     pub fn action_constraint(&self, alloc: Global) -> Result<ActionConstraint, AllocError>
         ensures fills { IfOk result (λ c. rule_of c ≡ action_of self.now) }
         ensures no_slot { IfOk result (λ c. rule_has_slot (rule_of c) ≡ false) }
@@ -247,8 +293,12 @@ impl Policy {
         }
     }
 
-    /// What the resource has to be: what the template says, with the bound uid in place of the slot. No slot
-    /// stands in it. Takes memory for the uid, which it copies, and is refused only where that is.
+    /// Returns the template's constraint on the resource, with the bound uid in place of the slot. The result contains
+    /// no slot. Copies the bound uid.
+    ///
+    /// # Errors
+    ///
+    /// Returns `AllocError` if an allocation fails.
     pub fn resource_constraint(&self, alloc: Global) -> Result<ResourceConstraint, AllocError>
         ensures fills { IfOk result (λ c. c ≡ resource_of self.now) }
         ensures no_slot { IfOk result (λ c. has_slot c ≡ false) }
@@ -260,29 +310,33 @@ impl Policy {
         }
     }
 
-    /// The clause, if there is one.
+    /// Returns the clause, if there is one. Does not allocate.
     pub fn non_scope_constraints(&self) -> Option<&Expr>
         ensures { option_copied result ≡ self.now.template.clause }
     {
         self.parts.template.non_scope_constraints()
     }
 
-    /// The clause as it is shared, if there is one.
+    /// Returns the shared clause, if there is one. Does not allocate.
     pub fn non_scope_constraints_arc(&self) -> Option<&Rc<Expr>>
         ensures { option_map (λ e. e.now.value) result ≡ self.now.template.clause }
     {
         self.parts.template.non_scope_constraints_arc()
     }
 
-    /// The condition of the template, its slots as they are. Takes memory as `TemplateBody::condition` does.
+    /// Returns the condition of the template, with its slots unfilled, as `TemplateBody::condition` does.
+    ///
+    /// # Errors
+    ///
+    /// Returns `AllocError` if an allocation fails.
     pub fn condition(&self, alloc: Global) -> Result<Expr, AllocError>
         ensures { IfOk result (λ e. e ≡ condition self.now.template) }
     {
         self.parts.template.condition(alloc)
     }
 
-    /// What the slots are bound to: the bound ids are the ids of the template's slots, and the action's is bound to an
-    /// action.
+    /// Returns the bindings. The bound ids are exactly the slots of the template. If the action's slot is bound, its
+    /// uid is an action. Does not allocate.
     pub fn env(&self) -> &SlotEnv
         ensures value { env_of result.now ≡ self.now.env }
         ensures total { BindsExactly (body_slots self.now.template) self.now.env }
@@ -291,7 +345,7 @@ impl Policy {
         &self.parts.values
     }
 
-    /// The id: that of the link, or of the template where it is no link.
+    /// Returns the id: the link's id, or the template's id for a static policy. Does not allocate.
     pub fn id(&self) -> &PolicyID
         ensures { result.now ≡ policy_id self.now }
     {
@@ -301,13 +355,16 @@ impl Policy {
         }
     }
 
-    /// A copy under another id: of a link the link's id changes and the template is shared, of a static policy
-    /// the template's changes. Takes memory for the copy, and is refused only where that is; this policy is as it
-    /// was.
+    /// Copies the policy, with another id. A link gets the new id and shares its template. For a static policy, the
+    /// template gets the new id. This policy does not change.
+    ///
+    /// # Errors
+    ///
+    /// Returns `AllocError` if an allocation fails.
     pub fn new_id(&self, alloc: Global, id: PolicyID) -> Result<Policy, AllocError>
         ensures { IfOk result (λ p. p ≡ with_policy_id id self.now) }
     {
-        // No effect at run time: this call says that a policy that is no link binds nothing.
+        // No effect at run time: the contract of this call states that a policy without a link binds nothing.
         let _whole = self.is_static();
         match &self.parts.link {
             None => {
@@ -322,8 +379,16 @@ impl Policy {
         }
     }
 
-    /// The same link, its template under another id; `None` of a static policy. Takes memory for a copy of the
-    /// template, and is refused only where that is; the original calls this within its crate alone.
+    /// Returns the same link, with another id for its template. Returns `None` for a static policy. The template is
+    /// copied.
+    ///
+    /// # Errors
+    ///
+    /// Returns `AllocError` if an allocation fails.
+    ///
+    /// # Differences from cedar-policy-core
+    ///
+    /// In the original this function is private to its crate.
     pub fn new_template_id(self, alloc: Global, id: PolicyID) -> Result<Option<Policy>, AllocError>
         ensures { IfOk result (λ p. p ≡ with_template_id id self) }
     {
@@ -335,8 +400,11 @@ impl Policy {
         Ok(Some(Policy { parts }))
     }
 
-    /// The template, the id of the link if it is one, and the bindings. Takes no memory; the original calls this
-    /// within its crate alone.
+    /// Returns the template, the id of the link, if it is one, and the bindings. Does not allocate.
+    ///
+    /// # Differences from cedar-policy-core
+    ///
+    /// In the original this function is private to its crate.
     pub fn into_components(self) -> (Rc<Template>, Option<PolicyID>, SlotEnv)
         ensures { record { template = result.0.value; link = result.1; env = env_of result.2 } ≡ self }
     {
@@ -349,30 +417,40 @@ impl Policy {
         (template, link, values)
     }
 
-    /// The location of the whole template, if it is known.
+    /// Returns the location of the whole template, if it is known. Does not allocate.
     pub fn loc(&self) -> Option<&Loc> {
         self.parts.template.loc()
     }
 
-    /// Whether it is a static policy, and so no link: its template has no slots then, and it binds nothing.
+    /// Returns whether the policy is a static policy and not a link. The template of a static policy has no slots, and
+    /// the policy has no bindings. Does not allocate.
     pub fn is_static(&self) -> bool
         ensures value { IsTrue result ↔ (self.now.link ≡ None) }
         ensures unlinked { self.now.link ≡ None → body_slots self.now.template ≡ [] }
         ensures whole { self.now.link ≡ None → self.now ≡ static_policy self.now.template }
     {
-        // No effect at run time: this borrow says what holds of every policy.
+        // No effect at run time: this borrow makes the invariant of policies known to the proof.
         let _ = &self.parts;
         self.parts.link.is_none()
     }
 
-    /// The uids that unknowns of the condition name: those of the unknowns that have an entity type and whose
-    /// name `EntityUID::from_normalized_str` reads. As a set has them, each once.
+    /// Returns the uids of the unknown entities in the condition, each once. An unknown counts if it has an entity type
+    /// and its name can be parsed by `EntityUID::from_normalized_str`.
     ///
-    /// Takes memory for the condition, its walk and the set, and is refused only where that is. The original
-    /// reads a name by its parser, which takes more than the printed form.
+    /// The default hasher has a fixed seed. If untrusted parties choose the names, they can force collisions and slow
+    /// this function down. Use [`Policy::unknown_entities_with_hasher`] with a randomly keyed builder in that case.
     ///
-    /// The set hashes by a fixed seed, so that whoever picks the names can make it slow: where strangers do,
-    /// [`Policy::unknown_entities_with_hasher`] takes a builder of hashers that has a random key.
+    /// # Errors
+    ///
+    /// Returns `AllocError` if an allocation fails.
+    ///
+    /// # Complexity
+    ///
+    /// Allocates the condition, the list of its nodes and the set.
+    ///
+    /// # Differences from cedar-policy-core
+    ///
+    /// The original parses the names with its parser, which accepts more than the printed form.
     pub fn unknown_entities(&self, alloc: Global) -> Result<HashSet<EntityUID>, AllocError>
         ensures { IfOk result
             (λ uids. AreUnknownEntities uids (unknowns_of (condition self.now.template))) }
@@ -380,7 +458,12 @@ impl Policy {
         self.unknown_entities_with_hasher(alloc, BuildHasherDefault::new())
     }
 
-    /// What [`Policy::unknown_entities`] answers, in a set that hashes uids by what `hasher` builds.
+    /// Returns the uids of the unknown entities in the condition, as [`Policy::unknown_entities`] does. The set uses
+    /// the given builder of hashers.
+    ///
+    /// # Errors
+    ///
+    /// Returns `AllocError` if an allocation fails.
     pub fn unknown_entities_with_hasher<S: BuildHasher + Drop>(
         &self,
         alloc: Global,
@@ -395,8 +478,8 @@ impl Policy {
     }
 }
 
-/// Lets a policy share another template, where that is equal to its own: so it has that one's locations. It takes no
-/// memory. The merging of sets is made with it.
+/// Replaces the template of a policy by a shared one, if the two are equal. The policy then has the locations of the
+/// new template. Otherwise nothing changes. The merging of policy sets uses this function. Does not allocate.
 pub fn share_template(policy: &mut Policy, template: Rc<Template>)
     ensures { policy.new ≡ policy.old }
 {
@@ -407,7 +490,7 @@ pub fn share_template(policy: &mut Policy, template: Rc<Template>)
     }
 }
 
-// Whether a template is another.
+// Returns whether two templates are equal.
 fn is_template(template: &Template, other: &Template) -> bool
     ensures { IsTrue result → (template.now ≡ other.now) }
 {
@@ -447,7 +530,7 @@ impl Eq for Policy {
     ghost laws = { same_policy_equiv };
 }
 
-// As if the parts stood in the policy itself.
+// Writes the parts as if they were fields of `Policy`.
 impl fmt::Debug for Policy {
     fn fmt<W: fmt::Write>(&self, f: &mut fmt::Formatter<W>) -> fmt::Result {
         f.debug_struct("Policy")

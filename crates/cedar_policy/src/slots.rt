@@ -1,4 +1,4 @@
-//! The slots of a template: finding them in a body, and giving them one after the other.
+//! The slots of a template: collecting them from a body, and iterating over them.
 ghost use Rattle.std.specs.Prelude.{◌≡◌, ◌++◌, is_some, IfOk, OnOk};
 ghost use Rattle.std.specs.Iterator.{YieldsFirstRef, item_count};
 ghost use Rattle.std.specs.Option.{option_copied};
@@ -21,8 +21,8 @@ use std::alloc::{AllocError, Global};
 use std::marker::Model;
 use std::slice;
 
-/// The slots of a template in the order of the walk through its condition, repeats kept. Contracts see it as
-/// the list of those that it has left.
+/// An iterator over the slots of a template, in the order of [`Template::slots`] and with repetitions. Contracts see it
+/// as the list of its remaining items.
 #[derive(Drop)]
 pub struct Slots<'a> {
     inner: slice::Iter<'a, Slot>,
@@ -39,7 +39,7 @@ impl<'a> Model for Slots<'a> {
 }
 
 impl<'a> Slots<'a> {
-    // These slots.
+    // Creates an iterator over these slots.
     pub(crate) fn of(slots: &'a [Slot]) -> Slots<'a>
         ensures { result ≡ slots.now }
     {
@@ -61,8 +61,8 @@ impl<'a> Iterator for Slots<'a> {
     }
 }
 
-// The slots in a body's condition, which is not made: those of the clause, then the resource's, the action's and the
-// principal's.
+// Returns the slots of a body's condition, without building the condition: those of the clause, then the resource's,
+// the action's and the principal's.
 #[tactic(auto, using(crate::specs::laws::PolicySlots::slots_in_turn))]
 pub(crate) fn slots_in(alloc: Global, body: &TemplateBody) -> Result<Vec<Slot>, AllocError>
     ensures { IfOk result (λ v. v.items ≡ body_slots (body_of body.now)) }
@@ -76,7 +76,7 @@ pub(crate) fn slots_in(alloc: Global, body: &TemplateBody) -> Result<Vec<Slot>, 
     Ok(slots)
 }
 
-// The slots of a clause, if there is one.
+// Returns the slots of a clause, if there is one.
 fn slots_in_clause(alloc: Global, clause: Option<&Expr>) -> Result<Vec<Slot>, AllocError>
     ensures { IfOk result (λ v. v.items ≡ clause_slots (option_copied clause.entry)) }
 {
@@ -86,7 +86,7 @@ fn slots_in_clause(alloc: Global, clause: Option<&Expr>) -> Result<Vec<Slot>, Al
     }
 }
 
-// Puts the slot of a variable last, if the constraint refers to it: at the location of its reference.
+// Appends the slot of a variable, if the constraint refers to it. The slot gets the location of its reference.
 fn push_slot(
     slots: &mut Vec<Slot>,
     v: PrincipalOrResource,
@@ -103,7 +103,7 @@ fn push_slot(
     Ok(())
 }
 
-// Puts the action's slot last, if the constraint refers to it: at the location that the constraint has.
+// Appends the action's slot, if the constraint refers to it. The slot gets the location in the constraint.
 fn push_action_slot(slots: &mut Vec<Slot>, constraint: &ActionConstraint) -> Result<(), AllocError>
     ensures { OnOk result (slots.new.items ≡ slots.old.items ++ rule_slots (rule_of constraint.now)) }
 {
@@ -116,7 +116,7 @@ fn push_action_slot(slots: &mut Vec<Slot>, constraint: &ActionConstraint) -> Res
     Ok(())
 }
 
-// The location of the slot that an action's constraint refers to, if it refers to it.
+// Returns the location of the slot of an action constraint, if the constraint has a slot.
 fn action_slot_at(constraint: &ActionConstraint) -> Option<&Option<Loc>>
     ensures { is_some result ≡ rule_has_slot (rule_of constraint.now) }
 {
@@ -129,7 +129,7 @@ fn action_slot_at(constraint: &ActionConstraint) -> Option<&Option<Loc>>
     }
 }
 
-// The location of the slot that a constraint refers to, if it refers to one.
+// Returns the location of the slot of a constraint, if the constraint has a slot.
 fn slot_at(constraint: &PrincipalOrResourceConstraint) -> Option<&Option<Loc>>
     ensures { is_some result ≡ has_slot (constraint_of constraint.now) }
 {

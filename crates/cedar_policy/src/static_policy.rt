@@ -30,9 +30,8 @@ use std::marker::Model;
 
 /// A static policy: a body without slots.
 ///
-/// Contracts see the parts of the body, without locations. Equality and hash are the body's, look at no
-/// location and take no memory. `clone` takes memory as the body's. `Display` writes the body and takes no
-/// memory.
+/// Equality and hash use the body. They ignore locations and do not allocate. `clone` copies the body. `Display` writes
+/// the body and does not allocate. Contracts see the parts of the body, without locations.
 #[derive(Debug, Drop)]
 pub struct StaticPolicy {
     pub(crate) body: TemplateBody,
@@ -54,12 +53,18 @@ impl Model for StaticPolicy {
 }
 
 impl StaticPolicy {
-    /// The static policy of these parts, if there is no slot in them; else the refusal has the first slot that
-    /// the walk through the condition meets.
+    /// Creates a static policy from its parts.
     ///
-    /// Takes memory as `Template::new` does: to share the annotations and the clause, for the slots, and for the
-    /// walk through the clause, linear in that, where there is one. `Memory` comes only where that was refused. A
-    /// refusal drops the parts.
+    /// # Errors
+    ///
+    /// - `FoundSlot`: the parts contain a slot. The error contains the first one, in the order of [`Template::slots`].
+    /// - `Memory`: an allocation failed.
+    ///
+    /// After an error the parts are dropped.
+    ///
+    /// # Complexity
+    ///
+    /// O(n), where n is the number of nodes of the clause. Allocates O(n).
     pub fn new(
         alloc: Global,
         id: PolicyID,
@@ -95,7 +100,7 @@ impl StaticPolicy {
         StaticPolicy::try_from(template)
     }
 
-    /// The id. Takes no memory, as no reader here does.
+    /// Returns the id. Does not allocate.
     pub fn id(&self) -> &PolicyID
         ensures value { result.now ≡ self.now.id }
         ensures no_slot { body_slots self.now ≡ [] }
@@ -103,13 +108,20 @@ impl StaticPolicy {
         self.body.id()
     }
 
-    /// The location of the whole policy, if it is known.
+    /// Returns the location of the whole policy, if it is known. Does not allocate.
     pub fn loc(&self) -> Option<&Loc> {
         self.body.loc()
     }
 
-    /// A copy under another id. Takes memory as `clone` does, but for the id; is refused only where that is,
-    /// and then this policy is as it was.
+    /// Copies the policy, with another id. This policy does not change.
+    ///
+    /// # Errors
+    ///
+    /// Returns `AllocError` if an allocation fails.
+    ///
+    /// # Complexity
+    ///
+    /// Allocates as `clone` does, except for the id.
     pub fn new_id(&self, id: PolicyID) -> Result<StaticPolicy, AllocError>
         ensures { IfOk result (λ s. s ≡ with_id id self.now) }
     {
@@ -118,21 +130,25 @@ impl StaticPolicy {
         })
     }
 
-    /// The effect.
+    /// Returns the effect. Does not allocate.
     pub fn effect(&self) -> Effect
         ensures { result ≡ self.now.effect }
     {
         self.body.effect()
     }
 
-    /// The annotation at a key, if there is one; the cost is logarithmic in their number.
+    /// Returns the annotation with this key, if there is one. Does not allocate.
+    ///
+    /// # Complexity
+    ///
+    /// O(log n), where n is the number of annotations.
     pub fn annotation(&self, key: &AnyId) -> Option<&Annotation>
         ensures { option_map (λ a. a.now) result ≡ value_at key.now self.now.annotations }
     {
         self.body.annotation(key)
     }
 
-    /// All annotations with their keys, by key.
+    /// Iterates over the annotations with their keys, in ascending order of the keys. Does not allocate.
     pub fn annotations(&self) -> Iter<'_>
         ensures pairs { result ≡ self.now.annotations }
         ensures ascending { KeysAscend self.now.annotations }
@@ -140,56 +156,72 @@ impl StaticPolicy {
         self.body.annotations()
     }
 
-    /// What the principal has to be.
+    /// Returns the constraint on the principal. Does not allocate.
     pub fn principal_constraint(&self) -> &PrincipalConstraint
         ensures { result.now ≡ self.now.principal }
     {
         self.body.principal_constraint()
     }
 
-    /// The expression of that, as `PrincipalConstraint::as_expr` makes it. Takes memory as that does.
+    /// Returns the constraint on the principal as an expression, as `PrincipalConstraint::as_expr` does.
+    ///
+    /// # Errors
+    ///
+    /// Returns `AllocError` if an allocation fails.
     pub fn principal_constraint_expr(&self, alloc: Global) -> Result<Expr, AllocError>
         ensures { IfOk result (λ e. e ≡ principal_expr self.now) }
     {
         self.body.principal_constraint_expr(alloc)
     }
 
-    /// What the action has to be.
+    /// Returns the constraint on the action. Does not allocate.
     pub fn action_constraint(&self) -> &ActionConstraint
         ensures { rule_of result.now ≡ self.now.action }
     {
         self.body.action_constraint()
     }
 
-    /// The expression of that, as `ActionConstraint::as_expr` makes it. Takes memory as that does.
+    /// Returns the constraint on the action as an expression, as `ActionConstraint::as_expr` does.
+    ///
+    /// # Errors
+    ///
+    /// Returns `AllocError` if an allocation fails.
     pub fn action_constraint_expr(&self, alloc: Global) -> Result<Expr, AllocError>
         ensures { IfOk result (λ e. e ≡ action_expr self.now) }
     {
         self.body.action_constraint_expr(alloc)
     }
 
-    /// What the resource has to be.
+    /// Returns the constraint on the resource. Does not allocate.
     pub fn resource_constraint(&self) -> &ResourceConstraint
         ensures { result.now ≡ self.now.resource }
     {
         self.body.resource_constraint()
     }
 
-    /// The expression of that, as `ResourceConstraint::as_expr` makes it. Takes memory as that does.
+    /// Returns the constraint on the resource as an expression, as `ResourceConstraint::as_expr` does.
+    ///
+    /// # Errors
+    ///
+    /// Returns `AllocError` if an allocation fails.
     pub fn resource_constraint_expr(&self, alloc: Global) -> Result<Expr, AllocError>
         ensures { IfOk result (λ e. e ≡ resource_expr self.now) }
     {
         self.body.resource_constraint_expr(alloc)
     }
 
-    /// The clause, if there is one.
+    /// Returns the clause, if there is one. Does not allocate.
     pub fn non_scope_constraints(&self) -> Option<&Expr>
         ensures { option_copied result ≡ self.now.clause }
     {
         self.body.non_scope_constraints()
     }
 
-    /// The condition, as `TemplateBody::condition` makes it: no slot stands in it. Takes memory as that does.
+    /// Returns the condition, as `TemplateBody::condition` does. The condition contains no slot.
+    ///
+    /// # Errors
+    ///
+    /// Returns `AllocError` if an allocation fails.
     pub fn condition(&self, alloc: Global) -> Result<Expr, AllocError>
         ensures value { IfOk result (λ e. e ≡ condition self.now) }
         ensures no_slot { IfOk result (λ e. slots_of e ≡ []) }
@@ -198,8 +230,8 @@ impl StaticPolicy {
     }
 }
 
-/// The body of a template, if it has no slots; else the refusal has the first of them. Takes no memory, so
-/// that it is never refused for that.
+/// Converts a template without slots. If it has slots, the error contains the first one. Does not allocate, so the
+/// error is never `Memory`.
 impl TryFrom<Template> for StaticPolicy {
     type Error = UnexpectedSlotError;
 

@@ -39,11 +39,10 @@ use std::hash::{Hash, Hasher};
 use std::marker::Model;
 use std::rc::Rc;
 
-/// A template: a body with its slots, those of its condition. One without slots stands for a static policy.
+/// A template: a body with the slots of its condition. A template without slots represents a static policy.
 ///
-/// Contracts see the parts of the body, without locations. Equality and hash are the body's, look at no
-/// location and take no memory. `clone` takes memory as the body's and for the list of slots. `Display` writes
-/// the body and takes no memory.
+/// Equality and hash use the body. They ignore locations and do not allocate. `clone` copies the body and the list of
+/// slots. `Display` writes the body and does not allocate. Contracts see the parts of the body, without locations.
 #[derive(Debug, Drop)]
 pub struct Template {
     pub(crate) body: TemplateBody,
@@ -66,8 +65,16 @@ impl Model for Template {
 }
 
 impl Template {
-    /// The template of these parts. Takes memory to share the annotations and the clause, for the slots, and for
-    /// the walk through the clause, linear in that, where there is one; is refused only where that is.
+    /// Creates a template from its parts.
+    ///
+    /// # Errors
+    ///
+    /// Returns `AllocError` if an allocation fails.
+    ///
+    /// # Complexity
+    ///
+    /// O(n), where n is the number of nodes of the clause. Allocates O(n), and shared blocks for the annotations and
+    /// the clause.
     pub fn new(
         alloc: Global,
         id: PolicyID,
@@ -103,8 +110,15 @@ impl Template {
         Template::from_body(alloc, body)
     }
 
-    /// The template of these parts, of which annotations and clause are shared already. Takes memory as
-    /// `from_body` does.
+    /// Creates a template from its parts, with annotations and clause that are already shared.
+    ///
+    /// # Errors
+    ///
+    /// Returns `AllocError` if an allocation fails.
+    ///
+    /// # Complexity
+    ///
+    /// As [`Template::from_body`].
     pub fn new_shared(
         alloc: Global,
         id: PolicyID,
@@ -139,9 +153,20 @@ impl Template {
         Template::from_body(alloc, body)
     }
 
-    /// The template of this body. Takes memory for its slots, and for the walk through the clause, linear in
-    /// that, where there is one: none where there is neither. Is refused only where that is. The condition is
-    /// not made. In the original this is a conversion.
+    /// Creates the template of a body. The condition is not built.
+    ///
+    /// # Errors
+    ///
+    /// Returns `AllocError` if an allocation fails.
+    ///
+    /// # Complexity
+    ///
+    /// O(n), where n is the number of nodes of the clause. Allocates O(n). Does not allocate if there are no slots and
+    /// no clause.
+    ///
+    /// # Differences from cedar-policy-core
+    ///
+    /// In the original this is a conversion by `From`.
     pub fn from_body(alloc: Global, body: TemplateBody) -> Result<Template, AllocError>
         ensures { IfOk result (λ t. t ≡ body_of body) }
     {
@@ -149,24 +174,34 @@ impl Template {
         Ok(Template { body, slots })
     }
 
-    /// Does nothing: that the slots are those of the condition is proved of every template. In a debug build
-    /// the original looks and panics.
+    /// Does nothing. Every template has the slots of its condition, which is proved.
+    ///
+    /// # Differences from cedar-policy-core
+    ///
+    /// In a debug build, the original checks the slots and panics if they differ.
     pub fn check_invariant(&self) {}
 
-    /// The id. Takes no memory, as no reader here does.
+    /// Returns the id. Does not allocate.
     pub fn id(&self) -> &PolicyID
         ensures { result.now ≡ self.now.id }
     {
         self.body.id()
     }
 
-    /// The location of the whole template, if it is known.
+    /// Returns the location of the whole template, if it is known. Does not allocate.
     pub fn loc(&self) -> Option<&Loc> {
         self.body.loc()
     }
 
-    /// A copy under another id. Takes memory as `clone` does, but for the id; is refused only where that is,
-    /// and then this template is as it was.
+    /// Copies the template, with another id. This template does not change.
+    ///
+    /// # Errors
+    ///
+    /// Returns `AllocError` if an allocation fails.
+    ///
+    /// # Complexity
+    ///
+    /// Allocates as `clone` does, except for the id.
     pub fn new_id(&self, id: PolicyID) -> Result<Template, AllocError>
         ensures { IfOk result (λ t. t ≡ with_id id self.now) }
     {
@@ -176,21 +211,25 @@ impl Template {
         })
     }
 
-    /// The effect.
+    /// Returns the effect. Does not allocate.
     pub fn effect(&self) -> Effect
         ensures { result ≡ self.now.effect }
     {
         self.body.effect()
     }
 
-    /// The annotation at a key, if there is one; the cost is logarithmic in their number.
+    /// Returns the annotation with this key, if there is one. Does not allocate.
+    ///
+    /// # Complexity
+    ///
+    /// O(log n), where n is the number of annotations.
     pub fn annotation(&self, key: &AnyId) -> Option<&Annotation>
         ensures { option_map (λ a. a.now) result ≡ value_at key.now self.now.annotations }
     {
         self.body.annotation(key)
     }
 
-    /// All annotations with their keys, by key.
+    /// Iterates over the annotations with their keys, in ascending order of the keys. Does not allocate.
     pub fn annotations(&self) -> Iter<'_>
         ensures pairs { result ≡ self.now.annotations }
         ensures ascending { KeysAscend self.now.annotations }
@@ -198,78 +237,88 @@ impl Template {
         self.body.annotations()
     }
 
-    /// The annotations as they are shared.
+    /// Returns the shared annotations. Does not allocate.
     pub fn annotations_arc(&self) -> &Rc<Annotations>
         ensures { result.now.value ≡ self.now.annotations }
     {
         self.body.annotations_arc()
     }
 
-    /// What the principal has to be.
+    /// Returns the constraint on the principal. Does not allocate.
     pub fn principal_constraint(&self) -> &PrincipalConstraint
         ensures { result.now ≡ self.now.principal }
     {
         self.body.principal_constraint()
     }
 
-    /// What the action has to be.
+    /// Returns the constraint on the action. Does not allocate.
     pub fn action_constraint(&self) -> &ActionConstraint
         ensures { rule_of result.now ≡ self.now.action }
     {
         self.body.action_constraint()
     }
 
-    /// What the resource has to be.
+    /// Returns the constraint on the resource. Does not allocate.
     pub fn resource_constraint(&self) -> &ResourceConstraint
         ensures { result.now ≡ self.now.resource }
     {
         self.body.resource_constraint()
     }
 
-    /// The clause, if there is one.
+    /// Returns the clause, if there is one. Does not allocate.
     pub fn non_scope_constraints(&self) -> Option<&Expr>
         ensures { option_copied result ≡ self.now.clause }
     {
         self.body.non_scope_constraints()
     }
 
-    /// The clause as it is shared, if there is one.
+    /// Returns the shared clause, if there is one. Does not allocate.
     pub fn non_scope_constraints_arc(&self) -> Option<&Rc<Expr>>
         ensures { option_map (λ e. e.now.value) result ≡ self.now.clause }
     {
         self.body.non_scope_constraints_arc()
     }
 
-    /// The condition, as `TemplateBody::condition` makes it. Takes memory as that does.
+    /// Returns the condition, as `TemplateBody::condition` does.
+    ///
+    /// # Errors
+    ///
+    /// Returns `AllocError` if an allocation fails.
     pub fn condition(&self, alloc: Global) -> Result<Expr, AllocError>
         ensures { IfOk result (λ e. e ≡ condition self.now) }
     {
         self.body.condition(alloc)
     }
 
-    /// The slots that the walk through the condition meets, as often as it meets them. The walk comes to a node before
-    /// its children, and to these from the last to the first: so the slots of the clause come first, in that order,
-    /// then the resource's, the action's and the principal's.
+    /// Iterates over the slots of the condition, with repetitions. The slots of the clause come first, then the
+    /// resource's, the action's and the principal's. Within the clause, a node comes before its children, and the
+    /// children come from the last to the first. Does not allocate.
     pub fn slots(&self) -> Slots<'_>
         ensures { result ≡ body_slots self.now }
     {
         Slots::of(&self.slots)
     }
 
-    /// Whether there are no slots, so that the template stands for a static policy.
+    /// Returns whether there are no slots, so that the template represents a static policy. Does not allocate.
     pub fn is_static(&self) -> bool
         ensures { IsTrue result ↔ (body_slots self.now ≡ []) }
     {
         self.slots.is_empty()
     }
 
-    /// `Ok` exactly where the bound ids are the ids of the template's slots, and the action's, if it is one of them, is
-    /// bound to an action.
+    /// Checks that the bound slot ids are exactly the ids of the template's slots. If the action's slot is bound, its
+    /// uid must be an action.
     ///
-    /// Where the ids are others, the `ArityError` has exactly the template's slots that are not bound, in their order,
-    /// as often as they stand there, and the bound ids that are no slots, in the order of ids. Where they are not,
-    /// `NotAnAction` has the uid. Takes memory for what a refusal has alone, so that bindings that fit take none;
-    /// `Memory` comes only where they do not and that was refused.
+    /// # Errors
+    ///
+    /// - `ArityError`: the bound ids are not the ids of the slots. `unbound_values` has the slots that are not bound,
+    ///   in their order and with repetitions. `extra_values` has the bound ids that are no slots, in the order of ids.
+    /// - `NotAnAction`: the ids fit, but the action's slot is bound to this uid, which is not an action.
+    /// - `Memory`: an allocation failed, which is possible only if the bindings do not fit.
+    ///
+    /// # Complexity
+    ///
+    /// Reads each slot a few times. Allocates only for the error.
     pub fn check_binding(
         alloc: Global,
         template: &Template,
@@ -280,9 +329,14 @@ impl Template {
         check_bindings(alloc, &template.slots, values)
     }
 
-    /// The policy of this template, this id and these bindings, which it takes over; else the refusal of
-    /// `check_binding`. Takes memory as that does, and for the policy's block where it is not refused so; what it took
-    /// is dropped where it is refused. Of the map of bindings it gives back the room that they do not need.
+    /// Creates the link of this template with this id and these bindings. The map of the bindings is shrunk to fit.
+    ///
+    /// # Errors
+    ///
+    /// - `ArityError` or `NotAnAction`: as [`Template::check_binding`].
+    /// - `Memory`: an allocation failed.
+    ///
+    /// After an error all arguments are dropped.
     pub fn link(
         alloc: Global,
         template: Rc<Template>,
@@ -296,9 +350,17 @@ impl Template {
         Ok(Policy::of(alloc, template, Some(new_id), values)?)
     }
 
-    /// The policy of this template, this id and a copy of these bindings; else the refusal of `check_binding`. Where
-    /// they do not fit nothing was copied, so that to make many links from one map, whose room serves all, costs a map
-    /// only where there is a policy. Takes memory as `link` does, and for the copy. It is this project's own.
+    /// Creates the link of this template with this id and a copy of these bindings. The bindings are checked before
+    /// they are copied. So a caller can reuse one map for many links.
+    ///
+    /// # Errors
+    ///
+    /// - `ArityError` or `NotAnAction`: as [`Template::check_binding`].
+    /// - `Memory`: an allocation failed.
+    ///
+    /// # Differences from cedar-policy-core
+    ///
+    /// The original has no such function.
     pub fn link_copying(
         alloc: Global,
         template: Rc<Template>,
@@ -312,8 +374,12 @@ impl Template {
         Ok(Policy::of(alloc, template, Some(new_id), values)?)
     }
 
-    /// The static policy of this template, if it has no slots; else the refusal of binding nothing to them.
-    /// Takes memory as `link` does.
+    /// Creates the static policy of this template, if it has no slots.
+    ///
+    /// # Errors
+    ///
+    /// - `ArityError`: the template has slots. `unbound_values` has all of them.
+    /// - `Memory`: an allocation failed.
     pub fn try_as_policy(alloc: Global, template: Rc<Template>) -> Result<Policy, LinkingError>
         ensures { MakesPolicy result template.value }
     {
@@ -322,8 +388,11 @@ impl Template {
         Ok(Policy::unlinked(alloc, template)?)
     }
 
-    /// The template of a static policy, and the policy of that template: both have the policy's id. Takes
-    /// memory to share the template and for the policy's block, and is refused only where that is.
+    /// Returns the template of a static policy, and the policy of that template. Both have the id of the static policy.
+    ///
+    /// # Errors
+    ///
+    /// Returns `AllocError` if an allocation fails.
     pub fn link_static_policy(
         alloc: Global,
         policy: StaticPolicy,
@@ -336,7 +405,7 @@ impl Template {
         Ok((template, policy))
     }
 
-    // The template of a static policy.
+    // Returns the template of a static policy.
     pub(crate) fn of_static(alloc: Global, policy: StaticPolicy) -> Template
         ensures value { result ≡ policy }
         ensures no_slot { body_slots policy ≡ [] }
@@ -348,13 +417,23 @@ impl Template {
         }
     }
 
-    /// The template itself, if a parser could have made it; else its first fault.
+    /// Returns the template itself, if it satisfies all rules of the parser.
     ///
-    /// `SlotsInConditionClause` has the first slot of the clause; else `InvalidActionType` has the uids of the
-    /// action's constraint that are no actions, all of them in the order of its list; else `InvalidExpression`
-    /// has the first function of the clause that is not known. `SlotCacheMismatch` never comes. Takes memory
-    /// linear in the clause and for the uids; `Memory` comes only where that was refused. A refusal drops the
-    /// template.
+    /// # Errors
+    ///
+    /// The first failed check in this order decides:
+    ///
+    /// - `SlotsInConditionClause`: the clause contains a slot. The error contains the first one.
+    /// - `InvalidActionType`: some uids of the action constraint are not actions. The error contains all of them, in
+    ///   the order of the list.
+    /// - `InvalidExpression`: the clause calls an unknown function. The error contains the first one.
+    /// - `Memory`: an allocation failed.
+    ///
+    /// `SlotCacheMismatch` is never returned. After an error the template is dropped.
+    ///
+    /// # Complexity
+    ///
+    /// O(n), where n is the number of nodes of the clause and of uids in the action constraint. Allocates O(n).
     pub fn try_validate(self, alloc: Global) -> Result<Template, TemplateValidationError>
         ensures { Validated result self }
     {

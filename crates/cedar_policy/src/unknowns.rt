@@ -1,4 +1,4 @@
-//! The entities that unknowns name.
+//! The entities that unknowns represent.
 ghost use Rattle.std.specs.Prelude.{◌≡◌, ◌||◌, map, IfOk, OnOk};
 ghost use Rattle.std.specs.HashSet.{contains};
 ghost use Rattle.cedar_ids.specs.UidOf.{same_uid};
@@ -13,7 +13,7 @@ use std::alloc::{AllocError, Global};
 use std::collections::HashSet;
 use std::hash::BuildHasher;
 
-// The uids that some unknowns name.
+// Returns the uids that some unknowns represent.
 pub(crate) fn entities_named<S: BuildHasher + Drop>(
     alloc: Global,
     hasher: S,
@@ -29,7 +29,7 @@ pub(crate) fn entities_named<S: BuildHasher + Drop>(
     Ok(uids)
 }
 
-// Puts a uid into a set, if there is one.
+// Inserts a uid into a set, if there is one.
 fn put<S: BuildHasher>(
     uids: &mut HashSet<EntityUID, S>,
     uid: Option<EntityUID>,
@@ -46,7 +46,7 @@ fn put<S: BuildHasher>(
     }
 }
 
-// The uid that an unknown names, if it names one.
+// Returns the uid that an unknown represents, if there is one.
 fn entity_named(alloc: Global, unknown: &Unknown) -> Result<Option<EntityUID>, AllocError>
     ensures { IfOk result (λ uid. NamesOnly uid unknown.now) }
 {
@@ -56,7 +56,7 @@ fn entity_named(alloc: Global, unknown: &Unknown) -> Result<Option<EntityUID>, A
     uid_read(alloc, unknown.name.as_str())
 }
 
-// The uid whose printed form a text is, if it is one.
+// Returns the uid whose printed form is the text, if there is one.
 fn uid_read(alloc: Global, text: &str) -> Result<Option<EntityUID>, AllocError>
     ensures { IfOk result (λ uid. ReadsOnly uid text.now) }
 {

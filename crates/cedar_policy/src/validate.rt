@@ -1,4 +1,4 @@
-//! The checks of a template that a parser would have made.
+//! The checks of a template that the parser also makes.
 ghost use Rattle.std.specs.Prelude.{◌≡◌, Some};
 ghost use Rattle.std.specs.Option.{option_copied};
 ghost use Rattle.cedar_action.specs.RuleReads.{non_actions};
@@ -13,7 +13,7 @@ use cedar_terms::err::ExprValidationError;
 use cedar_terms::expr::Expr;
 use std::alloc::Global;
 
-// Refuses the first fault of a clause and an action.
+// Returns the first error of a clause and an action constraint.
 pub(crate) fn check(
     alloc: Global,
     clause: Option<&Expr>,
@@ -26,7 +26,7 @@ pub(crate) fn check(
     check_calls(alloc, clause)
 }
 
-// Refuses the first slot of a clause.
+// Returns an error with the first slot of a clause, if there is one.
 fn check_no_slot(alloc: Global, clause: Option<&Expr>) -> Result<(), TemplateValidationError>
     ensures { HasNoSlot result (clause_slots (option_copied clause.entry)) }
 {
@@ -36,7 +36,7 @@ fn check_no_slot(alloc: Global, clause: Option<&Expr>) -> Result<(), TemplateVal
     }
 }
 
-// Refuses the first slot of an expression.
+// Returns an error with the first slot of an expression, if there is one.
 fn check_slots(alloc: Global, clause: &Expr) -> Result<(), TemplateValidationError>
     ensures { HasNoSlot result (clause_slots (Some clause.now)) }
 {
@@ -47,7 +47,7 @@ fn check_slots(alloc: Global, clause: &Expr) -> Result<(), TemplateValidationErr
     }
 }
 
-// Refuses the uids of a constraint that are no actions.
+// Returns an error with the uids of an action constraint that are not actions, if there are any.
 fn check_actions(alloc: Global, action: &ActionConstraint) -> Result<(), TemplateValidationError>
     ensures { HasOnlyActions result (non_actions (rule_of action.now)) }
 {
@@ -60,7 +60,7 @@ fn check_actions(alloc: Global, action: &ActionConstraint) -> Result<(), Templat
     }
 }
 
-// Refuses the first function of a clause that is not known.
+// Returns an error with the first unknown function of a clause, if there is one.
 fn check_calls(alloc: Global, clause: Option<&Expr>) -> Result<(), TemplateValidationError>
     ensures { HasOnlyKnown result (clause_fault (option_copied clause.entry)) }
 {
@@ -70,7 +70,7 @@ fn check_calls(alloc: Global, clause: Option<&Expr>) -> Result<(), TemplateValid
     }
 }
 
-// Refuses the first function of an expression that is not known.
+// Returns an error with the first unknown function of an expression, if there is one.
 fn check_expr(alloc: Global, clause: &Expr) -> Result<(), TemplateValidationError>
     ensures { HasOnlyKnown result (clause_fault (Some clause.now)) }
 {

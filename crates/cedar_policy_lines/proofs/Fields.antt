@@ -1,4 +1,4 @@
--- Reading fields.
+-- Reading of fields.
 use Rattle.std.specs.Prelude.{◌≡◌, ℕ, List, [], ◌∷◌, ◌++◌, length, drop, nat_eq, Bool, true, false, Option, Some, None}
 use Rattle.std.specs.Prelude.{Result, Ok, Err, MatchOption, map, if◌then◌else◌}
 use Rattle.std.proofs.Common.{ap, sym, refl, subst, ◌∙◌, arith, get_or, ◌<◌, ◌+◌, suc}
@@ -44,7 +44,7 @@ strips mark s x false e h =
     let k : s ≡ mark ++ drop (length mark) s = h.1.1 ∙ ap (λ n. mark ++ drop n s) h.1.0 in
     absurd (false≢true (sym e ∙ (starts_is unsigned_Decides s mark (starts_with nat_eq s mark) refl).1 _ k))
 
--- what stands behind a mark
+-- The rest of a text after a prefix.
 pub behind_is : (mark s : List ℕ) (o : Option (Bor (List ℕ)))
     → MatchOption o (FindsTextPrefix mark s None) (λ x. StripsPrefix (FindsTextPrefix mark) s x.now)
     → option_map (λ x. x.now) o ≡ behind mark s
@@ -57,17 +57,17 @@ none_by t (Ok (Some u)) e none = absurd (none (uids.EntityUID u) (uid_found t u 
 none_by t (Ok None) e none = refl
 none_by t (Err x) e none = refl
 
--- a text that is no uid's
+-- A text that is not the text of a uid is not read as a uid.
 pub no_uid : (t : List ℕ) → ((u : EntityUID) → IsPrinted (uid_parts u) t → ⊥) → uid_read t ≡ None
 no_uid t none = none_by t (uid_reading t) refl none
 
--- the fields from one on are that one and those behind it
+-- The fields from a place on are the field there and the fields after it.
 pub field_first : (fs : List (Bor (List ℕ))) (k : ℕ) (z : Bor (List ℕ)) → k < length fs
     → map (λ x. x.now) (drop k fs) ≡ (get_or fs k z).now ∷ map (λ x. x.now) (drop (k + 1) fs)
 field_first fs k z l = ap (map (λ x. x.now)) (drop-cons fs k z l)
     ∙ ap (λ n. (get_or fs k z).now ∷ map (λ x. x.now) (drop n fs)) {x = suc k} {y = k + 1} (omega arith)
 
--- a field that is no further binding ends the reading with none
+-- A field that is not a further binding ends the reading without bindings.
 pub none_behind : (d : EnvParts) (f : List ℕ) (fs : List (List ℕ)) (o : Option EnvParts)
     → bindings_from (Some d) (f ∷ fs) ≡ o → with_binding d (binding_of f) ≡ None → None ≡ o
 none_behind d f fs o h n = sym (none_goes_on fs) ∙ ap (λ x. bindings_from x fs) (sym n) ∙ h
@@ -79,19 +79,19 @@ bound_twice false x e = absurd (cc)
 none_some : (c : PolicyCommand) → None ≡ Some c → ⊥
 none_some c e = cc
 
--- no fields are those of no command
+-- An empty list of fields is not a command.
 pub no_command : (fs : List (Bor (List ℕ))) → length fs ≡ 0 → (c : PolicyCommand)
     → IsPolicyCommand c (map (λ f. f.now) fs) → ⊥
 no_command [] e c h = none_some c (command_is_read c [] h)
 no_command (f ∷ fs) e c h = absurd (omega arith)
 
--- what was read of the fields is the command that they are
+-- A result of reading that agrees with `policy_command` is correct.
 pub reads_as : {A : Type 0} (value : A → PolicyCommand) (fs : List (List ℕ)) (o : Option A)
     → option_map value o ≡ policy_command fs → ReadsAs (λ c. IsPolicyCommand c fs) value o
 reads_as value fs None e = λ c h. none_some c (e ∙ command_is_read c fs h)
 reads_as value fs (Some a) e = read_is_command fs (value a) (sym e)
 
--- where the binding of the field at a place ends the reading, there are no bindings
+-- If the field at a place ends the reading, there are no bindings.
 pub none_read : (fs : List (Bor (List ℕ))) (k : ℕ) (z : Bor (List ℕ)) (d : EnvParts) (o : Option EnvParts)
     → k < length fs → bindings_from (Some d) (map (λ x. x.now) (drop k fs)) ≡ o
     → with_binding d (binding_of (get_or fs k z).now) ≡ None → None ≡ o
@@ -99,13 +99,13 @@ none_read fs k z d o l h n =
     none_behind d (get_or fs k z).now (map (λ x. x.now) (drop (k + 1) fs)) o
     (ap (bindings_from (Some d)) (sym (field_first fs k z l)) ∙ h) n
 
--- a field that was read as nothing is no binding
+-- A field from which nothing was read is not a binding.
 pub unread : {A : Type 0} {B : Type 0} (g : A → B) (o : Option A) (p : Option B) → option_map g o ≡ p → o ≡ None
     → p ≡ None
 unread g None p e n = sym e
 unread g (Some x) p e n = absurd (cc)
 
--- a slot that is bound is not bound once more
+-- A bound slot cannot be bound a second time.
 pub bound_again : (d : EnvParts) (b : SlotId × UidParts) (o : Option (SlotId × UidParts)) → o ≡ Some b
     → binds d b.0 ≡ true → with_binding d o ≡ None
 bound_again d b o e h = ap (with_binding d) e ∙ bound_twice (binds d b.0) (bound_more d b.0 b.1) h
@@ -118,7 +118,7 @@ bound_new : (d : EnvParts) (b : SlotId × UidParts) (o : Option (SlotId × UidPa
     → binds d b.0 ≡ false → with_binding d o ≡ Some (bound_more d b.0 b.1)
 bound_new d b o e h = ap (with_binding d) e ∙ bound_once (binds d b.0) (bound_more d b.0 b.1) h
 
--- where the field at a place binds one slot more, reading goes on behind it
+-- If the field at a place binds one more slot, the reading continues after it.
 pub one_more_read : (fs : List (Bor (List ℕ))) (k : ℕ) (z : Bor (List ℕ)) (d e : EnvParts) (b : SlotId × UidParts)
     → (o : Option EnvParts) → k < length fs → bindings_from (Some d) (map (λ x. x.now) (drop k fs)) ≡ o
     → binding_of (get_or fs k z).now ≡ Some b → binds d b.0 ≡ false → e ≡ bound_more d b.0 b.1
@@ -129,7 +129,7 @@ one_more_read fs k z d e b o l h read new is =
     ∙ sym (ap (λ x. bindings_from x rest) (bound_new d b (binding_of (get_or fs k z).now) read new))
     ∙ ap (bindings_from (Some d)) (sym (field_first fs k z l)) ∙ h
 
--- what was taken by how the fields are read is taken as the command that they are
+-- Fields that are run as they are read are run correctly.
 pub taken_as : (taken : Bool) (fs : List (List ℕ)) (old new : TwoSets) (before after : List ℕ)
     → TakesAs (policy_command fs) taken old new before after → TakesPolicy taken fs old new before after
 taken_as true fs old new before after h = (h.0, read_is_command fs h.0 h.1, h.2)
@@ -139,7 +139,7 @@ taken_as false fs old new before after h = (
   h.2,
 )
 
--- so it is where the word says how
+-- The same, if the word determines how the fields are read.
 pub taken_by : (word : List ℕ) (taken : Bool) (w : List ℕ) (fs : List (List ℕ)) (old new : TwoSets)
     (before after : List ℕ) → same_text w word ≡ true → TakesAs (command_by word fs) taken old new before after
     → TakesPolicy taken (w ∷ fs) old new before after

@@ -1,4 +1,4 @@
--- A merge of the policy set aside into the current one.
+-- The merge of the other set into the current one.
 use Rattle.std.specs.Prelude.{ℕ, List, Bool, Result, Ok, Err}
 use Rattle.std.proofs.Common.{ap, refl, inl, inr}
 use Rattle.cedar_policy_maps.specs.PolicySets.{SetParts}

@@ -1,4 +1,4 @@
--- What the commands on policy sets make of the two policy sets, and what they write.
+-- The effect of the commands on the two policy sets, and their output.
 use Rattle.std.specs.Prelude.{◌≡◌, ◌⊎◌, ℕ, List, [], ◌∷◌, ◌++◌, Bool, true, false, None, Result, Ok, Err, codes}
 use Rattle.std.specs.Prelude.{if◌then◌else◌}
 use Rattle.std.specs.List.{flat_map}
@@ -25,25 +25,25 @@ use Rattle.cedar_policy_lines.specs.PolicyCommand.{PolicyCommand, Static, Templa
 use Rattle.cedar_policy_lines.specs.PolicyCommand.{slots_named, IsPolicyCommand}
 use Rattle.cedar_policy_lines.specs.declared.field.TemplateSlots.{TemplateSlots}
 
--- ---- texts
+-- ---- Texts
 
--- the text of an id. Nothing is written of an id past ASCII, which no line gives
+-- The escaped text of an id, or the empty text if the id is not ASCII. Ids from lines are always ASCII.
 abbrev pub id_text : List ℕ → List ℕ
 id_text i = unwrap_or (escaped_output i) []
 
--- a tab and the text of an id
+-- A tab and the text of an id.
 abbrev pub id_field : List ℕ → List ℕ
 id_field i = 9 ∷ id_text i
 
--- that a command was taken
+-- The line `ok` of a successful command.
 abbrev pub ok_line : List ℕ
 ok_line = written_line (codes "ok")
 
--- the text of a uid. Nothing is written of a uid past ASCII, which no line gives
+-- The text of a uid, or the empty text if the uid is not ASCII. Uids from lines are always ASCII.
 abbrev pub uid_text : UidParts → List ℕ
 uid_text u = unwrap_or (uid_output u) []
 
--- why a call was refused. No line makes a call that is refused for one of the reasons that have no words
+-- The text of the reason why a command fails. No command fails for a reason with the empty text.
 abbrev pub refusal_words : Refusal → List ℕ
 refusal_words (occupied i) = codes "occupied " ++ id_text i
 refusal_words (id_conflict i) = codes "occupied " ++ id_text i
@@ -59,27 +59,27 @@ refusal_words (not_a_template i) = []
 refusal_words (no_static i) = []
 refusal_words (not_static i) = []
 
--- that a call was refused
+-- The line of a failed command. Example: `refused: occupied policy0`.
 abbrev pub refused_line : Refusal → List ℕ
 refused_line r = written_line (codes "refused: " ++ refusal_words r)
 
--- an id that was renamed, and its new one
+-- A renamed id and its new id, each after a tab.
 abbrev pub renamed_fields : List ℕ × List ℕ → List ℕ
 renamed_fields p = id_field p.0 ++ id_field p.1
 
--- that sets were merged: each id that was renamed, with its new one
+-- The line of a successful merge: `ok`, and then each renamed id with its new id.
 abbrev pub merged_line : List (List ℕ × List ℕ) → List ℕ
 merged_line r = written_line (codes "ok" ++ flat_map renamed_fields r)
 
--- the ids of all bodies, and of all policies, in their orders
+-- The two lines with the ids of a set: the ids of the bodies, and the ids of the policies, each in their order.
 abbrev pub ids_lines : SetParts → List ℕ
 ids_lines b =
     written_line (codes "bodies" ++ flat_map id_field (body_ids b))
     ++ written_line (codes "policies" ++ flat_map id_field (policy_ids b))
 
--- ---- bodies
+-- ---- Bodies
 
--- a static policy that constrains nothing
+-- The body of a static policy without constraints.
 abbrev pub static_body : List ℕ → Effect → BodyParts
 static_body i e = record {
   id = i;
@@ -92,15 +92,15 @@ static_body i e = record {
   clause = None;
 }
 
--- equal to the slot, where there is one
+-- The constraint that the principal or resource equals its slot, or no constraint if there is no slot.
 abbrev pub slot_constraint : Bool → Constraint
 slot_constraint b = if b then equals to_slot else any
 
--- and so of an action
+-- The constraint that the action equals its slot, or no constraint if there is no slot.
 abbrev pub slot_rule : Bool → ActionRule
 slot_rule b = if b then just_slot else any_action
 
--- a template with the slots of the principal, the action and the resource that are named, which constrains nothing else
+-- The body of a template whose only constraints are the named slots.
 abbrev pub slotted_body : List ℕ → Effect → Bool → Bool → Bool → BodyParts
 slotted_body i e on_principal on_action on_resource = record {
   id = i;
@@ -112,41 +112,45 @@ slotted_body i e on_principal on_action on_resource = record {
   clause = None;
 }
 
--- a template that permits, with the slots that are named
+-- The body of a template with the effect `permit` and these slots.
 abbrev pub template_body : List ℕ → TemplateSlots → BodyParts
 template_body i w = slotted_body i Permit (is_among (slots_named w) Principal) (is_among (slots_named w) Action)
     (is_among (slots_named w) Resource)
 
--- ---- commands
+-- ---- Commands
 
--- a call on the current policy set: the policy set of its step, or why that is refused
+-- Whether an insertion into the current set has this effect and output, given its step. If the step fails, the sets are
+-- unchanged.
 abbrev pub Joins : Result SetParts Refusal → TwoSets → TwoSets → List ℕ → Type 0
 Joins (Ok b) old new out = (new ≡ with_current old b) × (out ≡ ok_line)
 Joins (Err r) old new out = (new ≡ old) × (out ≡ refused_line r)
 
--- what an id is bound to is taken out of the current policy set, or that is refused
+-- Whether unlinking in the current set has this effect and output, given its step. If the step fails, the sets are
+-- unchanged.
 abbrev pub UnlinkGives : Result Binding Refusal → List ℕ → TwoSets → TwoSets → List ℕ → Type 0
 UnlinkGives (Ok b) i old new out = (new ≡ with_current old (without_id old.current i)) × (out ≡ ok_line)
 UnlinkGives (Err r) i old new out = (new ≡ old) × (out ≡ refused_line r)
 
--- the first id that conflicts is refused, where ids keep theirs
+-- Whether a merge fails with this output: renaming is not allowed, and the output has the first id in conflict. The
+-- sets are unchanged.
 abbrev pub IsRefusedMerge : Bool → TwoSets → TwoSets → List ℕ → Type 0
 IsRefusedMerge rename old new out =
     (i : List ℕ) × (rest : List (List ℕ)) × (rename ≡ false) × (conflicts old.current old.aside ≡ i ∷ rest)
     × (new ≡ old) × (out ≡ refused_line (occupied i))
 
--- else the policy set aside is merged into the current one, and each id that was renamed is written with its new one
+-- Whether a merge succeeds with this effect and output. The current set is the merged set, and the output has the
+-- renamed ids with their new ids. If renaming is not allowed, there is no conflict.
 abbrev pub IsMerge : Bool → TwoSets → TwoSets → List ℕ → Type 0
 IsMerge rename old new out =
     (r : List (List ℕ × List ℕ)) × IsRenaming old.current old.aside r
     × (rename ≡ false → conflicts old.current old.aside ≡ [])
     × (new ≡ with_current old (merged old.current old.aside (new_id r))) × (out ≡ merged_line r)
 
--- a merge is refused, or made
+-- Whether a merge has this effect and output: it fails or succeeds.
 abbrev pub MergeGives : Bool → TwoSets → TwoSets → List ℕ → Type 0
 MergeGives rename old new out = IsRefusedMerge rename old new out ⊎ IsMerge rename old new out
 
--- the policy sets that a command leaves, and what it writes
+-- Whether a command changes the sets `old` to the sets `new` and writes `out`.
 abbrev pub PolicyGives : PolicyCommand → TwoSets → TwoSets → List ℕ → Type 0
 PolicyGives (Static i e) old new out = Joins (add_static_step old.current (static_body i e)) old new out
 PolicyGives (Template i w) old new out = Joins (add_template_step old.current (template_body i w)) old new out
@@ -156,11 +160,13 @@ PolicyGives Other old new out = (new ≡ swapped old) × (out ≡ ok_line)
 PolicyGives (Merge rename) old new out = MergeGives rename old new out
 PolicyGives Ids old new out = (new ≡ old) × (out ≡ ids_lines old.current)
 
--- a command makes these policy sets of those, and adds what it writes
+-- Whether a command changes the sets `old` to the sets `new` and appends its output. `before` and `after` are the whole
+-- output before and after it.
 abbrev pub PolicyWrites : PolicyCommand → TwoSets → TwoSets → List ℕ → List ℕ → Type 0
 PolicyWrites c old new before after = (text : List ℕ) × PolicyGives c old new text × (after ≡ before ++ text)
 
--- fields that are those of a command are taken as it; with any others nothing changes
+-- Whether fields are run correctly, given the returned truth value. Fields that are a command are run as this command.
+-- Any other fields change nothing.
 abbrev pub TakesPolicy : Bool → List (List ℕ) → TwoSets → TwoSets → List ℕ → List ℕ → Type 0
 TakesPolicy true fs old new before after = (c : PolicyCommand) × IsPolicyCommand c fs
     × PolicyWrites c old new before after

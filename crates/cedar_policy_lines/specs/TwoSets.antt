@@ -1,19 +1,19 @@
 -- The two policy sets of the program.
 use Rattle.cedar_policy_maps.specs.PolicySets.{SetParts, empty_set}
 
--- the current one, and the one aside
+-- Two policy sets: the current set, which commands change, and the other set.
 pub record TwoSets : Type 0 where
   pub current : SetParts
   pub aside : SetParts
 
--- both without a binding
+-- Two empty sets.
 abbrev pub no_sets : TwoSets
 no_sets = record { current = empty_set; aside = empty_set }
 
--- another current one
+-- The two sets with another current set.
 abbrev pub with_current : TwoSets → SetParts → TwoSets
 with_current b c = record { current = c; aside = b.aside }
 
--- the one aside becomes current, and that one goes aside
+-- The two sets swapped.
 abbrev pub swapped : TwoSets → TwoSets
 swapped b = record { current = b.aside; aside = b.current }

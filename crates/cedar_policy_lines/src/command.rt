@@ -1,4 +1,4 @@
-//! Which fields are which command.
+//! Commands on policy sets, and how to read them from the fields of a line.
 ghost use Rattle.std.specs.Prelude.{◌≡◌, OnOk, IfOk, map, Some, None, if◌then◌else◌};
 ghost use Rattle.std.specs.List.{list_all};
 ghost use Rattle.std.specs.Map.{keys_of};
@@ -25,27 +25,31 @@ use cedar_terms::slot::SlotId;
 use std::alloc::{AllocError, Global};
 use std::mem;
 
-/// A line on policy sets that is a command. It is this project's own.
+/// A command on the two policy sets.
+///
+/// # Differences from cedar-policy-core
+///
+/// The original has no such type.
 #[derive(Debug, Drop)]
 pub enum PolicyCommand {
-    /// A static policy of this id and effect joins.
+    /// Adds a static policy with this id and effect.
     Static(PolicyID, Effect),
-    /// A template of this id joins, with these slots.
+    /// Adds a template with this id and these slots.
     Template(PolicyID, TemplateSlots),
-    /// A link of the template with the first id joins under the second, with these bindings.
+    /// Links the template with the first id to these bindings under the second id.
     Link(PolicyID, PolicyID, SlotEnv),
-    /// The link with this id goes.
+    /// Removes the link with this id.
     Unlink(PolicyID),
-    /// The set aside becomes the current one, and that one goes aside.
+    /// Swaps the current set and the other set.
     Other,
-    /// The set aside is merged into the current one, with renaming or without.
+    /// Merges the other set into the current one. If the value is true, ids in conflict are renamed.
     Merge(bool),
-    /// The ids of the current set are asked for.
+    /// Writes the ids of the current set.
     Ids,
 }
 
-// What the link before was read into, whose room the next takes: the id of its template, the map of its bindings, and an
-// eid that was bound before.
+// The buffers for reading links, which the next link reuses: the id of the template, the map of the bindings, and the
+// eid of an earlier binding.
 #[derive(Debug, Drop)]
 pub(crate) struct LinkRoom {
     pub(crate) template: PolicyID,
@@ -54,7 +58,7 @@ pub(crate) struct LinkRoom {
 }
 
 impl LinkRoom {
-    // That of no link. It takes no memory.
+    // Creates empty buffers. Does not allocate.
     pub(crate) fn new(alloc: Global) -> LinkRoom {
         LinkRoom {
             template: no_id(alloc),
@@ -63,14 +67,14 @@ impl LinkRoom {
         }
     }
 
-    // Keeps what a link was read into.
+    // Stores the buffers of a link for the next one.
     pub(crate) fn keep(&mut self, template: PolicyID, values: SlotEnv) {
         self.template = template;
         self.values = values;
     }
 
-    // Reads a link, if the fields behind the word are those of one: the id of its template and its bindings are here
-    // then. Answers its own id.
+    // Reads the fields after `link`, if they are a link's. Returns the id of the link. The id of the template and the
+    // bindings are then in `self`.
     pub(crate) fn read(
         &mut self,
         alloc: Global,
@@ -94,12 +98,12 @@ impl LinkRoom {
     }
 }
 
-// The empty id, which takes no memory.
+// Returns the empty id. Does not allocate.
 fn no_id(alloc: Global) -> PolicyID {
     PolicyID::from_smolstr(String::new(alloc))
 }
 
-// Makes an id that with a text, in its room.
+// Sets an id to this text, and reuses its buffer.
 fn set_id(alloc: Global, id: &mut PolicyID, text: &str) -> Result<(), AllocError>
     ensures { OnOk result (id.new ≡ text.now) }
 {
@@ -108,7 +112,7 @@ fn set_id(alloc: Global, id: &mut PolicyID, text: &str) -> Result<(), AllocError
     Ok(())
 }
 
-// The one field that there is.
+// Returns the field, if there is exactly one.
 fn only<'a>(fields: &[&'a str]) -> Option<&'a str>
     ensures { option_map (λ f. f.now) result ≡ only (map (λ f. f.now) fields.now) }
 {
@@ -119,7 +123,7 @@ fn only<'a>(fields: &[&'a str]) -> Option<&'a str>
     None
 }
 
-// Binds a slot. Of what it was bound to the eid is kept, for its room.
+// Binds a slot to a uid. Stores the eid of the slot's former uid in `room`, so that its buffer can be reused.
 fn bind(
     room: &mut String,
     values: &mut SlotEnv,
@@ -147,14 +151,14 @@ fn unbind_unless(values: &mut SlotEnv, slot: SlotId, is_named: bool)
     }
 }
 
-// Whether each slot that is bound is named.
+// Returns whether all bound slots are named.
 fn are_named(values: &SlotEnv, named: NamedSlots) -> bool
     ensures { result ≡ list_all (is_named named) (keys_of values.now.entries) }
 {
     values.keys().all(|slot| named.has(*slot))
 }
 
-// Unbinds the slots that are not named. Mostly there are none, and none is hashed.
+// Unbinds the slots that are not named. The check before avoids hashing, because mostly there are none.
 fn unbind_others(values: &mut SlotEnv, named: NamedSlots)
     ensures { env_of values.new ≡ named_alone named (env_of values.old) }
 {
@@ -166,8 +170,8 @@ fn unbind_others(values: &mut SlotEnv, named: NamedSlots)
     unbind_unless(values, SlotId::Resource, named.has(SlotId::Resource));
 }
 
-// Reads bindings in the place of those of the link before, and says whether the fields are some: one field for each slot
-// that is bound.
+// Reads the bindings of a link into the buffers, and returns whether the fields are bindings. Each bound slot has one
+// field.
 fn read_bindings(
     alloc: Global,
     known: &mut KnownTypes,
@@ -192,7 +196,7 @@ fn read_bindings(
     Ok(true)
 }
 
-// The id and the effect behind `static`.
+// Reads the id and the effect after `static`.
 pub(crate) fn read_static(
     alloc: Global,
     fields: &[&str],
@@ -211,7 +215,7 @@ pub(crate) fn read_static(
     Ok(Some((PolicyID::from_string(alloc, id)?, effect)))
 }
 
-// The command of `static`.
+// Reads the command `static`.
 fn static_of(alloc: Global, fields: &[&str]) -> Result<Option<PolicyCommand>, AllocError>
     ensures { IfOk result (λ o. option_map policy_command_of o ≡ static_of (map (λ f. f.now) fields.now)) }
 {
@@ -221,7 +225,7 @@ fn static_of(alloc: Global, fields: &[&str]) -> Result<Option<PolicyCommand>, Al
     }
 }
 
-// The id and the slots behind `template`.
+// Reads the id and the slots after `template`.
 pub(crate) fn read_template(
     alloc: Global,
     fields: &[&str],
@@ -240,7 +244,7 @@ pub(crate) fn read_template(
     Ok(Some((PolicyID::from_string(alloc, id)?, slots)))
 }
 
-// The command of `template`.
+// Reads the command `template`.
 fn template_of(alloc: Global, fields: &[&str]) -> Result<Option<PolicyCommand>, AllocError>
     ensures { IfOk result (λ o. option_map policy_command_of o ≡ template_of (map (λ f. f.now) fields.now)) }
 {
@@ -250,7 +254,7 @@ fn template_of(alloc: Global, fields: &[&str]) -> Result<Option<PolicyCommand>, 
     }
 }
 
-// The command of `link`.
+// Reads the command `link`.
 fn link_of(
     alloc: Global,
     known: &mut KnownTypes,
@@ -267,7 +271,7 @@ fn link_of(
     Ok(Some(PolicyCommand::Link(template, id, values)))
 }
 
-// The command of `unlink`.
+// Reads the command `unlink`.
 fn unlink_of(alloc: Global, fields: &[&str]) -> Result<Option<PolicyCommand>, AllocError>
     ensures { IfOk result (λ o. option_map policy_command_of o ≡ unlink_of (map (λ f. f.now) fields.now)) }
 {
@@ -277,7 +281,7 @@ fn unlink_of(alloc: Global, fields: &[&str]) -> Result<Option<PolicyCommand>, Al
     Ok(Some(PolicyCommand::Unlink(PolicyID::from_string(alloc, id)?)))
 }
 
-// The command of `merge`.
+// Reads the command `merge`.
 fn merge_of(fields: &[&str]) -> Option<PolicyCommand>
     ensures { option_map policy_command_of result ≡ merge_of (map (λ f. f.now) fields.now) }
 {
@@ -286,7 +290,7 @@ fn merge_of(fields: &[&str]) -> Option<PolicyCommand>
     Some(PolicyCommand::Merge(rename))
 }
 
-// The command of `other`.
+// Reads the command `other`.
 fn other_of(fields: &[&str]) -> Option<PolicyCommand>
     ensures { option_map policy_command_of result ≡ bare_of Other (map (λ f. f.now) fields.now) }
 {
@@ -296,7 +300,7 @@ fn other_of(fields: &[&str]) -> Option<PolicyCommand>
     None
 }
 
-// The command of `ids`.
+// Reads the command `ids`.
 fn ids_of(fields: &[&str]) -> Option<PolicyCommand>
     ensures { option_map policy_command_of result ≡ bare_of Ids (map (λ f. f.now) fields.now) }
 {
@@ -306,7 +310,7 @@ fn ids_of(fields: &[&str]) -> Option<PolicyCommand>
     None
 }
 
-// The command with this word and these fields behind it.
+// Reads the command with this word and these fields after it.
 fn command_by(
     alloc: Global,
     known: &mut KnownTypes,
@@ -340,13 +344,23 @@ fn command_by(
     Ok(None)
 }
 
-/// The command whose fields these are, if they are those of a line on policy sets: the word and what stands behind it.
+/// Reads a command on policy sets from the fields of a line. Returns nothing if the fields are not such a command. The
+/// first field is the word of the command.
 ///
-/// An id is any field, the empty one too. The types of the uids that it binds are known from then on, and shared with
-/// the lines to come.
+/// An id can be any field, including the empty one. The entity types of bound uids are cached in `known` and shared
+/// with later lines.
 ///
-/// Takes memory for the ids, the bindings and what is known, and is refused only where that is; its cost is linear in
-/// the fields. It is this project's own.
+/// # Errors
+///
+/// Returns `AllocError` if an allocation fails.
+///
+/// # Complexity
+///
+/// O(n), where n is the total length of the fields. Allocates the ids, the bindings and new cache entries.
+///
+/// # Differences from cedar-policy-core
+///
+/// The original has no such function.
 pub fn read_policy_command(
     alloc: Global,
     known: &mut KnownTypes,
@@ -358,7 +372,8 @@ pub fn read_policy_command(
     read_with(alloc, known, &mut room, fields)
 }
 
-// The same, where a link is read into the room of one before, which is taken.
+// Reads a command as `read_policy_command` does, but reads a link into the buffers of an earlier one, which are moved
+// into the command.
 pub(crate) fn read_with(
     alloc: Global,
     known: &mut KnownTypes,

@@ -1,4 +1,4 @@
-//! Reading one field of a line.
+//! Reading of single fields.
 ghost use Rattle.std.specs.Prelude.{◌≡◌, IfOk};
 ghost use Rattle.std.specs.Option.{option_map};
 ghost use Rattle.cedar_ids.specs.Uid.{UidParts};
@@ -13,7 +13,7 @@ use cedar_lines::known_types::{KnownTypes, uid_in};
 use cedar_terms::slot::SlotId;
 use std::alloc::{AllocError, Global};
 
-// The effect that a word is.
+// Returns the effect with this word.
 pub(crate) fn effect_of(word: &str) -> Option<Effect>
     ensures { result ≡ effect_of word.now }
 {
@@ -26,24 +26,28 @@ pub(crate) fn effect_of(word: &str) -> Option<Effect>
     None
 }
 
-/// The slots of a template that a line makes, by the line's word. It is this project's own.
+/// The slots of a template that a line declares.
+///
+/// # Differences from cedar-policy-core
+///
+/// The original has no such type.
 #[derive(Clone, Copy, Debug)]
 pub enum TemplateSlots {
-    /// None.
+    /// No slots.
     NoSlots,
-    /// The principal's.
+    /// The slot of the principal.
     OnPrincipal,
-    /// The action's.
+    /// The slot of the action.
     OnAction,
-    /// The resource's.
+    /// The slot of the resource.
     OnResource,
-    /// The principal's and the resource's.
+    /// The slots of the principal and the resource.
     OnBoth,
-    /// All three.
+    /// The slots of the principal, the action and the resource.
     OnAll,
 }
 
-// The slots that a word names.
+// Returns the slots with this word.
 pub(crate) fn slots_of(word: &str) -> Option<TemplateSlots>
     ensures { result ≡ slots_of word.now }
 {
@@ -68,7 +72,7 @@ pub(crate) fn slots_of(word: &str) -> Option<TemplateSlots>
     None
 }
 
-// Whether a word asks for renaming, if it is one of the two that say so.
+// Returns true for `rename` and false for `keep`.
 pub(crate) fn renaming_of(word: &str) -> Option<bool>
     ensures { result ≡ renaming_of word.now }
 {
@@ -81,14 +85,14 @@ pub(crate) fn renaming_of(word: &str) -> Option<bool>
     None
 }
 
-// What stands behind a mark, where the field starts with it.
+// Returns the rest of a field after this prefix.
 fn behind<'a>(field: &'a str, mark: &str) -> Option<&'a str>
     ensures { option_map (λ x. x.now) result ≡ behind mark.now field.now }
 {
     field.strip_prefix(mark)
 }
 
-// A slot with the uid whose text stands behind its mark. The eid is read into the room of a text.
+// Returns a slot with the uid that the text represents. Reuses the buffer `room` for the eid.
 fn bound_as(
     alloc: Global,
     known: &mut KnownTypes,
@@ -105,7 +109,7 @@ fn bound_as(
     }
 }
 
-// The binding that a field is. The eid is read into the room of a text.
+// Returns the slot and the uid of a binding, for example `principal=A::"a"`. Reuses the buffer `room` for the eid.
 pub(crate) fn binding_of(
     alloc: Global,
     known: &mut KnownTypes,

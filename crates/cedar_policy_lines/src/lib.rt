@@ -1,8 +1,8 @@
-//! The program's lines on policy sets: reading them, and what they make of the two sets.
+//! The program's commands on policy sets: how to read them from lines, and how to run them on the two sets.
 //!
-//! `specs/PolicyCommand.antt` says which fields are which command, and `specs/PolicyOutput.antt` what each command
-//! makes of the two policy sets and what it writes, by the steps and the merging of `cedar_policy_set`. The program
-//! itself is `cedar_store`.
+//! The program is in `cedar_store`. `specs/PolicyCommand.antt` defines the fields of each command.
+//! `specs/PolicyOutput.antt` defines the effect and the output of each command, by the steps and the merge of policy
+//! sets.
 #![tactic(auto)]
 
 mod command;

@@ -1,4 +1,4 @@
-//! The two policy sets of a run, and one function for each command on them.
+//! The two policy sets of a run, with one function for each command.
 ghost use Rattle.std.specs.Prelude.{◌≡◌, [], IfOk, OnOk, map};
 ghost use Rattle.cedar_binding.specs.Views.{env_of};
 ghost use Rattle.cedar_lines.specs.Reads.{ReadsAs};
@@ -30,10 +30,14 @@ use std::marker::Model;
 use std::mem;
 use std::rc::Rc;
 
-/// The two policy sets of a run: the current one, and the one aside. Contracts see their policy sets; the sets hash ids
-/// by what `S` builds, which they do not see. It is this project's own.
-// Links are read into one room, which serves all: what stands there between lines says nothing. The bodies of lines
-// share their annotations, which are none.
+/// The two policy sets of a run: the current set, which most commands change, and the other set. Contracts see both
+/// sets, but not the builder of hashers.
+///
+/// # Differences from cedar-policy-core
+///
+/// The original has no such type.
+// `room` is reused by all links. Its content between lines has no meaning. The bodies of all lines share `annotations`,
+// which is empty.
 #[derive(Debug, Drop)]
 pub struct PolicySets<S: BuildHasher = BuildHasherDefault<FoldHasher>> {
     current: PolicySet<S>,
@@ -57,7 +61,7 @@ impl<S: BuildHasher> Model for PolicySets<S> {
 }
 
 impl PolicySets {
-    /// Two sets without a binding. Takes no memory.
+    /// Creates two empty policy sets with the default hasher. Does not allocate.
     pub fn new(alloc: Global) -> PolicySets
         ensures { result ≡ no_sets }
     {
@@ -66,7 +70,7 @@ impl PolicySets {
 }
 
 impl<S: BuildHasher + Copy> PolicySets<S> {
-    /// Two sets without a binding, which hash ids by what `hasher` builds. Takes no memory.
+    /// Creates two empty policy sets with this builder of hashers. Does not allocate.
     pub fn with_hasher(alloc: Global, hasher: S) -> PolicySets<S>
         ensures { result ≡ no_sets }
     {
@@ -78,12 +82,21 @@ impl<S: BuildHasher + Copy> PolicySets<S> {
         }
     }
 
-    /// The command whose fields these are, if they are those of a line on policy sets. The id of a link's template and its
-    /// bindings are read into the room of those of the link before, so that a link that is refused has taken no map; the
-    /// sets stay as they are.
+    /// Reads a command on policy sets from the fields of a line, as `read_policy_command` does. Returns nothing if the
+    /// fields are not such a command. The sets do not change. A link is read into the buffers of the link before it, so
+    /// a link that later fails allocates no map.
     ///
-    /// Takes memory for the ids, the bindings and what is known, and is refused only where that is; its cost is linear in
-    /// the fields. It is this project's own.
+    /// # Errors
+    ///
+    /// Returns `AllocError` if an allocation fails. The sets are unchanged then.
+    ///
+    /// # Complexity
+    ///
+    /// O(n), where n is the total length of the fields. Allocates the ids, the bindings and new cache entries.
+    ///
+    /// # Differences from cedar-policy-core
+    ///
+    /// The original has no such function.
     pub fn read(
         &mut self,
         alloc: Global,
@@ -96,7 +109,7 @@ impl<S: BuildHasher + Copy> PolicySets<S> {
         read_with(alloc, known, &mut self.room, fields)
     }
 
-    // The annotations of the bodies of lines, once more.
+    // Returns a new reference to the shared empty annotations.
     fn annotations(&mut self, alloc: Global) -> Result<Rc<Annotations>, AllocError>
         ensures same { self.new ≡ self.old }
         ensures none { IfOk result (λ a. a.value ≡ []) }
@@ -109,7 +122,7 @@ impl<S: BuildHasher + Copy> PolicySets<S> {
         Ok(shared)
     }
 
-    // A static policy joins.
+    // Runs `static`.
     fn add_static(
         &mut self,
         alloc: Global,
@@ -125,7 +138,7 @@ impl<S: BuildHasher + Copy> PolicySets<S> {
         push_by_set(alloc, out, answer)
     }
 
-    // A template joins.
+    // Runs `template`.
     fn add_template(
         &mut self,
         alloc: Global,
@@ -141,7 +154,7 @@ impl<S: BuildHasher + Copy> PolicySets<S> {
         push_by_set(alloc, out, answer)
     }
 
-    // A link joins.
+    // Runs `link`.
     fn link(
         &mut self,
         alloc: Global,
@@ -160,7 +173,7 @@ impl<S: BuildHasher + Copy> PolicySets<S> {
         push_by_linking(alloc, out, answer)
     }
 
-    // Takes the fields behind `static`, and says whether they are those of a command.
+    // Runs the fields after `static` if they are a command, and returns whether they are.
     fn take_static(
         &mut self,
         alloc: Global,
@@ -179,7 +192,7 @@ impl<S: BuildHasher + Copy> PolicySets<S> {
         }
     }
 
-    // Takes the fields behind `template`, and says whether they are those of a command.
+    // Runs the fields after `template` if they are a command, and returns whether they are.
     fn take_template(
         &mut self,
         alloc: Global,
@@ -198,7 +211,8 @@ impl<S: BuildHasher + Copy> PolicySets<S> {
         }
     }
 
-    // Takes the fields behind `link`, and says whether they are those of a command. The link is made where it is read.
+    // Runs the fields after `link` if they are a command, and returns whether they are. The link is made from the
+    // buffers in which it was read.
     fn take_link(
         &mut self,
         alloc: Global,
@@ -220,7 +234,7 @@ impl<S: BuildHasher + Copy> PolicySets<S> {
         Ok(true)
     }
 
-    // Takes the fields of a line by the command that they are, and says whether they are those of one.
+    // Reads the fields of a line as a command and runs it. Returns whether they are a command.
     fn take_command(
         &mut self,
         alloc: Global,
@@ -240,11 +254,21 @@ impl<S: BuildHasher + Copy> PolicySets<S> {
         }
     }
 
-    /// Takes the fields of a line on policy sets, and says whether they are those of one, as [`PolicySets::read`] and
-    /// [`PolicySets::take`] do. What joins is made where it is read, and no command of it.
+    /// Runs the fields of a line if they are a command on policy sets, and returns whether they are. The effect is the
+    /// same as [`PolicySets::read`] and then [`PolicySets::take`]. For insertions it creates no [`PolicyCommand`].
     ///
-    /// It is refused only where memory was, and then nothing is said of the sets and of what was added. Its cost is that
-    /// of the call on the set, and of what is written. It is this project's own.
+    /// # Errors
+    ///
+    /// Returns `AllocError` if an allocation fails. The state of the sets and the bytes appended to `out` are then
+    /// unspecified. An error of the command itself is written to `out`, and is not an error of this function.
+    ///
+    /// # Complexity
+    ///
+    /// The cost of the call on the set, and of the output.
+    ///
+    /// # Differences from cedar-policy-core
+    ///
+    /// The original has no such function.
     pub fn take_fields(
         &mut self,
         alloc: Global,
@@ -270,7 +294,7 @@ impl<S: BuildHasher + Copy> PolicySets<S> {
         self.take_command(alloc, known, fields, out)
     }
 
-    // A link goes.
+    // Runs `unlink`.
     fn unlink(&mut self, alloc: Global, id: &PolicyID, out: &mut Vec<u8>) -> Result<(), AllocError>
         ensures { OnOk result (PolicyWrites (unlink_command id.now) self.old self.new out.old.items out.new.items) }
     {
@@ -278,7 +302,7 @@ impl<S: BuildHasher + Copy> PolicySets<S> {
         push_by_unlinking(alloc, out, answer)
     }
 
-    // The set aside becomes the current one, and that one goes aside.
+    // Runs `other`: swaps the two sets.
     fn other(&mut self, out: &mut Vec<u8>) -> Result<(), AllocError>
         ensures { OnOk result (PolicyWrites other_command self.old self.new out.old.items out.new.items) }
     {
@@ -286,7 +310,7 @@ impl<S: BuildHasher + Copy> PolicySets<S> {
         push_ok(out)
     }
 
-    // The set aside is merged into the current one.
+    // Runs `merge`: merges the other set into the current one.
     fn merge(&mut self, alloc: Global, rename: bool, out: &mut Vec<u8>) -> Result<(), AllocError>
         ensures { OnOk result (PolicyWrites (merge_command rename) self.old self.new out.old.items out.new.items) }
     {
@@ -294,17 +318,27 @@ impl<S: BuildHasher + Copy> PolicySets<S> {
         push_by_merging(alloc, out, answer)
     }
 
-    // The ids of the current set are written.
+    // Runs `ids`: writes the ids of the current set.
     fn ids(&self, alloc: Global, out: &mut Vec<u8>) -> Result<(), AllocError>
         ensures { OnOk result (PolicyWrites ids_command self.now self.now out.old.items out.new.items) }
     {
         push_ids(alloc, out, &self.current)
     }
 
-    /// Takes a command on the two sets, and adds what it writes.
+    /// Runs a command on the two sets, and appends its output to `out`.
     ///
-    /// It is refused only where memory was, and then nothing is said of the sets and of what was added. Its cost is
-    /// that of the call on the set, and of what is written. It is this project's own.
+    /// # Errors
+    ///
+    /// Returns `AllocError` if an allocation fails. The state of the sets and the bytes appended to `out` are then
+    /// unspecified. An error of the command itself is written to `out`, and is not an error of this function.
+    ///
+    /// # Complexity
+    ///
+    /// The cost of the call on the set, and of the output.
+    ///
+    /// # Differences from cedar-policy-core
+    ///
+    /// The original has no such function.
     pub fn take(
         &mut self,
         alloc: Global,

@@ -1,4 +1,4 @@
-//! The policies and templates that constrain nothing but by slots, as lines make them.
+//! Constructors of the policies and templates that lines declare. Their only constraints are slots.
 ghost use Rattle.std.specs.Prelude.{◌≡◌, [], IfOk};
 ghost use Rattle.cedar_policy_lines.specs.PolicyOutput.{slot_constraint, slot_rule, slotted_body, static_body};
 ghost use Rattle.cedar_policy_lines.specs.PolicyOutput.{template_body};
@@ -17,7 +17,15 @@ use cedar_scope::{PrincipalConstraint, ResourceConstraint};
 use std::alloc::{AllocError, Global};
 use std::rc::Rc;
 
-/// A static policy that constrains nothing. Takes memory, and is refused only where that is. It is this project's own.
+/// Creates a static policy without constraints, clause and annotations.
+///
+/// # Errors
+///
+/// Returns `AllocError` if an allocation fails.
+///
+/// # Differences from cedar-policy-core
+///
+/// The original has no such function.
 pub fn static_policy(
     alloc: Global,
     id: PolicyID,
@@ -29,7 +37,7 @@ pub fn static_policy(
     unconstrained(alloc, annotations, id, effect)
 }
 
-// A static policy that constrains nothing, whose annotations, which are none, are shared.
+// Creates a static policy without constraints, which shares these empty annotations.
 pub(crate) fn unconstrained(
     alloc: Global,
     annotations: Rc<Annotations>,
@@ -57,7 +65,7 @@ pub(crate) fn unconstrained(
     }
 }
 
-// Whether some slots have the principal's among them.
+// Returns whether the slots include the principal's.
 fn on_principal(slots: TemplateSlots) -> bool
     ensures { result ≡ is_among (slots_named slots) Principal }
 {
@@ -71,7 +79,7 @@ fn on_principal(slots: TemplateSlots) -> bool
     }
 }
 
-// Whether they have the action's.
+// Returns whether the slots include the action's.
 fn on_action(slots: TemplateSlots) -> bool
     ensures { result ≡ is_among (slots_named slots) Action }
 {
@@ -85,7 +93,7 @@ fn on_action(slots: TemplateSlots) -> bool
     }
 }
 
-// Whether they have the resource's.
+// Returns whether the slots include the resource's.
 fn on_resource(slots: TemplateSlots) -> bool
     ensures { result ≡ is_among (slots_named slots) Resource }
 {
@@ -99,7 +107,7 @@ fn on_resource(slots: TemplateSlots) -> bool
     }
 }
 
-// The principal is what its slot is bound to, where that is named.
+// Returns the constraint that the principal equals its slot, or no constraint if the slot is not named.
 fn principal_of(named: bool) -> PrincipalConstraint
     ensures { result ≡ slot_constraint named }
 {
@@ -109,7 +117,7 @@ fn principal_of(named: bool) -> PrincipalConstraint
     PrincipalConstraint::any()
 }
 
-// The action is what its slot is bound to, where that is named.
+// Returns the constraint that the action equals its slot, or no constraint if the slot is not named.
 fn action_of(named: bool) -> ActionConstraint
     ensures { rule_of result ≡ slot_rule named }
 {
@@ -119,7 +127,7 @@ fn action_of(named: bool) -> ActionConstraint
     ActionConstraint::any()
 }
 
-// The resource is what its slot is bound to, where that is named.
+// Returns the constraint that the resource equals its slot, or no constraint if the slot is not named.
 fn resource_of(named: bool) -> ResourceConstraint
     ensures { result ≡ slot_constraint named }
 {
@@ -129,8 +137,16 @@ fn resource_of(named: bool) -> ResourceConstraint
     ResourceConstraint::any()
 }
 
-/// A template whose principal, action and resource are what their slots are bound to, each where it is named; it
-/// constrains nothing else. Takes memory, and is refused only where that is. It is this project's own.
+/// Creates a template whose principal, action and resource have to equal their slots. A flag that is false leaves its
+/// part without a constraint. The template has no clause and no annotations.
+///
+/// # Errors
+///
+/// Returns `AllocError` if an allocation fails.
+///
+/// # Differences from cedar-policy-core
+///
+/// The original has no such function.
 pub fn slotted_template(
     alloc: Global,
     id: PolicyID,
@@ -154,7 +170,7 @@ pub fn slotted_template(
     )
 }
 
-// A template that permits, with the slots that are named, whose annotations, which are none, are shared.
+// Creates a template with the effect `permit` and these slots, which shares these empty annotations.
 pub(crate) fn template(
     alloc: Global,
     annotations: Rc<Annotations>,

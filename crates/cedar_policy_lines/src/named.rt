@@ -1,4 +1,4 @@
-//! Which slots the fields of a line have named.
+//! The set of slots that the fields of a line have named.
 ghost use Rattle.std.specs.Prelude.{◌≡◌, ◌||◌, false};
 ghost use Rattle.cedar_terms.specs.SlotTree.{same_slot};
 ghost use Rattle.cedar_terms.specs.declared.slot.SlotId.{SlotId};
@@ -6,7 +6,7 @@ ghost use Rattle.cedar_policy_lines.specs.laws.NamedSlots.{is_named};
 
 use cedar_terms::slot::SlotId;
 
-// Some slots.
+// A set of slots.
 #[derive(Clone, Copy, Debug)]
 pub(crate) struct NamedSlots {
     principal: bool,
@@ -15,7 +15,7 @@ pub(crate) struct NamedSlots {
 }
 
 impl NamedSlots {
-    // No slot.
+    // Returns the empty set.
     pub(crate) fn none() -> NamedSlots
         ensures { (s : SlotId) → is_named result s ≡ false }
     {
@@ -26,7 +26,7 @@ impl NamedSlots {
         }
     }
 
-    // Whether a slot is one of them.
+    // Returns whether the set contains a slot.
     pub(crate) fn has(self, slot: SlotId) -> bool
         ensures { result ≡ is_named self slot }
     {
@@ -37,7 +37,7 @@ impl NamedSlots {
         }
     }
 
-    // These and a slot.
+    // Returns the set with one more slot.
     pub(crate) fn with(self, slot: SlotId) -> NamedSlots
         ensures { (s : SlotId) → is_named result s ≡ (same_slot s slot || is_named self s) }
     {

@@ -1,4 +1,4 @@
-//! What the commands on policy sets write.
+//! The output of the commands on policy sets.
 ghost use Rattle.std.specs.Prelude.{◌≡◌, ◌++◌, ◌∷◌, OnOk, IfOk, map, codes, ℕ, List};
 ghost use Rattle.std.specs.List.{flat_map};
 ghost use Rattle.std.specs.String.{string_bytes};
@@ -19,14 +19,14 @@ use indexmap::IndexMap;
 use std::alloc::{AllocError, Global};
 use std::hash::BuildHasher;
 
-// Adds that a command was taken.
+// Writes the line `ok`.
 pub(crate) fn push_ok(out: &mut Vec<u8>) -> Result<(), AllocError>
     ensures { OnOk result (out.new.items ≡ out.old.items ++ ok_line) }
 {
     push_line(out, "ok")
 }
 
-// The text of an id.
+// Returns the escaped text of an id, or the empty text if the id is not ASCII.
 fn id_text(alloc: Global, id: &PolicyID) -> Result<String, AllocError>
     ensures { IfOk result (λ s. string_bytes s ≡ id_text id.now) }
 {
@@ -36,7 +36,7 @@ fn id_text(alloc: Global, id: &PolicyID) -> Result<String, AllocError>
     Ok(String::new(alloc))
 }
 
-// The text of a uid.
+// Returns the text of a uid, or the empty text if its eid is not ASCII.
 fn uid_text(alloc: Global, uid: &EntityUID) -> Result<String, AllocError>
     ensures { IfOk result (λ s. string_bytes s ≡ uid_text (uid_parts uid.now)) }
 {
@@ -46,7 +46,7 @@ fn uid_text(alloc: Global, uid: &EntityUID) -> Result<String, AllocError>
     Ok(String::new(alloc))
 }
 
-// Adds a text and a uid.
+// Writes a text and a uid.
 fn push_uid(
     alloc: Global,
     out: &mut Vec<u8>,
@@ -60,7 +60,7 @@ fn push_uid(
     out.extend_from_slice(text.as_bytes())
 }
 
-// Adds that a call was refused, with a uid.
+// Writes the line of an error with a uid.
 fn push_refused_uid(
     alloc: Global,
     out: &mut Vec<u8>,
@@ -75,7 +75,7 @@ fn push_refused_uid(
     Ok(())
 }
 
-// Adds the text of an id. That of most is the id itself, which needs no text of its own first.
+// Writes the text of an id. Most ids need no escape, and are copied directly.
 fn push_id_text(alloc: Global, out: &mut Vec<u8>, id: &PolicyID) -> Result<(), AllocError>
     ensures { OnOk result (out.new.items ≡ out.old.items ++ id_text id.now) }
 {
@@ -88,7 +88,7 @@ fn push_id_text(alloc: Global, out: &mut Vec<u8>, id: &PolicyID) -> Result<(), A
     out.extend_from_slice(text.as_bytes())
 }
 
-// Adds a text and an id.
+// Writes a text and an id.
 fn push_id(alloc: Global, out: &mut Vec<u8>, before: &str, id: &PolicyID) -> Result<(), AllocError>
     ensures { OnOk result (out.new.items ≡ out.old.items ++ (before.now ++ id_text id.now)) }
 {
@@ -96,7 +96,7 @@ fn push_id(alloc: Global, out: &mut Vec<u8>, before: &str, id: &PolicyID) -> Res
     push_id_text(alloc, out, id)
 }
 
-// Adds that a call was refused, with an id.
+// Writes the line of an error with an id.
 fn push_refused(
     alloc: Global,
     out: &mut Vec<u8>,
@@ -111,7 +111,7 @@ fn push_refused(
     Ok(())
 }
 
-// Adds what joining answered.
+// Writes the result of adding a policy or a template.
 pub(crate) fn push_by_set(
     alloc: Global,
     out: &mut Vec<u8>,
@@ -126,7 +126,7 @@ pub(crate) fn push_by_set(
     }
 }
 
-// Adds what linking answered.
+// Writes the result of linking.
 pub(crate) fn push_by_linking(
     alloc: Global,
     out: &mut Vec<u8>,
@@ -146,7 +146,7 @@ pub(crate) fn push_by_linking(
     }
 }
 
-// Adds what unlinking answered.
+// Writes the result of unlinking.
 pub(crate) fn push_by_unlinking(
     alloc: Global,
     out: &mut Vec<u8>,
@@ -164,7 +164,7 @@ pub(crate) fn push_by_unlinking(
     }
 }
 
-// Adds the ids that were renamed, each with its new one.
+// Writes the renamed ids, each with its new id.
 fn push_renamed<S: BuildHasher + Copy>(
     alloc: Global,
     out: &mut Vec<u8>,
@@ -179,7 +179,7 @@ fn push_renamed<S: BuildHasher + Copy>(
     Ok(())
 }
 
-// Adds that the sets were merged.
+// Writes the line of a successful merge.
 fn push_merged<S: BuildHasher + Copy>(
     alloc: Global,
     out: &mut Vec<u8>,
@@ -194,7 +194,7 @@ fn push_merged<S: BuildHasher + Copy>(
     Ok(())
 }
 
-// Adds what merging answered.
+// Writes the result of merging.
 pub(crate) fn push_by_merging<S: BuildHasher + Copy>(
     alloc: Global,
     out: &mut Vec<u8>,
@@ -209,7 +209,7 @@ pub(crate) fn push_by_merging<S: BuildHasher + Copy>(
     }
 }
 
-// Adds the ids of all bodies.
+// Writes the ids of all bodies.
 fn push_bodies<S: BuildHasher + Copy>(
     alloc: Global,
     out: &mut Vec<u8>,
@@ -223,7 +223,7 @@ fn push_bodies<S: BuildHasher + Copy>(
     Ok(())
 }
 
-// Adds the ids of all policies.
+// Writes the ids of all policies.
 fn push_policies<S: BuildHasher + Copy>(
     alloc: Global,
     out: &mut Vec<u8>,
@@ -237,7 +237,7 @@ fn push_policies<S: BuildHasher + Copy>(
     Ok(())
 }
 
-// Adds the two lines of a set's ids.
+// Writes the two lines with the ids of a set.
 pub(crate) fn push_ids<S: BuildHasher + Copy>(
     alloc: Global,
     out: &mut Vec<u8>,

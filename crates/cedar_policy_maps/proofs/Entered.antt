@@ -1,4 +1,4 @@
--- The maps of a set once a merge has put in what enters.
+-- The maps of a set after a merge has appended its entries.
 use Rattle.std.specs.Prelude.{◌≡◌, ℕ, List, [], ◌∷◌, ◌++◌, not, map}
 use Rattle.std.proofs.Common.{sym, ap, ◌∙◌, subst}
 use Rattle.std.specs.List.{list_any}
@@ -26,7 +26,7 @@ use Rattle.cedar_policy_maps.proofs.Entries.{shared_id, shared_values, shared_ke
 abbrev body_id : BodyParts → List ℕ
 body_id t = t.id
 
--- things that stand once stand once behind others
+-- If no two elements of a list have the same id, so is it for the end of the list.
 pub once_after : {A : Type 0} (id : A → List ℕ) (xs ys : List A) → AreOnce id (xs ++ ys) → AreOnce id ys
 once_after id [] ys h = h
 once_after id (x ∷ xs) ys h = once_after id xs ys h.1
@@ -34,7 +34,7 @@ once_after id (x ∷ xs) ys h = once_after id xs ys h.1
 abbrev Becomes : Maps → SetParts → Type 0
 Becomes m b = DoAgree m × (set_in m ≡ b)
 
--- what goes last in each map has keys of its own
+-- The keys of the entries to append are new in each map.
 pub bodies_new : (m : Maps) (stand : List BodyParts) (ts es : List (List ℕ × Rc BodyParts Global))
     (fs : List (List ℕ × PolicyParts)) → DoAgree m → m.bodies ≡ shared_of ts →
     CanTakeIn (set_in m) stand (bodies_of (values_of es)) (values_of fs) → IsKeyed shared_id es
@@ -69,7 +69,7 @@ module _ {S : Type 0} where
       (once-filter body_id (λ (t : BodyParts). not (list_any (is_policy_at t.id) (b.policies ++ ps)))
       (b.bodies ++ bs) k.policy_set.bodies_once))
 
-  -- the three maps afterwards
+  -- The three maps after the entries are appended.
   pub entered : (ts es us : List (List ℕ × Rc BodyParts Global)) (ps fs qs : List (List ℕ × PolicyParts))
       (ls gs hs ns ms : List (List ℕ × IndexSet (List ℕ) S)) (stand : List BodyParts) →
       DoAgree (maps_of ts ps ls)

@@ -1,4 +1,4 @@
--- Entries that go last, and lists that change.
+-- Appending entries and changing lists.
 use Rattle.std.specs.Prelude.{◌≡◌, ℕ, ◌+◌, ◌<◌, suc, length, List, [], ◌∷◌, ◌++◌, Bool, true, false, not, ◌||◌, ◌&&◌}
 use Rattle.std.specs.Prelude.{Option, Some, None, refl, map, is_some}
 use Rattle.std.proofs.Common.{cond, sym, ap, ◌∙◌, subst, take, drop, get_or, Bor}
@@ -51,7 +51,7 @@ module _ {S : Type 0} where
       ap (λ ks. (e.0, ks) ∷ lists_of es) (k ∙ ap (λ (t : IndexSet (List ℕ) S). f t.keys) (sym same))
   changed_at false test f e es gs s w l k ih = ap (λ xs. (e.0, e.1.keys) ∷ xs) (ih l)
 
-  -- a set that is written through what was lent
+  -- A set that is changed through a mutable borrow changes the list under its key.
   pub written : (test : List ℕ → Bool) (f : List (List ℕ) → List (List ℕ)) (es : List (List ℕ × IndexSet (List ℕ) S))
       (s w : IndexSet (List ℕ) S)
       → lookup test es ≡ Some s → w.keys ≡ f s.keys → lists_of (set_value test es w) ≡ changed test f (lists_of es)
@@ -67,18 +67,18 @@ module _ {S : Type 0} where
   same_at true test f e es l ih = absurd (cc)
   same_at false test f e es l ih = ap (λ xs. (e.0, e.1.keys) ∷ xs) (ih l)
 
-  -- without the key nothing changes
+  -- If there is no such key, nothing changes.
   pub unwritten : (test : List ℕ → Bool) (f : List (List ℕ) → List (List ℕ)) (es : List (List ℕ × IndexSet (List ℕ) S))
       → lookup test es ≡ None → lists_of es ≡ changed test f (lists_of es)
   unwritten test f [] l = refl
   unwritten test f (e ∷ es) l = same_at (test e.0) test f e es l (unwritten test f es)
 
-  -- a set that is written back as it was
+  -- Writing a set with the same ids changes nothing.
   pub rewritten : (test : List ℕ → Bool) (es : List (List ℕ × IndexSet (List ℕ) S)) (s w : IndexSet (List ℕ) S)
       → lookup test es ≡ Some s → w.keys ≡ s.keys → lists_of (set_value test es w) ≡ lists_of es
   rewritten test es s w l k = written test (λ ks. ks) es s w l k ∙ changed-same test (lists_of es)
 
--- ---- ids that are gathered
+-- ---- Collected ids
 
 pub key_known : {V : Type 0} (t : List ℕ → Bool) (es : List (List ℕ × V))
     → is_some (lookup t es) ≡ list_any t (keys_of es)
@@ -111,12 +111,12 @@ gathered_last k i (u ∷ us) n =
     ∙ sym (ap (λ v. cond v ((u.0, insert_key same_text u.1 i) ∷ us) (u ∷ with_gathered k i us)) (or_parts _ _ n).0)
 
 module _ {S : Type 0} where
-  -- whether there is a list under a key
+  -- Whether there is a list under a key.
   pub has_list : (t : List ℕ → Bool) (es : List (List ℕ × IndexSet (List ℕ) S)) (o : Option (IndexSet (List ℕ) S))
       → lookup t es ≡ o → list_any t (keys_of es) ≡ is_some o
   has_list t es o e = sym (key_known t es) ∙ ap is_some e
 
-  -- an id that goes last where there is a list, and where there is none
+  -- Appending an id to an existing list is the same in both definitions.
   pub gathered_in : (k i : List ℕ) (es : List (List ℕ × IndexSet (List ℕ) S)) (s : IndexSet (List ℕ) S)
       → lookup (same_text k) es ≡ Some s → with_listed k i (lists_of es) ≡ with_gathered k i (lists_of es)
   gathered_in k i es s e =
@@ -129,7 +129,7 @@ module _ {S : Type 0} where
       gathered_last k i (lists_of es) (ap (list_any (same_text k)) (listed_keys es)
       ∙ has_list (same_text k) es None e)
 
--- one policy is listed, in the first lists or elsewhere, by whether it is a link
+-- One policy is listed if it is a link.
 pub link_listed : (v : Bool) (p : PolicyParts) (k i : List ℕ) (ls : List (List ℕ × List (List ℕ))) → is_some p.link ≡ v
     → k ≡ p.template.id → i ≡ policy_id p → cond v (with_listed k i ls) ls ≡ all_listed ls (links_in (p ∷ []))
 link_listed true p k i ls e q r =
@@ -154,7 +154,7 @@ pub static_gathered : (p : PolicyParts) (ks : List (List ℕ)) (us : List (List 
 static_gathered p ks us e =
     sym (ap (λ v. gathered us (cond (v && not (list_any (same_text p.template.id) ks)) (p ∷ []) [])) e)
 
--- one more policy is
+-- The step for one more policy.
 pub links_more : (ps : List PolicyParts) (k : ℕ) (p : PolicyParts) (ls ms ns : List (List ℕ × List (List ℕ)))
     → k < length ps → p ≡ get_or ps k p → ms ≡ all_listed ls (links_in (take k ps))
     → ns ≡ all_listed ms (links_in (p ∷ [])) → ns ≡ all_listed ls (links_in (take (k + 1) ps))
@@ -176,10 +176,10 @@ gathered_more ps k p ks js us vs ws n g q h e =
     ∙ fold-append (λ (done : List (List ℕ × List (List ℕ))) (p : PolicyParts). with_gathered p.template.id
     (policy_id p) done) us (elsewhere_in ks (take k ps)) (elsewhere_in ks (p ∷ [])))
 
--- ---- entries with their values read
+-- ---- Entries with their values read
 
 module _ {V W : Type 0} (f : V → W) where
-  -- the entries with their values read by f
+  -- The entries with their values mapped by `f`.
   abbrev pub read_by : List (List ℕ × V) → List (List ℕ × W)
   read_by es = map (λ e. (e.0, f e.1)) es
 
@@ -194,7 +194,7 @@ module _ {V W : Type 0} (f : V → W) where
   read_removed t (e ∷ es) =
       read_removed_at (t e.0) e es (remove_entry t es) (remove_entry t (read_by es)) (read_removed t es)
 
-  -- one more entry, as the contracts of two steps say it
+  -- One more entry, in the form of the contracts of two steps.
   pub read_last : (old mid new : List (List ℕ × V)) (k i : List ℕ) (v : V) (w : W) → mid ≡ old
       → new ≡ mid ++ (k, v) ∷ [] → k ≡ i → f v ≡ w → read_by new ≡ read_by old ++ (i, w) ∷ []
   read_last old mid new k i v w a b c d =
@@ -209,7 +209,7 @@ module _ {V W : Type 0} (f : V → W) where
       ap (λ x. (e.0, x) ∷ read_by es) (q ∙ ap f (sym same))
   alike_at false e o es gs s w l q ih = ap (λ xs. (e.0, f e.1) ∷ xs) (ih l)
 
-  -- what is written in the place of a value that is read alike
+  -- Replacing a value by one with the same image changes no image.
   pub alike_written : (t : List ℕ → Bool) (es : List (List ℕ × V)) (s w : V) → lookup t es ≡ Some s → f w ≡ f s
       → read_by (set_value t es w) ≡ read_by es
   alike_written t [] s w l q = absurd (cc)
@@ -230,7 +230,7 @@ same_at_key true e o es gs s w l q ih =
     ap (λ x. (e.0, x) ∷ es) (q ∙ sym same)
 same_at_key false e o es gs s w l q ih = ap (λ xs. e ∷ xs) (ih l)
 
--- what is written in the place of the same value
+-- Replacing a value by the same value changes nothing.
 pub same_written : {V : Type 0} (t : List ℕ → Bool) (es : List (List ℕ × V)) (s w : V) → lookup t es ≡ Some s → w ≡ s
     → set_value t es w ≡ es
 same_written t [] s w l q = absurd (cc)
@@ -252,7 +252,7 @@ borrowed : (o : Option (Bor (Rc BodyParts Global)))
 borrowed None = refl
 borrowed (Some t) = refl
 
--- a body that is looked up
+-- A lookup of a body.
 pub body_read : (m : Maps) (es : List (List ℕ × Rc BodyParts Global)) (i : List ℕ) → DoAgree m → m.bodies ≡ shared_of es
     → option_map body (lookup (same_text i) es) ≡ find (is_body_at i) (set_in m).bodies
 body_read m es i h q = sym (lookup-map_values body (same_text i) es) ∙ ap (lookup (same_text i)) (sym q)
@@ -290,7 +290,7 @@ pub policy_known : (m : Maps) (i : List ℕ) → DoAgree m
     → is_some (lookup (same_text i) m.policies) ≡ list_any (is_policy_at i) (set_in m).policies
 policy_known m i h = ap is_some (policy_read m i h) ∙ some_find (is_policy_at i) (set_in m).policies
 
--- the template that is bound, by whether the body with the id is one
+-- The template with an id is the body with the id, if that is a template.
 pub template_is : (b : SetParts) (i : List ℕ) (t : BodyParts) (v : Bool) → v ≡ not (list_any (is_policy_at i) b.policies)
     → Some t ≡ find (is_body_at i) b.bodies → cond v (Some t) None ≡ template_bound (bound_at b i)
 template_is b i t v e f =
@@ -316,7 +316,7 @@ module _ {S : Type 0} where
   lent None = refl
   lent (Some s) = refl
 
-  -- the ids that are looked up
+  -- A lookup of a list of ids.
   pub ids_lent : (m : Maps) (es : List (List ℕ × IndexSet (List ℕ) S)) (i : List ℕ)
       (o : Option (Bor (IndexSet (List ℕ) S))) → DoAgree m → m.listed ≡ lists_of es
       → option_copied o ≡ lookup (same_text i) es →
@@ -327,7 +327,7 @@ module _ {S : Type 0} where
       ∙ ap (lookup (same_text i)) (sym q ∙ h.all_listed)
       ∙ listed_at i (templates_in (set_in m).policies (set_in m).bodies) (set_in m).policies
 
-  -- what is no key
+  -- An unused id is not a key of the lists.
   pub absent_list : (m : Maps) (es : List (List ℕ × IndexSet (List ℕ) S)) (i : List ℕ) → DoAgree m
       → m.listed ≡ lists_of es → is_bound (set_in m) i ≡ false → lookup (same_text i) es ≡ None
   absent_list m es i h q n =
@@ -349,10 +349,10 @@ pub absent_policy : (m : Maps) (i : List ℕ) → DoAgree m → is_bound (set_in
 absent_policy m i h n = policy_read m i h
     ∙ find-unless (is_policy_at i) (set_in m).policies (no_policy_at (set_in m) i n)
 
--- ---- maps that are made from lists, and copies
+-- ---- Maps created from lists, and copies
 
 module _ {V : Type 0} (f : V → List ℕ) where
-  -- the id of the next value is no key
+  -- The id of the next value is not a key.
   pub next_absent : (es : List (List ℕ × V)) (k : List ℕ) (v : V) (rest all : List V) → AreOnce f all → IsKeyed f es
       → values_of es ++ v ∷ rest ≡ all → k ≡ f v → lookup (same_text k) es ≡ None
   next_absent es k v rest all h g e q =
@@ -360,7 +360,7 @@ module _ {V : Type 0} (f : V → List ℕ) where
       ∙ find-unless (is_at f k) (values_of es) (ap (λ i. list_any (is_at f i) (values_of es)) q
       ∙ before_at f (values_of es) v rest (subst (AreOnce f) (sym e) h))
 
-  -- it goes last
+  -- The next value is appended.
   pub next_put : (es fs : List (List ℕ × V)) (k : List ℕ) (v : V) (rest all : List V) → IsKeyed f es
       → values_of es ++ v ∷ rest ≡ all → k ≡ f v → fs ≡ es ++ (k, v) ∷ [] → IsKeyed f fs × (values_of fs ++ rest ≡ all)
   next_put es fs k v rest all g e q p = (
@@ -383,12 +383,12 @@ shared_keyed (e ∷ es) h =
     let r : IsKeyed shared_id es = cc in
     λ j. k j ∷ shared_keyed es r j
 
--- whether a policy is known under an id
+-- Whether a policy has an id.
 pub known_by : (es : List (List ℕ × PolicyParts)) (i : List ℕ) → IsKeyed policy_id es
     → is_some (lookup (same_text i) es) ≡ list_any (is_policy_at i) (values_of es)
 known_by es i h = ap is_some (lookup_is policy_id (same_text i) es h) ∙ some_find (is_policy_at i) (values_of es)
 
--- no id under one body, which is a template or not
+-- The list for one body whose id a policy has is empty.
 pub no_list : (ps : List PolicyParts) (t : BodyParts) (v : Bool) → v ≡ true → v ≡ list_any (is_policy_at t.id) ps
     → [] ≡ ids_by_body (templates_in ps (t ∷ [])) []
 no_list ps t v e h = ap (λ v. ids_by_body (cond (not v) (t ∷ []) []) []) (sym e ∙ h)
@@ -398,12 +398,12 @@ pub one_list : (ps : List PolicyParts) (t : BodyParts) (v : Bool) → v ≡ fals
 one_list ps t v e h = ap (λ v. ids_by_body (cond (not v) (t ∷ []) []) []) (sym e ∙ h)
 
 module _ {S : Type 0} where
-  -- nothing more is listed
+  -- Appending an empty list of entries changes nothing.
   pub none_listed : (es : List (List ℕ × IndexSet (List ℕ) S)) (ls : List (List ℕ × List (List ℕ))) → [] ≡ ls
       → lists_of es ≡ lists_of es ++ ls
   none_listed es ls h = sym (append-nil (lists_of es)) ∙ ap (λ ls. lists_of es ++ ls) h
 
-  -- one more id with nothing under it
+  -- An empty list of ids is appended.
   pub one_listed : (es fs : List (List ℕ × IndexSet (List ℕ) S)) (k i : List ℕ) (s : IndexSet (List ℕ) S)
       (ls : List (List ℕ × List (List ℕ))) → fs ≡ es ++ (k, s) ∷ [] → k ≡ i → s.keys ≡ [] → (i, []) ∷ [] ≡ ls →
       lists_of fs ≡ lists_of es ++ ls
@@ -411,7 +411,7 @@ module _ {S : Type 0} where
       ap lists_of p ∙ map-append (λ (e : List ℕ × IndexSet (List ℕ) S). (e.0, e.1.keys)) es ((k, s) ∷ [])
       ∙ (λ j. lists_of es ++ (q j, e j) ∷ []) ∙ ap (λ ls. lists_of es ++ ls) h
 
-  -- the lists that are kept
+  -- The lists that remain are those under ids that no policy has.
   pub lists_kept : (es fs : List (List ℕ × IndexSet (List ℕ) S)) (qs : List (List ℕ × PolicyParts))
       → IsKeyed policy_id qs → fs ≡ filter (λ e. not (is_some (lookup (same_text e.0) qs))) es →
       lists_of fs ≡ filter (λ e. not (list_any (is_policy_at e.0) (values_of qs))) (lists_of es)
@@ -432,7 +432,7 @@ module _ {S : Type 0} where
           (filter (λ e. not (is_some (lookup (same_text e.0) qs))) es)
           (filter (λ e. not (list_any (is_policy_at e.0) (values_of qs))) (lists_of es)) (known_by qs e.0 h) (kept es)
 
-  -- no id under one more template
+  -- The step for the empty list of one more template.
   pub no_ids_more : (ts : List (Rc BodyParts Global)) (k : ℕ) (t : Rc BodyParts Global) (ps : List PolicyParts)
       (es fs : List (List ℕ × IndexSet (List ℕ) S)) →
       k < length ts → t ≡ get_or ts k t → lists_of es ≡ ids_by_body (templates_in ps (bodies_of (take k ts))) []

@@ -1,4 +1,4 @@
--- What a reader's answer says of a policy or a template, as a truth value.
+-- The results of accessors of policies and templates, as Booleans.
 use Rattle.std.specs.Prelude.{◌≡◌, ◌↔◌, ℕ, List, [], ◌∷◌, Bool, true, false, not, Option, Some, None, IsTrue, is_some}
 use Rattle.std.specs.Prelude.{refl}
 use Rattle.cedar_policy_maps.specs.Lists.{is_slotless}

@@ -1,4 +1,4 @@
--- How a proof tells policy sets apart.
+-- The code by which a proof distinguishes policy sets.
 use Rattle.std.specs.Prelude.{List, refl}
 use Rattle.std.specs.Coded.{Coded, code_by, coded×, coded_list}
 use Rattle.cedar_body.specs.Bodies.{BodyParts}
@@ -7,7 +7,7 @@ use Rattle.cedar_policy.specs.Policies.{PolicyParts}
 use Rattle.cedar_policy.specs.Codes.{policy_code}
 use Rattle.cedar_policy_maps.specs.PolicySets.{SetParts}
 
--- a policy set: its two orders
+-- The code of a policy set: its bodies and its policies.
 abbrev pub set_code : Coded SetParts
 set_code =
     code_by (List BodyParts × List PolicyParts) (coded× (coded_list body_code) (coded_list policy_code))

@@ -1,4 +1,4 @@
--- A policy set as callers see it: two orders, that of its bodies and that of its policies.
+-- A policy set as callers see it: the list of its bodies and the list of its policies.
 use Rattle.std.specs.Prelude.{◌≡◌, ℕ, ◌-◌, length, slice_get, List, [], ◌∷◌, ◌++◌, Bool, false, not, ◌||◌, ◌&&◌, Option}
 use Rattle.std.specs.Prelude.{Some, None, is_some}
 use Rattle.std.specs.List.{find, filter, list_any}
@@ -7,78 +7,79 @@ use Rattle.cedar_body.specs.Bodies.{BodyParts, body_slots}
 use Rattle.cedar_binding.specs.Bindings.{EnvParts, FitsSlots}
 use Rattle.cedar_policy.specs.Policies.{PolicyParts, policy_id, static_policy}
 
--- the bodies of static policies and of templates, and the static policies and links, each in their order
+-- The parts of a policy set: the bodies of static policies and templates, and the static policies and links, each in
+-- insertion order.
 pub record SetParts : Type 0 where
   pub bodies : List BodyParts
   pub policies : List PolicyParts
 
--- the policy set without a binding
+-- The empty policy set.
 abbrev pub empty_set : SetParts
 empty_set = record { bodies = []; policies = [] }
 
--- whether a body, or a policy, has this id
+-- Whether a body has this id.
 abbrev pub is_body_at : List ℕ → BodyParts → Bool
 is_body_at i b = same_text i b.id
 
--- whether a policy has an id
+-- Whether a policy has this id.
 abbrev pub is_policy_at : List ℕ → PolicyParts → Bool
 is_policy_at i p = same_text i (policy_id p)
 
--- whether a policy is a link of the template with this id
+-- Whether a policy is a link of the template with this id.
 abbrev pub links_to : List ℕ → PolicyParts → Bool
 links_to i p = is_some p.link && same_text i p.template.id
 
--- whether there is such a link
+-- Whether a set has a link of the template with this id.
 abbrev pub has_links : SetParts → List ℕ → Bool
 has_links b i = list_any (links_to i) b.policies
 
--- what an id is bound to: a static policy, a template, or a link of a template with its bindings
+-- The binding of an id: a static policy, a template, or a link with its id, its template and the uids of its slots.
 pub data Binding : Type 0 where
   Static : BodyParts → Binding
   Template : BodyParts → Binding
   Link : List ℕ → BodyParts → EnvParts → Binding
 
--- the binding that a policy is
+-- The binding of a policy with this optional link id.
 abbrev pub binding_by : Option (List ℕ) → PolicyParts → Binding
 binding_by None p = Static p.template
 binding_by (Some l) p = Link l p.template p.env
 
--- what a policy binds its id to
+-- The binding of a policy: a static policy or a link.
 abbrev pub policy_binding : PolicyParts → Binding
 policy_binding p = binding_by p.link p
 
--- the policy that was found, else the body that was found, which is a template then
+-- The binding of an id, from the policy and the body with the id. A body without a policy of the same id is a template.
 abbrev pub bound_among : Option PolicyParts → Option BodyParts → Option Binding
 bound_among (Some p) t = Some (policy_binding p)
 bound_among None (Some t) = Some (Template t)
 bound_among None None = None
 
--- what is bound at an id, if anything is
+-- The binding of an id in a set, if the id is in use.
 abbrev pub bound_at : SetParts → List ℕ → Option Binding
 bound_at b i = bound_among (find (is_policy_at i) b.policies) (find (is_body_at i) b.bodies)
 
--- the template that is bound, if what is bound is one
+-- The template of a binding, if the binding is a template.
 abbrev pub template_bound : Option Binding → Option BodyParts
 template_bound (Some (Template t)) = Some t
 template_bound x = None
 
--- whether something is
+-- Whether an id is in use in a set, by a policy or by a body.
 abbrev pub is_bound : SetParts → List ℕ → Bool
 is_bound b i = list_any (is_policy_at i) b.policies || list_any (is_body_at i) b.bodies
 
--- a template, or a policy, goes last; the body of a static policy and the policy go last, each in its order
+-- The set with a template appended to its bodies.
 abbrev pub with_template : SetParts → BodyParts → SetParts
 with_template b t = record { bodies = b.bodies ++ t ∷ []; policies = b.policies }
 
--- a policy joins behind the others
+-- The set with a policy appended to its policies.
 abbrev pub with_policy : SetParts → PolicyParts → SetParts
 with_policy b p = record { bodies = b.bodies; policies = b.policies ++ p ∷ [] }
 
--- a body and a policy join, each behind the others
+-- The set with a body and a policy appended.
 abbrev pub with_both : SetParts → BodyParts → PolicyParts → SetParts
 with_both b t p = record { bodies = b.bodies ++ t ∷ []; policies = b.policies ++ p ∷ [] }
 
--- what an id was bound to is taken out, and the orders close up
+-- The set without the body and the policy with this id. The order of the others does not change.
 abbrev pub without_id : SetParts → List ℕ → SetParts
 without_id b i = record {
   bodies = filter (λ t. not (is_body_at i t)) b.bodies;
@@ -86,19 +87,20 @@ without_id b i = record {
       filter (λ p. not (is_policy_at i p)) b.policies;
 }
 
--- the policy that went last, if there is one
+-- The last policy of a set, if there is one.
 abbrev pub last_policy : SetParts → Option PolicyParts
 last_policy b = slice_get b.policies (length b.policies - 1)
 
--- ---- what holds of every policy set
+-- ---- The invariant of policy sets
 
--- an id stands in an order of ids once
+-- Whether no two elements of a list have the same id.
 abbrev pub AreOnce : {A : Type 0} → (A → List ℕ) → List A → Type 0
 AreOnce id [] = Unit {0}
 AreOnce id (x ∷ xs) = (list_any (λ y. same_text (id x) (id y)) xs ≡ false) × AreOnce id xs
 
--- a static policy stands on the body of its id; a link has an id that no body has, and its template stands among
--- the bodies, is no static policy's, and has exactly the slots that are bound, the action's to an action
+-- Whether a policy with this optional link id fits a set. A static policy has no slots, and its body is in the set
+-- under its id. A link has an id that no body has. Its template is in the set and is not the body of a static policy,
+-- and its bindings fit the template's slots.
 abbrev pub IsHeldBy : Option (List ℕ) → SetParts → PolicyParts → Type 0
 IsHeldBy None b p =
     (p ≡ static_policy p.template) × (body_slots p.template ≡ [])
@@ -109,21 +111,22 @@ IsHeldBy (Some l) b p =
     × (list_any (is_policy_at p.template.id) b.policies ≡ false)
     × FitsSlots (body_slots p.template) p.env
 
--- what a policy needs of the policy set that holds it
+-- Whether a policy fits a set, in the sense of `IsHeldBy`.
 abbrev pub IsHeld : SetParts → PolicyParts → Type 0
 IsHeld b p = IsHeldBy p.link b p
 
--- each of some policies is held
+-- Whether each of some policies fits a set.
 abbrev pub AreHeld : SetParts → List PolicyParts → Type 0
 AreHeld b [] = Unit {0}
 AreHeld b (p ∷ ps) = IsHeld b p × AreHeld b ps
 
--- ids are bound once in each order, and each policy is held
+-- The invariant of policy sets. The bodies have different ids, the policies have different ids, and each policy fits
+-- the set.
 pub record IsPolicySet (b : SetParts) : Type 0 where
   pub bodies_once : AreOnce (λ (t : BodyParts). t.id) b.bodies
   pub policies_once : AreOnce policy_id b.policies
   pub held : AreHeld b b.policies
 
--- a link has another id than its template
+-- Whether a policy is not a link with the id of its template.
 abbrev pub HasOwnId : PolicyParts → Type 0
 HasOwnId p = p.link ≡ Some p.template.id → ⊥

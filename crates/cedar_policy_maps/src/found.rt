@@ -1,9 +1,9 @@
-//! What an id is bound to, as it is found.
+//! The result of looking up an id.
 
 use cedar_policy::{Policy, Template};
 use std::rc::Rc;
 
-/// What was found under an id: nothing is copied.
+/// The policy or template with an id, as a borrow. Nothing is copied.
 #[derive(Debug, Drop)]
 pub enum Found<'a> {
     /// A static policy or a link.

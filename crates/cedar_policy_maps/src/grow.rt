@@ -1,4 +1,4 @@
-//! How maps take in bodies and policies beside what stands there: room first, and then steps that cannot fail.
+//! Adding bodies and policies to non-empty maps. All space is reserved first, so that the insertions cannot fail.
 ghost use Rattle.std.specs.Prelude.{◌≡◌, ◌≤◌, ◌++◌, [], length, false, ℕ, List, OnOk, OnErr, IfOk, IsTrue};
 ghost use Rattle.std.specs.Map.{keys_of, values_of, lookup};
 ghost use Rattle.cedar_ids.specs.Texts.{same_text};
@@ -24,17 +24,17 @@ use std::alloc::{AllocError, Global};
 use std::hash::BuildHasher;
 use std::rc::Rc;
 
-/// What goes into maps: what stands there as well, and what joins.
+/// Entries to merge into maps, in two groups: those whose equals are already in the maps, and the new ones.
 #[derive(Debug, Drop)]
 pub struct Parted<T> {
-    /// What stands there as well.
+    /// Entries that are equal to entries in the maps.
     pub stand: Vec<T>,
-    /// What joins, in its order.
+    /// New entries, in insertion order.
     pub join: Vec<T>,
 }
 
 impl<T: Drop> Parted<T> {
-    /// Nothing yet. It takes no memory.
+    /// Creates two empty groups. Does not allocate.
     pub fn new(alloc: Global) -> Parted<T>
         ensures stand { result.stand.items ≡ [] }
         ensures join { result.join.items ≡ [] }
@@ -46,7 +46,7 @@ impl<T: Drop> Parted<T> {
     }
 }
 
-// What goes last in the three maps, and in lists under templates that stand there.
+// The entries to append to the three maps, and the ids to append to lists of existing templates.
 #[derive(Drop)]
 struct Entering<S: BuildHasher> {
     templates: IndexMap<PolicyID, Rc<Template>, S>,
@@ -56,11 +56,19 @@ struct Entering<S: BuildHasher> {
 }
 
 impl<S: BuildHasher + Copy> PolicyMaps<S> {
-    /// Puts bodies and policies last, each in its order, and those that stand there as well in the place of the equal
-    /// ones there.
+    /// Appends new bodies and policies, each in their order. Existing bodies and policies are replaced by the equal
+    /// ones in `stand`, so that the set shares their data and locations.
     ///
-    /// Takes memory for room in the maps and in the lists that grow, for copies of ids and for the lists of new
-    /// templates; refused, the maps state what they did. What stands there is neither walked nor copied.
+    /// The caller must ensure that the result is a policy set, as `CanTakeIn` states.
+    ///
+    /// # Errors
+    ///
+    /// Returns `AllocError` if an allocation fails, and then leaves the content of the maps unchanged.
+    ///
+    /// # Complexity
+    ///
+    /// Allocates space in the maps and in the lists that grow, copies of ids, and the lists of new templates. Does not
+    /// scan or copy existing entries.
     pub fn take_in(
         &mut self,
         alloc: Global,
@@ -80,15 +88,15 @@ impl<S: BuildHasher + Copy> PolicyMaps<S> {
         self.put_in(entering, stand, alike)
     }
 
-    /// Lets policies at some places share other templates, each where that is equal to its own. It takes no memory, and
-    /// the maps state what they did.
+    /// Replaces the templates of the policies at some indices by shared ones, each if the two are equal. The content of
+    /// the maps does not change. Does not allocate.
     pub fn share_templates(&mut self, templates: Vec<(usize, Rc<Template>)>)
         ensures { self.new ≡ self.old }
     {
         share_all(&mut self.links, templates);
     }
 
-    // Makes room for what enters, and puts it in.
+    // Reserves space for the new entries, and appends them.
     fn put_in(
         &mut self,
         entering: Entering<S>,
@@ -130,7 +138,7 @@ impl<S: BuildHasher + Copy> PolicyMaps<S> {
     }
 }
 
-// What enters a set where some bodies join, with policies on these and on others.
+// Returns the entries to append, given the new bodies and policies.
 fn what_enters<S: BuildHasher + Copy>(
     alloc: Global,
     hasher: S,
@@ -159,7 +167,7 @@ fn what_enters<S: BuildHasher + Copy>(
     })
 }
 
-// Room in the three maps, and in lists that grow, for what enters.
+// Reserves space in the three maps, and in the lists that grow.
 fn make_room<S: BuildHasher + Copy>(
     templates: &mut IndexMap<PolicyID, Rc<Template>, S>,
     links: &mut IndexMap<PolicyID, Policy, S>,
@@ -181,7 +189,7 @@ fn make_room<S: BuildHasher + Copy>(
     Ok(())
 }
 
-// Puts entries with new keys last, where there is room for them.
+// Appends entries with new keys. The space must be reserved.
 pub(crate) fn put_all_last<V: Drop, S: BuildHasher + Copy>(
     map: &mut IndexMap<PolicyID, V, S>,
     entries: IndexMap<PolicyID, V, S>,
@@ -194,7 +202,7 @@ pub(crate) fn put_all_last<V: Drop, S: BuildHasher + Copy>(
     map.append(&mut entries).unwrap();
 }
 
-// Room in a list, if there is one.
+// Reserves space in the list under a key, if there is one.
 fn room_in_list<S: BuildHasher + Copy>(
     map: &mut IndexMap<PolicyID, IndexSet<PolicyID, S>, S>,
     body: &PolicyID,
@@ -211,7 +219,7 @@ fn room_in_list<S: BuildHasher + Copy>(
     }
 }
 
-// Room in a set.
+// Reserves space in a set.
 fn room_in_set<S: BuildHasher + Copy>(
     ids: &mut IndexSet<PolicyID, S>,
     count: usize,
@@ -223,7 +231,7 @@ fn room_in_set<S: BuildHasher + Copy>(
     ids.reserve(count)
 }
 
-// Room in lists for what goes last in each.
+// Reserves space in lists for the ids to append to each.
 pub(crate) fn room_in_lists<S: BuildHasher + Copy>(
     map: &mut IndexMap<PolicyID, IndexSet<PolicyID, S>, S>,
     grown: &IndexMap<PolicyID, IndexSet<PolicyID, S>, S>,
@@ -237,7 +245,7 @@ pub(crate) fn room_in_lists<S: BuildHasher + Copy>(
     Ok(())
 }
 
-// Puts ids last in a set, where there is room for them.
+// Appends ids to a set. The space must be reserved.
 fn put_ids<S: BuildHasher + Copy>(ids: &mut IndexSet<PolicyID, S>, more: IndexSet<PolicyID, S>)
     requires { length more.keys ≤ sets.spare ids.old }
     ensures { ids.new.keys ≡ insert_all same_text ids.old.keys more.keys }
@@ -246,7 +254,7 @@ fn put_ids<S: BuildHasher + Copy>(ids: &mut IndexSet<PolicyID, S>, more: IndexSe
     ids.append(&mut more).unwrap();
 }
 
-// Puts ids last in a list, if there is one, where there is room for them.
+// Appends ids to the list under a key, if there is one. The space must be reserved.
 fn grow_list<S: BuildHasher + Copy>(
     map: &mut IndexMap<PolicyID, IndexSet<PolicyID, S>, S>,
     body: &PolicyID,
@@ -265,7 +273,7 @@ fn grow_list<S: BuildHasher + Copy>(
     }
 }
 
-// Puts ids last in lists, where there is room for them.
+// Appends ids to lists. The space must be reserved.
 pub(crate) fn grow_lists<S: BuildHasher + Copy>(
     map: &mut IndexMap<PolicyID, IndexSet<PolicyID, S>, S>,
     grown: IndexMap<PolicyID, IndexSet<PolicyID, S>, S>,
@@ -280,7 +288,7 @@ pub(crate) fn grow_lists<S: BuildHasher + Copy>(
     }
 }
 
-// Puts bodies in the place of those with their ids that they are equal to.
+// Replaces existing bodies by equal ones with the same ids.
 fn keep_bodies<S: BuildHasher + Copy>(
     templates: &mut IndexMap<PolicyID, Rc<Template>, S>,
     bodies: Vec<Rc<Template>>,
@@ -292,7 +300,7 @@ fn keep_bodies<S: BuildHasher + Copy>(
     }
 }
 
-// Puts a body in the place of the one with its id, if it is equal to it.
+// Replaces the body with the same id, if it is equal.
 fn keep_body<S: BuildHasher + Copy>(
     templates: &mut IndexMap<PolicyID, Rc<Template>, S>,
     template: Rc<Template>,
@@ -305,7 +313,7 @@ fn keep_body<S: BuildHasher + Copy>(
     }
 }
 
-// Puts a body in the place of another, if it is equal to it.
+// Replaces a body by another one, if they are equal.
 fn take_body(stands: &mut Rc<Template>, template: Rc<Template>)
     ensures { stands.new.value ≡ stands.old.value }
 {
@@ -320,7 +328,7 @@ fn take_body(stands: &mut Rc<Template>, template: Rc<Template>)
     }
 }
 
-// Whether a template is another.
+// Returns whether two templates are equal.
 #[tactic(auto, using(crate::specs::laws::Walks::same_body_is))]
 fn is_body(template: &Template, other: &Template) -> bool
     ensures { IsTrue result → (template.now ≡ other.now) }
@@ -328,7 +336,7 @@ fn is_body(template: &Template, other: &Template) -> bool
     template == other
 }
 
-// Lets policies at some places share other templates, each where that is equal to its own.
+// Replaces the templates of the policies at some indices, each if the two are equal.
 fn share_all<S: BuildHasher + Copy>(
     links: &mut IndexMap<PolicyID, Policy, S>,
     templates: Vec<(usize, Rc<Template>)>,
@@ -340,7 +348,7 @@ fn share_all<S: BuildHasher + Copy>(
     }
 }
 
-// Lets the policy at a place share another template, where that is equal to its own.
+// Replaces the template of the policy at an index, if the two are equal.
 fn share_at<S: BuildHasher + Copy>(
     links: &mut IndexMap<PolicyID, Policy, S>,
     place: usize,
@@ -354,7 +362,7 @@ fn share_at<S: BuildHasher + Copy>(
     }
 }
 
-// Puts policies in the place of those with their ids that they are equal to.
+// Replaces existing policies by equal ones with the same ids.
 fn keep_policies<S: BuildHasher + Copy>(
     links: &mut IndexMap<PolicyID, Policy, S>,
     policies: Vec<Policy>,
@@ -366,7 +374,7 @@ fn keep_policies<S: BuildHasher + Copy>(
     }
 }
 
-// Puts a policy in the place of the one with its id, if it is equal to it.
+// Replaces the policy with the same id, if it is equal.
 fn keep_policy<S: BuildHasher + Copy>(links: &mut IndexMap<PolicyID, Policy, S>, policy: Policy)
     ensures { links.new.entries ≡ links.old.entries }
 {
@@ -376,7 +384,7 @@ fn keep_policy<S: BuildHasher + Copy>(links: &mut IndexMap<PolicyID, Policy, S>,
     }
 }
 
-// Puts a policy in the place of another, if it is equal to it.
+// Replaces a policy by another one, if they are equal.
 fn take_policy(stands: &mut Policy, policy: Policy)
     ensures { stands.new ≡ stands.old }
 {
@@ -387,7 +395,7 @@ fn take_policy(stands: &mut Policy, policy: Policy)
     }
 }
 
-// Whether a policy is another.
+// Returns whether two policies are equal.
 #[tactic(auto, using(crate::specs::laws::Walks::same_policy_is))]
 fn is_policy(policy: &Policy, other: &Policy) -> bool
     ensures { IsTrue result → (policy.now ≡ other.now) }

@@ -1,4 +1,4 @@
-//! The iterators of a policy set. Contracts see each as the list of what it has left.
+//! The iterators of a policy set. Contracts see each as the list of its remaining items.
 ghost use Rattle.std.specs.Prelude.{◌≡◌};
 ghost use Rattle.std.specs.Iterator.{YieldsFirst, YieldsFirstBy, YieldsFirstRef, item_count};
 ghost use Rattle.std.specs.Map.{values_of};
@@ -15,7 +15,7 @@ use std::marker::Model;
 use std::rc::Rc;
 use std::slice;
 
-/// The policies of a set, static policies and links, in the order in which they joined.
+/// An iterator over the policies of a set, static policies and links, in insertion order.
 #[derive(Drop)]
 pub struct Policies<'a> {
     inner: slice::Iter<'a, Policy>,
@@ -57,7 +57,7 @@ impl<'a> Iterator for Policies<'a> {
     }
 }
 
-/// The policies of a set that was taken apart, in the order in which they joined.
+/// An owning iterator over the policies of a set, in insertion order.
 #[derive(Drop)]
 pub struct IntoPolicies {
     inner: map::IntoValues<PolicyID, Policy>,
@@ -98,7 +98,7 @@ impl Iterator for IntoPolicies {
     }
 }
 
-/// The bodies of a set, of static policies and of templates, in the order in which they joined.
+/// An iterator over the bodies of a set, of static policies and of templates, in insertion order.
 #[derive(Drop)]
 pub struct AllTemplates<'a> {
     inner: slice::Iter<'a, Rc<Template>>,
@@ -144,7 +144,7 @@ impl<'a> Iterator for AllTemplates<'a> {
     }
 }
 
-/// The bodies of a set that have slots, in the order in which they joined.
+/// An iterator over the bodies of a set that have slots, in insertion order.
 #[derive(Drop)]
 pub struct Templates<'a> {
     inner: AllTemplates<'a>,
@@ -186,7 +186,7 @@ impl<'a> Iterator for Templates<'a> {
     }
 }
 
-// The next body that has slots.
+// Returns the next body that has slots.
 fn next_slotted<'a>(inner: &mut AllTemplates<'a>) -> Option<&'a Template>
     ensures { YieldsFirstBy (λ t. t.now) slotted_in inner.old result inner.new }
 {
@@ -202,7 +202,7 @@ fn next_slotted<'a>(inner: &mut AllTemplates<'a>) -> Option<&'a Template>
     }
 }
 
-/// The static policies of a set, in the order in which they joined.
+/// An iterator over the static policies of a set, in insertion order.
 #[derive(Drop)]
 pub struct StaticPolicies<'a> {
     inner: Policies<'a>,
@@ -244,7 +244,7 @@ impl<'a> Iterator for StaticPolicies<'a> {
     }
 }
 
-// The next static policy.
+// Returns the next static policy.
 fn next_static<'a>(inner: &mut Policies<'a>) -> Option<&'a Policy>
     ensures { YieldsFirstBy (λ p. p.now) statics_in inner.old result inner.new }
 {
@@ -260,7 +260,7 @@ fn next_static<'a>(inner: &mut Policies<'a>) -> Option<&'a Policy>
     }
 }
 
-/// The ids of the policies on a body, in the order in which they joined.
+/// An iterator over the ids of the policies that use a body, in insertion order.
 #[derive(Drop)]
 pub struct LinkedIds<'a> {
     inner: slice::Iter<'a, PolicyID>,

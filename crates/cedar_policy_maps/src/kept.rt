@@ -1,4 +1,4 @@
-//! What reads and changes the three maps.
+//! Lookups in the three maps, insertions and removals.
 ghost use Rattle.std.specs.Prelude.{◌≡◌, OnOk, OnErr, IfSome, None, Some, false, length, ◌<◌, is_some, not, slice_get};
 ghost use Rattle.std.specs.List.{find, list_any};
 ghost use Rattle.std.specs.Option.{option_copied, option_map};
@@ -28,28 +28,28 @@ use std::rc::Rc;
 use std::slice;
 
 impl<S: BuildHasher + Copy> PolicyMaps<S> {
-    /// The bodies, in their order, as they are shared.
+    /// Returns the shared bodies, in order. Does not allocate.
     pub fn shared_bodies(&self) -> &[Rc<Template>]
         ensures { bodies_of result.now ≡ self.now.bodies }
     {
         self.templates.values().as_slice()
     }
 
-    /// The policies, in their order.
+    /// Returns the policies, in order. Does not allocate.
     pub fn all_policies(&self) -> &[Policy]
         ensures { result.now ≡ self.now.policies }
     {
         self.links.values().as_slice()
     }
 
-    /// The body with this id, as it is shared, if there is one.
+    /// Returns the shared body with this id, if there is one. Does not allocate.
     pub fn body_at(&self, id: &PolicyID) -> Option<&Rc<Template>>
         ensures { option_map (λ t. t.now.value) result ≡ find (is_body_at id.now) self.now.bodies }
     {
         self.templates.get(id)
     }
 
-    /// The body with this id, if there is one.
+    /// Returns the body with this id, if there is one. Does not allocate.
     pub fn template_at(&self, id: &PolicyID) -> Option<&Template>
         ensures { option_copied result ≡ find (is_body_at id.now) self.now.bodies }
     {
@@ -59,14 +59,14 @@ impl<S: BuildHasher + Copy> PolicyMaps<S> {
         }
     }
 
-    /// The policy with this id, if there is one.
+    /// Returns the policy with this id, if there is one. Does not allocate.
     pub fn policy_at(&self, id: &PolicyID) -> Option<&Policy>
         ensures { option_copied result ≡ find (is_policy_at id.now) self.now.policies }
     {
         self.links.get(id)
     }
 
-    /// The place of the policy with this id in its order, if there is one. It takes no memory.
+    /// Returns the index of the policy with this id, if there is one. Does not allocate.
     pub fn place_of_policy(&self, id: &PolicyID) -> Option<usize>
         ensures within { IfSome result (λ k. k < length self.now.policies) }
         ensures found { is_some result ≡ is_some (find (is_policy_at id.now) self.now.policies) }
@@ -76,21 +76,21 @@ impl<S: BuildHasher + Copy> PolicyMaps<S> {
         self.links.get_index_of(id)
     }
 
-    /// Whether a body has this id.
+    /// Returns whether a body has this id. Does not allocate.
     pub fn has_body(&self, id: &PolicyID) -> bool
         ensures { result ≡ list_any (is_body_at id.now) self.now.bodies }
     {
         self.templates.contains_key(id)
     }
 
-    /// Whether a policy has this id.
+    /// Returns whether a policy has this id. Does not allocate.
     pub fn has_policy(&self, id: &PolicyID) -> bool
         ensures { result ≡ list_any (is_policy_at id.now) self.now.policies }
     {
         self.links.contains_key(id)
     }
 
-    // The ids of the links of the template with this id, if there is one.
+    // Returns the ids of the links of the template with this id, if there is one.
     fn links_of(&self, id: &PolicyID) -> Option<&IndexSet<PolicyID, S>>
         ensures { option_map (λ s. s.now.keys) result ≡ option_map (λ t. ids_in t.id self.now.policies)
             (find (is_body_at id.now) (templates_in self.now.policies self.now.bodies)) }
@@ -98,12 +98,13 @@ impl<S: BuildHasher + Copy> PolicyMaps<S> {
         self.template_to_links_map.get(id)
     }
 
-    // The ids of the policies on the body with this id, if there is one: of a static policy its own.
+    // Returns the ids of the policies that use the body with this id, if there is one. A static policy is the only
+    // policy of its body.
     fn ids_on(&self, id: &PolicyID) -> Option<&[PolicyID]>
         ensures { option_copied result ≡ option_map (λ t. ids_in t.id self.now.policies)
             (find (is_body_at id.now) self.now.bodies) }
     {
-        // No effect at run time: this borrow says that the set is a policy set.
+        // No effect at run time: for the proof, this borrow states that the maps contain a policy set.
         let _ = &self.templates;
         match self.policy_at(id) {
             None => match self.links_of(id) {
@@ -120,8 +121,8 @@ impl<S: BuildHasher + Copy> PolicyMaps<S> {
         }
     }
 
-    /// The ids of the policies on the body with this id, if there is one: of a template its links, of a static policy
-    /// itself.
+    /// Returns the ids of the policies that use the body with this id, if there is one. For a template these are its
+    /// links, and for a static policy it is the policy itself. Does not allocate.
     pub fn linked_ids(&self, id: &PolicyID) -> Option<LinkedIds<'_>>
         ensures { result ≡ option_map (λ t. ids_in t.id self.now.policies) (find (is_body_at id.now) self.now.bodies) }
     {
@@ -131,7 +132,7 @@ impl<S: BuildHasher + Copy> PolicyMaps<S> {
         }
     }
 
-    /// What an id is bound to.
+    /// Returns the policy or template with this id, if there is one. Does not allocate.
     pub fn found(&self, id: &PolicyID) -> Option<Found<'_>>
         ensures { option_map found_binding result ≡ bound_at self.now id.now }
     {
@@ -144,8 +145,8 @@ impl<S: BuildHasher + Copy> PolicyMaps<S> {
         }
     }
 
-    /// The template that an id is bound to, as it is shared, if it is bound to one. A template with slots is found by one
-    /// look-up.
+    /// Returns the shared template with this id, if there is one. A static policy or a link with the id does not count.
+    /// A template with slots is found by a single lookup. Does not allocate.
     pub fn bound_template(&self, id: &PolicyID) -> Option<&Rc<Template>>
         ensures { option_map (λ t. t.now.value) result ≡ template_bound (bound_at self.now id.now) }
     {
@@ -161,12 +162,13 @@ impl<S: BuildHasher + Copy> PolicyMaps<S> {
         }
     }
 
-    // Whether the body with this id is a template. One with slots is, so that no policy is looked for.
+    // Returns whether the body with this id is a template and not the body of a static policy. A body with slots is a
+    // template, so no policy is looked up for it.
     fn is_template(&self, id: &PolicyID, body: &Template) -> bool
         requires { find (is_body_at id.now) self.now.bodies ≡ Some body.now }
         ensures { result ≡ not (list_any (is_policy_at id.now) self.now.policies) }
     {
-        // No effect at run time: this borrow says that the set is a policy set.
+        // No effect at run time: for the proof, this borrow states that the maps contain a policy set.
         let _ = &self.templates;
         if has_no_slots(body) {
             return !self.has_policy(id);
@@ -174,24 +176,31 @@ impl<S: BuildHasher + Copy> PolicyMaps<S> {
         true
     }
 
-    /// Whether an id is bound.
+    /// Returns whether an id is in use. Does not allocate.
     pub fn is_bound(&self, id: &PolicyID) -> bool
         ensures { result ≡ is_bound self.now id.now }
     {
         self.has_policy(id) || self.has_body(id)
     }
 
-    /// Whether the template with this id has links.
+    /// Returns whether the template with this id has links. Does not allocate.
     pub fn is_linked(&self, id: &PolicyID) -> bool
         ensures { result ≡ has_links self.now id.now }
     {
-        // No effect at run time: this borrow says how the maps agree.
+        // No effect at run time: for the proof, this borrow states how the maps agree.
         let _ = &self.templates;
         has_ids(self.links_of(id))
     }
 
-    /// Puts a template with a free id last. Takes memory for its two places and two copies of its id; refused, the maps
-    /// state what they did.
+    /// Appends a template. The caller must ensure that its id is not in use.
+    ///
+    /// # Errors
+    ///
+    /// Returns `AllocError` if an allocation fails, and then leaves the content of the maps unchanged.
+    ///
+    /// # Complexity
+    ///
+    /// Allocates two entries and two copies of the id.
     pub fn put_template(&mut self, template: Rc<Template>) -> Result<(), AllocError>
         requires { is_bound self.old template.value.id ≡ false }
         ensures ok { OnOk result (self.new ≡ with_template self.old template.value) }
@@ -208,8 +217,16 @@ impl<S: BuildHasher + Copy> PolicyMaps<S> {
         Ok(())
     }
 
-    /// Puts a link of a template that stands there last. Takes memory for its place, two copies of its id and the list
-    /// that it goes last in; refused, the maps state what they did.
+    /// Appends a link of an existing template. The caller must ensure that the link's id is not in use, that its
+    /// template is in the maps, and that its bindings fit.
+    ///
+    /// # Errors
+    ///
+    /// Returns `AllocError` if an allocation fails, and then leaves the content of the maps unchanged.
+    ///
+    /// # Complexity
+    ///
+    /// Allocates the entry, two copies of the id, and space in the list of the template's links.
     pub fn put_policy(&mut self, policy: Policy) -> Result<(), AllocError>
         requires { CanJoin self.old policy }
         ensures ok { OnOk result (self.new ≡ with_policy self.old policy) }
@@ -220,8 +237,16 @@ impl<S: BuildHasher + Copy> PolicyMaps<S> {
         Ok(())
     }
 
-    /// Puts a policy and its template last, each in its order. Takes memory for their places, copies of their ids and,
-    /// of a link, its list; refused, the maps state what they did.
+    /// Appends a policy and its template. The caller must ensure that their ids are not in use and, for a link, that
+    /// they differ and the bindings fit.
+    ///
+    /// # Errors
+    ///
+    /// Returns `AllocError` if an allocation fails, and then leaves the content of the maps unchanged.
+    ///
+    /// # Complexity
+    ///
+    /// Allocates the entries, copies of the ids and, for a link, the list of the template's links.
     pub fn put_both(&mut self, policy: Policy) -> Result<(), AllocError>
         requires { CanJoinBoth self.old policy }
         ensures ok { OnOk result (self.new ≡ with_both self.old policy.template policy) }
@@ -234,7 +259,7 @@ impl<S: BuildHasher + Copy> PolicyMaps<S> {
         }
     }
 
-    // Puts a static policy and its body last, each in its order.
+    // Appends a static policy and its body.
     fn put_static(&mut self, policy: Policy) -> Result<(), AllocError>
         requires joins { CanJoinBoth self.old policy }
         requires no_link { policy.link ≡ None }
@@ -247,7 +272,7 @@ impl<S: BuildHasher + Copy> PolicyMaps<S> {
         Ok(())
     }
 
-    // Puts a link and its template last, each in its order.
+    // Appends a link and its template.
     fn put_link_on_its_own(&mut self, policy: Policy) -> Result<(), AllocError>
         requires joins { CanJoinBoth self.old policy }
         requires link { policy.link ≡ None → ⊥ }
@@ -262,7 +287,8 @@ impl<S: BuildHasher + Copy> PolicyMaps<S> {
         Ok(())
     }
 
-    /// Takes out what an id is bound to, which has no links, and closes the orders up. It takes no memory.
+    /// Removes the entries with this id, and returns the body and the policy. The order of the other entries does not
+    /// change. The caller must ensure that no template with this id has links. Does not allocate.
     pub fn take(&mut self, id: &PolicyID) -> (Option<Rc<Template>>, Option<Policy>)
         requires { has_links self.old id.now ≡ false }
         ensures body { option_map (λ t. t.value) result.0 ≡ find (is_body_at id.now) self.old.bodies }
@@ -276,7 +302,7 @@ impl<S: BuildHasher + Copy> PolicyMaps<S> {
         (template, policy)
     }
 
-    /// The policy that went last.
+    /// Returns the last policy. The caller must ensure that there is a policy. Does not allocate.
     pub fn last(&self) -> &Policy
         requires { 0 < length self.now.policies }
         ensures { Some result.now ≡ last_policy self.now }
@@ -286,7 +312,7 @@ impl<S: BuildHasher + Copy> PolicyMaps<S> {
     }
 }
 
-// Whether there are ids.
+// Returns whether there are ids.
 fn has_ids<S: BuildHasher + Copy>(ids: Option<&IndexSet<PolicyID, S>>) -> bool
     ensures { result ≡ has_ids (option_map (λ s. s.now.keys) ids.entry) }
 {

@@ -1,10 +1,10 @@
-//! The three ordered maps that a policy set is kept in: bodies under their ids, policies under theirs, and under each
-//! template's id the ids of its links.
+//! The three ordered maps of a policy set: bodies by id, policies by id, and the ids of the links of each template.
 //!
-//! Contracts see them as the two orders of a set (`specs/PolicySets.antt`), which are the values of the first two. How the
-//! three agree is the invariant of [`PolicyMaps`] (`specs/Maps.antt`). What joins has to keep that: its caller shows
-//! that it can (`specs/Joins.antt`, `specs/TakenIn.antt`). Why a call on a set is refused is said above, in
-//! `cedar_policy_set`.
+//! Errors of policy set operations are in `cedar_policy_set_errors`.
+//!
+//! - Contracts see the maps as two lists of a policy set, the values of the first two maps (`specs/PolicySets.antt`).
+//! - The invariant of [`PolicyMaps`] states how the three maps agree (`specs/Maps.antt`).
+//! - Insertions must preserve the invariant, which the caller must prove (`specs/Joins.antt`, `specs/TakenIn.antt`).
 #![tactic(auto)]
 
 mod found;

@@ -1,4 +1,4 @@
-//! Small readers of policies and templates.
+//! Small helper functions on policies and templates.
 ghost use Rattle.std.specs.Prelude.{◌≡◌, is_some, All, IfOk};
 ghost use Rattle.cedar_body.specs.Bodies.{body_slots};
 ghost use Rattle.cedar_policy_maps.specs.Lists.{is_slotless};
@@ -9,7 +9,7 @@ use cedar_policy::{Policy, Template};
 use std::alloc::AllocError;
 use std::rc::Rc;
 
-/// Whether a policy is a link.
+/// Returns whether a policy is a link. Does not allocate.
 #[tactic(auto, using(crate::proofs::Told::link_told))]
 pub fn is_link(policy: &Policy) -> bool
     ensures { result ≡ is_some policy.now.link }
@@ -17,7 +17,7 @@ pub fn is_link(policy: &Policy) -> bool
     !policy.is_static()
 }
 
-/// Whether a template has no slots.
+/// Returns whether a template has no slots. Does not allocate.
 #[tactic(auto, using(crate::proofs::Told::slots_told))]
 pub fn has_no_slots(template: &Template) -> bool
     ensures { result ≡ is_slotless (body_slots template.now) }
@@ -25,14 +25,14 @@ pub fn has_no_slots(template: &Template) -> bool
     template.is_static()
 }
 
-// A further share of a policy's template.
+// Shares the template of a policy once more.
 pub(crate) fn template_of(policy: &Policy) -> Result<Rc<Template>, AllocError>
     ensures { IfOk result (λ t. t.value ≡ policy.now.template) }
 {
     policy.template_arc().clone()
 }
 
-// Has the readers of a policy say what holds of it. They change nothing.
+// No effect at run time: calls accessors of a policy, whose contracts state its invariant.
 fn read_policy(policy: &Policy)
     ensures { IsWhole policy.now }
 {
@@ -40,7 +40,7 @@ fn read_policy(policy: &Policy)
     let _total = policy.env();
 }
 
-// Has the readers of each policy say what holds of it.
+// No effect at run time: calls `read_policy` for each policy.
 pub(crate) fn read_policies(policies: &[Policy])
     ensures { All IsWhole policies.now }
 {

@@ -1,4 +1,4 @@
-//! One map at a time: what goes last, what is listed under an id, and maps that are made from lists.
+//! Operations on one map: appending entries, changing lists of ids, and creating maps from lists.
 ghost use Rattle.std.specs.Prelude.{◌≡◌, ◌<◌, ◌++◌, ◌∷◌, [], None, not, is_some, OnOk, OnErr, IfOk};
 ghost use Rattle.std.specs.List.{filter, list_any};
 ghost use Rattle.std.specs.Map.{keys_of, values_of};
@@ -23,7 +23,7 @@ use std::alloc::{AllocError, Global};
 use std::hash::BuildHasher;
 use std::rc::Rc;
 
-// Puts a value under a new key last, where there is room for it.
+// Appends a value with a new key. The space must be reserved.
 pub(crate) fn insert_reserved<V: Drop, S: BuildHasher + Copy>(
     map: &mut IndexMap<PolicyID, V, S>,
     key: PolicyID,
@@ -36,7 +36,7 @@ pub(crate) fn insert_reserved<V: Drop, S: BuildHasher + Copy>(
     map.insert(key, value).unwrap();
 }
 
-// Puts a value under a new key last.
+// Appends a value with a new key.
 fn insert_new<V: Drop, S: BuildHasher + Copy>(
     map: &mut IndexMap<PolicyID, V, S>,
     key: PolicyID,
@@ -50,18 +50,18 @@ fn insert_new<V: Drop, S: BuildHasher + Copy>(
     Ok(())
 }
 
-// What one more policy and its body go last with.
+// The keys and the shared body for appending a policy and its body.
 #[derive(Drop)]
 pub(crate) struct Joining {
-    // What the body goes under.
+    // The key of the body.
     pub(crate) body_id: PolicyID,
-    // What the policy goes under.
+    // The key of the policy.
     pub(crate) policy_id: PolicyID,
-    // A further share of the body.
+    // A further shared pointer to the body.
     pub(crate) body: Rc<Template>,
 }
 
-// Room for one more body and its list, and two copies of its id.
+// Reserves space for one more body and its list, and returns two copies of its id.
 pub(crate) fn room_for_body<S: BuildHasher + Copy>(
     templates: &mut IndexMap<PolicyID, Rc<Template>, S>,
     map: &mut IndexMap<PolicyID, IndexSet<PolicyID, S>, S>,
@@ -79,7 +79,7 @@ pub(crate) fn room_for_body<S: BuildHasher + Copy>(
     Ok((id, listed))
 }
 
-// Room for one more policy, which is listed last under its body's id; and a copy of its own id.
+// Reserves space for one more policy, appends its id to the list of its template, and returns a copy of the id.
 pub(crate) fn list_policy<S: BuildHasher + Copy>(
     links: &mut IndexMap<PolicyID, Policy, S>,
     map: &mut IndexMap<PolicyID, IndexSet<PolicyID, S>, S>,
@@ -99,7 +99,7 @@ pub(crate) fn list_policy<S: BuildHasher + Copy>(
     Ok(id)
 }
 
-// Room for one more policy and its body, and what they go last with.
+// Reserves space for one more policy and its body, and returns their keys and the shared body.
 pub(crate) fn room_for_both<S: BuildHasher + Copy>(
     templates: &mut IndexMap<PolicyID, Rc<Template>, S>,
     links: &mut IndexMap<PolicyID, Policy, S>,
@@ -124,7 +124,7 @@ pub(crate) fn room_for_both<S: BuildHasher + Copy>(
     })
 }
 
-// Room for one more list, a copy of the id of a link's template, and the list of the link's own id.
+// Reserves space for one more list. Returns a copy of the id of a link's template, and the list of the link's id.
 pub(crate) fn room_for_list<S: BuildHasher + Copy>(
     map: &mut IndexMap<PolicyID, IndexSet<PolicyID, S>, S>,
     policy: &Policy,
@@ -139,7 +139,7 @@ pub(crate) fn room_for_list<S: BuildHasher + Copy>(
     Ok((under, ids))
 }
 
-// The set of one id.
+// Returns the set of one id.
 fn set_of<S: BuildHasher + Copy>(
     alloc: Global,
     hasher: S,
@@ -152,7 +152,7 @@ fn set_of<S: BuildHasher + Copy>(
     Ok(ids)
 }
 
-// Puts a copy of an id last, if it isn't there.
+// Appends a copy of an id to a set, unless the set contains it.
 fn insert_id_copy<S: BuildHasher + Copy>(
     ids: &mut IndexSet<PolicyID, S>,
     id: &PolicyID,
@@ -162,7 +162,7 @@ fn insert_id_copy<S: BuildHasher + Copy>(
     insert_id(ids, id.clone()?)
 }
 
-// Puts an id last, if it isn't there.
+// Appends an id to a set, unless the set contains it.
 fn insert_id<S: BuildHasher + Copy>(
     ids: &mut IndexSet<PolicyID, S>,
     id: PolicyID,
@@ -174,14 +174,14 @@ fn insert_id<S: BuildHasher + Copy>(
     Ok(())
 }
 
-// Takes out an id, and closes the order up.
+// Removes an id from a set. The order of the other ids does not change.
 fn remove_id<S: BuildHasher + Copy>(ids: &mut IndexSet<PolicyID, S>, id: &PolicyID)
     ensures { ids.new.keys ≡ remove_key (same_text id.now) ids.old.keys }
 {
     ids.shift_remove(id);
 }
 
-// Lists an id last under a template's.
+// Appends an id to the list of a template, if there is one.
 pub(crate) fn list_link<S: BuildHasher + Copy>(
     map: &mut IndexMap<PolicyID, IndexSet<PolicyID, S>, S>,
     body: &PolicyID,
@@ -196,7 +196,7 @@ pub(crate) fn list_link<S: BuildHasher + Copy>(
     }
 }
 
-// Takes an id out of what is listed under a body's.
+// Removes an id from the list of a body, if there is one.
 fn unlist_id<S: BuildHasher + Copy>(
     map: &mut IndexMap<PolicyID, IndexSet<PolicyID, S>, S>,
     body: &PolicyID,
@@ -210,7 +210,7 @@ fn unlist_id<S: BuildHasher + Copy>(
     }
 }
 
-// Takes the id of a policy that was taken out, if there is one, out of what is listed under its template's.
+// Removes the id of a removed policy, if there is one, from the list of its template.
 pub(crate) fn unlist<S: BuildHasher + Copy>(
     map: &mut IndexMap<PolicyID, IndexSet<PolicyID, S>, S>,
     policy: &Option<Policy>,
@@ -224,7 +224,7 @@ pub(crate) fn unlist<S: BuildHasher + Copy>(
     }
 }
 
-// Bodies under their ids, in their order.
+// Returns the map of bodies by their ids, in order.
 pub(crate) fn bodies_by_id<S: BuildHasher + Copy>(
     alloc: Global,
     hasher: S,
@@ -239,7 +239,7 @@ pub(crate) fn bodies_by_id<S: BuildHasher + Copy>(
     Ok(templates)
 }
 
-// Puts bodies into an empty map, under their ids.
+// Fills an empty map with bodies, by their ids.
 fn put_bodies<S: BuildHasher + Copy>(
     templates: &mut IndexMap<PolicyID, Rc<Template>, S>,
     bodies: Vec<Rc<Template>>,
@@ -255,7 +255,7 @@ fn put_bodies<S: BuildHasher + Copy>(
     Ok(())
 }
 
-// Puts a body with a new id last.
+// Appends a body with a new id.
 fn put_body<S: BuildHasher + Copy>(
     templates: &mut IndexMap<PolicyID, Rc<Template>, S>,
     template: Rc<Template>,
@@ -267,7 +267,7 @@ fn put_body<S: BuildHasher + Copy>(
     insert_new(templates, id, template)
 }
 
-// Policies under their ids, in their order.
+// Returns the map of policies by their ids, in order.
 pub(crate) fn policies_by_id<S: BuildHasher + Copy>(
     alloc: Global,
     hasher: S,
@@ -282,7 +282,7 @@ pub(crate) fn policies_by_id<S: BuildHasher + Copy>(
     Ok(links)
 }
 
-// Puts policies into an empty map, under their ids.
+// Fills an empty map with policies, by their ids.
 fn put_policies<S: BuildHasher + Copy>(
     links: &mut IndexMap<PolicyID, Policy, S>,
     policies: Vec<Policy>,
@@ -298,7 +298,7 @@ fn put_policies<S: BuildHasher + Copy>(
     Ok(())
 }
 
-// Puts a policy with a new id last.
+// Appends a policy with a new id.
 fn put_policy<S: BuildHasher + Copy>(
     links: &mut IndexMap<PolicyID, Policy, S>,
     policy: Policy,
@@ -310,17 +310,16 @@ fn put_policy<S: BuildHasher + Copy>(
     insert_new(links, id, policy)
 }
 
-// Lists that enter.
+// The lists of ids to append.
 #[derive(Drop)]
 pub(crate) struct EnteringLists<S: BuildHasher> {
-    // Under each template that joins the ids of its links.
+    // The ids of the links of each new template.
     pub(crate) listed: IndexMap<PolicyID, IndexSet<PolicyID, S>, S>,
-    // Under each other template that gets links the ids of these.
+    // The ids of the new links of each existing template.
     pub(crate) grown: IndexMap<PolicyID, IndexSet<PolicyID, S>, S>,
 }
 
-// The ids of links that join, under those of their templates. Of the bodies that join those are templates whose ids no
-// policy that joins has.
+// Returns the ids of new links by the ids of their templates. A new body is a template if no new policy has its id.
 pub(crate) fn ids_by_template<S: BuildHasher + Copy>(
     alloc: Global,
     bodies: &[Rc<Template>],
@@ -340,7 +339,7 @@ pub(crate) fn ids_by_template<S: BuildHasher + Copy>(
     Ok(EnteringLists { listed, grown })
 }
 
-// No id under each template's id.
+// Returns an empty list for each template.
 fn no_ids<S: BuildHasher + Copy>(
     alloc: Global,
     bodies: &[Rc<Template>],
@@ -358,7 +357,7 @@ fn no_ids<S: BuildHasher + Copy>(
     Ok(map)
 }
 
-// Puts no id under a template's id last, unless a policy has the id.
+// Appends an empty list for a template, unless a policy has its id.
 fn put_no_ids<S: BuildHasher + Copy>(
     map: &mut IndexMap<PolicyID, IndexSet<PolicyID, S>, S>,
     template: &Rc<Template>,
@@ -376,7 +375,8 @@ fn put_no_ids<S: BuildHasher + Copy>(
     insert_new(map, template.id().clone()?, ids)
 }
 
-// Lists links, each last under its template's id: in the first map where that has a list there, and else in the second.
+// Appends each link's id to the list of its template: in the first map if the template has a list there, else in the
+// second.
 fn list_links<S: BuildHasher + Copy>(
     listed: &mut IndexMap<PolicyID, IndexSet<PolicyID, S>, S>,
     grown: &mut IndexMap<PolicyID, IndexSet<PolicyID, S>, S>,
@@ -393,7 +393,7 @@ fn list_links<S: BuildHasher + Copy>(
     Ok(())
 }
 
-// Lists a policy in one of two maps, if it is a link.
+// Appends the id of a policy to a list in one of two maps, if it is a link.
 fn list_if_link<S: BuildHasher + Copy>(
     listed: &mut IndexMap<PolicyID, IndexSet<PolicyID, S>, S>,
     grown: &mut IndexMap<PolicyID, IndexSet<PolicyID, S>, S>,
@@ -411,7 +411,8 @@ fn list_if_link<S: BuildHasher + Copy>(
     }
 }
 
-// Lists a copy of an id last under a template's: in the first map where that has a list there, and else in the second.
+// Appends a copy of an id to the list of a template: in the first map if the template has a list there, else in the
+// second.
 fn list_in_either<S: BuildHasher + Copy>(
     listed: &mut IndexMap<PolicyID, IndexSet<PolicyID, S>, S>,
     grown: &mut IndexMap<PolicyID, IndexSet<PolicyID, S>, S>,
@@ -429,7 +430,7 @@ fn list_in_either<S: BuildHasher + Copy>(
     }
 }
 
-// Lists a copy of an id last under a template's, which goes last itself where it has no list.
+// Appends a copy of an id to the list of a template. Appends the list first if there is none.
 fn gather_id<S: BuildHasher + Copy>(
     map: &mut IndexMap<PolicyID, IndexSet<PolicyID, S>, S>,
     body: &PolicyID,
@@ -443,7 +444,7 @@ fn gather_id<S: BuildHasher + Copy>(
     }
 }
 
-// Puts the list of one id under a new key last, copies of both.
+// Appends the list of one id with a new key. Both are copied.
 fn put_list<S: BuildHasher + Copy>(
     map: &mut IndexMap<PolicyID, IndexSet<PolicyID, S>, S>,
     body: &PolicyID,
@@ -456,7 +457,7 @@ fn put_list<S: BuildHasher + Copy>(
     insert_new(map, body.clone()?, ids)
 }
 
-// Keeps the lists under ids that no policy has, in their order.
+// Keeps the lists whose keys are not ids of policies, in order.
 pub(crate) fn keep_templates<S: BuildHasher + Copy>(
     map: &mut IndexMap<PolicyID, IndexSet<PolicyID, S>, S>,
     links: &IndexMap<PolicyID, Policy, S>,
@@ -466,7 +467,7 @@ pub(crate) fn keep_templates<S: BuildHasher + Copy>(
     map.retain(|id, _| !links.contains_key(id));
 }
 
-// Further shares of bodies, under their ids.
+// Copies the map of bodies. The bodies are shared.
 pub(crate) fn copy_of_bodies<S: BuildHasher + Copy>(
     templates: &IndexMap<PolicyID, Rc<Template>, S>,
 ) -> Result<IndexMap<PolicyID, Rc<Template>, S>, AllocError>
@@ -476,7 +477,7 @@ pub(crate) fn copy_of_bodies<S: BuildHasher + Copy>(
     Ok(copies)
 }
 
-// A copy of policies, under their ids.
+// Copies the map of policies.
 pub(crate) fn copy_of_policies<S: BuildHasher + Copy>(
     links: &IndexMap<PolicyID, Policy, S>,
 ) -> Result<IndexMap<PolicyID, Policy, S>, AllocError>
@@ -486,7 +487,7 @@ pub(crate) fn copy_of_policies<S: BuildHasher + Copy>(
     Ok(copies)
 }
 
-// A copy of what is listed.
+// Copies the map of lists.
 pub(crate) fn copy_of_ids<S: BuildHasher + Copy>(
     map: &IndexMap<PolicyID, IndexSet<PolicyID, S>, S>,
 ) -> Result<IndexMap<PolicyID, IndexSet<PolicyID, S>, S>, AllocError>

@@ -1,4 +1,4 @@
-//! The three maps: making, reading and copying them.
+//! The type of the three maps, with its constructors and iterators.
 ghost use Rattle.std.specs.Prelude.{◌≡◌, ◌↔◌, [], IsTrue};
 ghost use Rattle.cedar_policy_maps.specs.PolicySets.{empty_set, IsPolicySet};
 ghost use Rattle.cedar_policy_maps.specs.Lists.{slotted_in, statics_in};
@@ -16,16 +16,17 @@ use std::hash::BuildHasher;
 use std::marker::Model;
 use std::rc::Rc;
 
-/// The maps of a policy set: bodies, static policies' too, and policies, each under their ids, and under each
-/// template's id the ids of its links. They hash ids by the hashers that `S` builds.
+/// The maps of a policy set. They contain the bodies of templates and static policies by id, the policies by id, and
+/// the ids of the links of each template. `S` builds the hashers for ids.
 ///
-/// Contracts see two orders: that of bodies, and that of policies, each as it joined. `clone` takes memory for the
-/// three maps and for what policies copy. Look-ups go by keys and walk nothing; a removal closes up.
+/// `clone` copies the three maps and the policies. Lookups use hashing. A removal keeps the order of the other entries.
+/// Contracts see two lists: the bodies and the policies, each in insertion order.
 #[derive(Drop)]
 pub struct PolicyMaps<S: BuildHasher> {
     pub(crate) templates: IndexMap<PolicyID, Rc<Template>, S>,
     pub(crate) links: IndexMap<PolicyID, Policy, S>,
-    // Of templates alone: on the body of a static policy stands that policy.
+    // The ids of the links of each template. Bodies of static policies are not keys, because each has only its own
+    // policy.
     pub(crate) template_to_links_map: IndexMap<PolicyID, IndexSet<PolicyID, S>, S>,
 }
 
@@ -44,7 +45,7 @@ impl<S: BuildHasher> Model for PolicyMaps<S> {
 }
 
 impl<S: BuildHasher + Copy> PolicyMaps<S> {
-    /// The maps without a binding, which hash ids by what `hasher` builds. It takes no memory.
+    /// Creates empty maps, with this builder of hashers. Does not allocate.
     pub fn with_hasher(alloc: Global, hasher: S) -> PolicyMaps<S>
         ensures { result ≡ empty_set }
     {
@@ -55,19 +56,26 @@ impl<S: BuildHasher + Copy> PolicyMaps<S> {
         }
     }
 
-    /// What builds the hashers. It takes no memory, as no reader here does.
+    /// Returns the builder of hashers. Does not allocate.
     pub fn hasher(&self) -> &S {
         self.templates.hasher()
     }
 
-    /// These three maps: bodies, static policies' too, policies, and under each body's id the ids of the policies on
-    /// it. It takes no memory. It passes over the policies once, for its proof alone, and over the third map, of which
-    /// it keeps what stands under templates' ids: on a static policy's body stands that policy alone.
+    /// Creates the maps of a set from three maps. `templates` contains the bodies of templates and static policies, and
+    /// `links` the policies. The third map contains the ids of the policies that use each body. From the third map only
+    /// the lists of templates are kept. All maps use the first map's builder of hashers. Does not allocate.
     ///
-    /// The maps have to agree: bodies and policies stand under their own ids; each policy's template stands among the
-    /// bodies; a link has an id that no body has, and its template is no static policy's; and the third map has the ids
-    /// of all bodies, in their order, each with the ids of the policies on it, in theirs. New maps are hashed as the
-    /// first of these is.
+    /// The caller must ensure that the maps agree:
+    ///
+    /// - Bodies and policies have their own ids as keys.
+    /// - The template of each policy is among the bodies.
+    /// - A link has an id that no body has, and its template is not the body of a static policy.
+    /// - The third map has the ids of all bodies as keys, in their order.
+    /// - Each list has the ids of the policies that use the body, in the order of the policies.
+    ///
+    /// # Complexity
+    ///
+    /// O(n), where n is the number of policies and bodies. The scan of the policies is only needed by the proof.
     pub fn from_raw_components(
         templates: IndexMap<PolicyID, Rc<Template>, S>,
         links: IndexMap<PolicyID, Policy, S>,
@@ -76,7 +84,8 @@ impl<S: BuildHasher + Copy> PolicyMaps<S> {
         requires { CanMakeSet (maps_of templates.entries links.entries template_to_links_map.entries) }
         ensures { result ≡ set_in (maps_of templates.entries links.entries template_to_links_map.entries) }
     {
-        // These say what holds of every map, that no two keys are equal, and of every policy.
+        // No effect at run time: the contracts of these calls state that no two keys of a map are equal, and the
+        // invariant of each policy.
         let _bodies = templates.len();
         let _policies = links.len();
         read_policies(links.values().as_slice());
@@ -89,24 +98,25 @@ impl<S: BuildHasher + Copy> PolicyMaps<S> {
         }
     }
 
-    /// Whether nothing is bound.
+    /// Returns whether the set is empty. Does not allocate.
     pub fn is_empty(&self) -> bool
         ensures value { IsTrue result ↔ (self.now ≡ empty_set) }
         ensures policy_set { IsPolicySet self.now }
     {
-        // No effect at run time: this borrow says that the maps state a policy set.
+        // No effect at run time: for the proof, this borrow states that the maps contain a policy set.
         let _ = &self.templates;
         are_empty(self.shared_bodies(), self.all_policies())
     }
 
-    /// All policies, static policies and links, in the order in which they joined.
+    /// Iterates over all policies, static policies and links, in insertion order. Does not allocate.
     pub fn policies(&self) -> Policies<'_>
         ensures { result ≡ self.now.policies }
     {
         Policies::of(self.all_policies())
     }
 
-    /// All policies, static policies and links, in the order in which they joined; the maps are taken apart.
+    /// Consumes the maps and iterates over all policies, static policies and links, in insertion order. Does not
+    /// allocate.
     pub fn into_policies(self) -> IntoPolicies
         ensures { result ≡ self.policies }
     {
@@ -120,21 +130,21 @@ impl<S: BuildHasher + Copy> PolicyMaps<S> {
         IntoPolicies::of(links)
     }
 
-    /// All bodies, of static policies and of templates, in the order in which they joined.
+    /// Iterates over all bodies, of static policies and of templates, in insertion order. Does not allocate.
     pub fn all_templates(&self) -> AllTemplates<'_>
         ensures { result ≡ self.now.bodies }
     {
         AllTemplates::of(self.shared_bodies())
     }
 
-    /// The bodies that have slots, in the order in which they joined.
+    /// Iterates over the bodies that have slots, in insertion order. Does not allocate.
     pub fn templates(&self) -> Templates<'_>
         ensures { result ≡ slotted_in self.now.bodies }
     {
         Templates::of(self.shared_bodies())
     }
 
-    /// The static policies, in the order in which they joined.
+    /// Iterates over the static policies, in insertion order. Does not allocate.
     pub fn static_policies(&self) -> StaticPolicies<'_>
         ensures { result ≡ statics_in self.now.policies }
     {
@@ -142,7 +152,7 @@ impl<S: BuildHasher + Copy> PolicyMaps<S> {
     }
 }
 
-// Whether both lists are empty.
+// Returns whether both lists are empty.
 fn are_empty(bodies: &[Rc<Template>], policies: &[Policy]) -> bool
     ensures { IsTrue result ↔ ((bodies.now ≡ []) × (policies.now ≡ [])) }
 {
@@ -165,7 +175,7 @@ impl<S: BuildHasher + Copy> Clone for PolicyMaps<S> {
 }
 
 impl<S: BuildHasher> fmt::Debug for PolicyMaps<S> {
-    /// Writes the three maps, under the name of the set that they are kept for.
+    /// Writes the three maps as the fields of a `PolicySet`.
     fn fmt<W: fmt::Write>(&self, f: &mut fmt::Formatter<W>) -> fmt::Result {
         f.debug_struct("PolicySet")
             .field("templates", &self.templates)

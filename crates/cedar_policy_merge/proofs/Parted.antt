@@ -1,4 +1,4 @@
--- One more body among those that stand or those that join.
+-- One more body among the existing or the new ones.
 use Rattle.std.specs.Prelude.{◌≡◌, List, [], ◌∷◌, ◌++◌, Bool, true, false}
 use Rattle.std.proofs.Common.{cond, ap, ◌∙◌}
 use Rattle.std.specs.declared.rc.Rc.{Rc}
@@ -7,7 +7,6 @@ use Rattle.std.proofs.lemmas.List.{map-append}
 use Rattle.cedar_body.specs.Bodies.{BodyParts}
 use Rattle.cedar_policy_maps.specs.Views.{bodies_of}
 
--- one more body, if it is one of these
 body_parted_at : (v : Bool) (olds news : List (Rc BodyParts Global)) (x : Rc BodyParts Global) (t : BodyParts)
     → news ≡ olds ++ cond v (x ∷ []) [] → x.value ≡ t → bodies_of news ≡ bodies_of olds ++ cond v (t ∷ []) []
 body_parted_at true olds news x t e q = ap bodies_of e ∙ map-append (λ (t : Rc BodyParts Global). t.value) olds (x ∷ [])

@@ -1,4 +1,5 @@
-//! Finding bodies and policies, first behind the one found last: two sets mostly have theirs in one order.
+//! Lookups of bodies and policies in order. A lookup first tries the place after the last one found, because two sets
+//! mostly have the same order.
 ghost use Rattle.std.specs.Prelude.{◌≡◌, ◌<◌, IfSome, Some, length, is_some, slice_get};
 ghost use Rattle.std.specs.List.{find, list_any};
 ghost use Rattle.std.specs.Option.{option_copied};
@@ -12,7 +13,7 @@ use cedar_policy_maps::PolicyMaps;
 use std::hash::BuildHasher;
 use std::rc::Rc;
 
-// Places that are looked at first: of a body and of a policy here, and of a policy there.
+// The places to try first: for a body and a policy of this set, and for a policy of the other set.
 #[derive(Drop)]
 pub(crate) struct Places {
     pub(crate) body: usize,
@@ -20,7 +21,7 @@ pub(crate) struct Places {
     pub(crate) other: usize,
 }
 
-// The body with an id, if there is one. The place that is looked at first goes on by one.
+// Returns the body with this id, and advances the place by one if a body is found.
 pub(crate) fn body_at<'a, S: BuildHasher + Copy>(
     maps: &'a PolicyMaps<S>,
     id: &PolicyID,
@@ -28,7 +29,7 @@ pub(crate) fn body_at<'a, S: BuildHasher + Copy>(
 ) -> Option<&'a Template>
     ensures { option_copied result ≡ find (is_body_at id.now) maps.now.bodies }
 {
-    // No effect at run time: this call says that the maps are those of a policy set.
+    // No effect at run time: this call shows the prover that the maps satisfy the invariant of a policy set.
     let _policy_set = maps.is_empty();
     let bodies = maps.shared_bodies();
     let place = *next;
@@ -50,7 +51,7 @@ pub(crate) fn body_at<'a, S: BuildHasher + Copy>(
     }
 }
 
-// Whether a body has an id. The place that is looked at first goes on by one.
+// Returns whether a body has this id, and advances the place by one if so.
 #[tactic(auto, using(crate::specs::laws::LookedAtLaws::found_any))]
 pub(crate) fn has_body<S: BuildHasher + Copy>(
     maps: &PolicyMaps<S>,
@@ -62,7 +63,7 @@ pub(crate) fn has_body<S: BuildHasher + Copy>(
     body_at(maps, id, next).is_some()
 }
 
-// The policy with an id, if there is one. The place that is looked at first goes behind it.
+// Returns the policy with this id, and moves the place behind it.
 pub(crate) fn policy_at<'a, S: BuildHasher + Copy>(
     maps: &'a PolicyMaps<S>,
     id: &PolicyID,
@@ -76,7 +77,7 @@ pub(crate) fn policy_at<'a, S: BuildHasher + Copy>(
     }
 }
 
-// Whether a policy has an id. The place that is looked at first goes behind it.
+// Returns whether a policy has this id, and moves the place behind it.
 #[tactic(auto, using(crate::specs::laws::LookedAtLaws::found_any))]
 pub(crate) fn has_policy<S: BuildHasher + Copy>(
     maps: &PolicyMaps<S>,
@@ -88,7 +89,7 @@ pub(crate) fn has_policy<S: BuildHasher + Copy>(
     place_of_policy(maps, id, next).is_some()
 }
 
-// The place of the policy with an id, if there is one. The place that is looked at first goes behind it.
+// Returns the place of the policy with this id, and moves the place to try behind it.
 pub(crate) fn place_of_policy<S: BuildHasher + Copy>(
     maps: &PolicyMaps<S>,
     id: &PolicyID,
@@ -99,7 +100,7 @@ pub(crate) fn place_of_policy<S: BuildHasher + Copy>(
     ensures policy { IfSome result (λ k. slice_get maps.now.policies k
         ≡ find (is_policy_at id.now) maps.now.policies) }
 {
-    // No effect at run time: this call says that the maps are those of a policy set.
+    // No effect at run time: this call shows the prover that the maps satisfy the invariant of a policy set.
     let _policy_set = maps.is_empty();
     let policies = maps.all_policies();
     let place = *next;
@@ -119,7 +120,7 @@ pub(crate) fn place_of_policy<S: BuildHasher + Copy>(
     }
 }
 
-// The body that joins under an id, if it stands at the place that is looked at first or behind it. That goes behind it.
+// Returns the new body with this id, if it is at the place to try or after it. Moves the place behind it.
 pub(crate) fn joined_at<'a>(
     joined: &'a [Rc<Template>],
     id: &PolicyID,

@@ -1,4 +1,4 @@
-//! New ids for a merge: policy0, policy1 and so on, as far as neither set binds them.
+//! New ids for a merge: the ids `policy0`, `policy1` and so on that neither set uses.
 ghost use Rattle.std.specs.Prelude.{◌≡◌, ◌+◌, ◌++◌, ◌∷◌, [], ◌^◌, ◌<◌, IfOk, OnOk, List, ℕ, length, codes};
 ghost use Rattle.std.specs.String.{string_bytes};
 ghost use Rattle.std.specs.Map.{keys_of, values_of};
@@ -14,11 +14,11 @@ use indexmap::{IndexMap, IndexSet};
 use std::alloc::{AllocError, Global};
 use std::hash::BuildHasher;
 
-// What a new id has room for: more digits than most have.
+// The capacity of a new id, enough for most numbers.
 const ROOM: usize = 16;
 
-// A number that is tried: its tens and its last digit, with the digits of the tens as they are written, none of them
-// where there are no tens. So most numbers are written without a division.
+// The number that is tried next, as its tens and its last digit. `stem` has the decimal digits of the tens, or is empty
+// if there are no tens. So most numbers are written without a division.
 #[derive(Drop)]
 struct Trial {
     tens: u128,
@@ -26,7 +26,7 @@ struct Trial {
     stem: String,
 }
 
-// The first number. It takes no memory.
+// Returns the number 0. Does not allocate.
 fn first(alloc: Global) -> Trial
     ensures at { IsAt result }
     ensures number { number_of result ≡ 0 }
@@ -38,7 +38,7 @@ fn first(alloc: Global) -> Trial
     }
 }
 
-// The digits of a number. Those of one that half the bits hold cost less to write.
+// Returns the decimal digits of a number. A number that fits into 64 bits is converted faster.
 fn digits_of(alloc: Global, number: u128) -> Result<String, AllocError>
     ensures { IfOk result (λ s. string_bytes s ≡ numeral number) }
 {
@@ -51,7 +51,7 @@ fn digits_of(alloc: Global, number: u128) -> Result<String, AllocError>
     Ok(text)
 }
 
-// Goes on to the next number.
+// Advances to the next number.
 #[tactic(auto, using(crate::specs::laws::Trials::stem_more))]
 fn go_on(alloc: Global, trial: &mut Trial) -> Result<(), AllocError>
     requires at { IsAt trial.old }
@@ -69,7 +69,7 @@ fn go_on(alloc: Global, trial: &mut Trial) -> Result<(), AllocError>
     Ok(())
 }
 
-// A digit as it is written.
+// Returns the character of a digit.
 fn digit_text(digit: u8) -> &'static str
     requires { digit < 10 }
     ensures { result.now ≡ (48 + digit) ∷ [] }
@@ -88,7 +88,7 @@ fn digit_text(digit: u8) -> &'static str
     }
 }
 
-// The id of a number by the digits of its tens and its last, in the place of another id.
+// Returns the id of the number with these tens and this last digit. Reuses the buffer of `id`.
 fn id_of(stem: &str, digit: u8, id: PolicyID) -> Result<PolicyID, AllocError>
     requires { digit < 10 }
     ensures { IfOk result (λ i. i ≡ codes "policy" ++ (stem.now ++ (48 + digit) ∷ [])) }
@@ -101,7 +101,7 @@ fn id_of(stem: &str, digit: u8, id: PolicyID) -> Result<PolicyID, AllocError>
     Ok(PolicyID::from_smolstr(text))
 }
 
-// The id of the number that is tried, in the place of another id.
+// Returns the id of the number that is tried. Reuses the buffer of `id`.
 fn numbered(trial: &Trial, id: PolicyID) -> Result<PolicyID, AllocError>
     requires { IsAt trial.now }
     ensures { IfOk result (λ i. i ≡ numbered (number_of trial.now)) }
@@ -110,7 +110,7 @@ fn numbered(trial: &Trial, id: PolicyID) -> Result<PolicyID, AllocError>
     Ok(id)
 }
 
-// Whether one of two sets binds an id.
+// Returns whether one of the two sets uses the id.
 fn is_bound_in_either<S: BuildHasher + Copy>(
     here: &PolicyMaps<S>,
     other: &PolicyMaps<S>,
@@ -121,7 +121,7 @@ fn is_bound_in_either<S: BuildHasher + Copy>(
     here.is_bound(id) || other.is_bound(id)
 }
 
-// The first free id from this number on, to whose number it goes.
+// Returns the first free id from this number on, and advances `trial` to its number.
 fn next_free<S: BuildHasher + Copy>(
     alloc: Global,
     here: &PolicyMaps<S>,
@@ -147,7 +147,7 @@ fn next_free<S: BuildHasher + Copy>(
     }
 }
 
-// How many ids two sets have, those of static policies twice.
+// Returns the number of policies and bodies of both sets.
 fn count_ids<S: BuildHasher + Copy>(here: &PolicyMaps<S>, other: &PolicyMaps<S>) -> u128
     ensures count { result ≡ count here.now other.now }
     ensures small { result < 2 ^ 66 }
@@ -155,7 +155,7 @@ fn count_ids<S: BuildHasher + Copy>(here: &PolicyMaps<S>, other: &PolicyMaps<S>)
     size(here) + size(other)
 }
 
-// How many ids a set has, those of static policies twice.
+// Returns the number of policies and bodies of a set.
 fn size<S: BuildHasher + Copy>(set: &PolicyMaps<S>) -> u128
     ensures size { result ≡ length set.now.policies + length set.now.bodies }
     ensures small { result < 2 ^ 65 }
@@ -163,7 +163,7 @@ fn size<S: BuildHasher + Copy>(set: &PolicyMaps<S>) -> u128
     set.all_policies().len() as u128 + set.shared_bodies().len() as u128
 }
 
-// The free ids that some ids go to, in their order.
+// Returns the renaming of `ids` to the first free ids, in order.
 pub(crate) fn fresh_ids<S: BuildHasher + Copy>(
     alloc: Global,
     ids: IndexSet<PolicyID, S>,
@@ -174,7 +174,7 @@ pub(crate) fn fresh_ids<S: BuildHasher + Copy>(
     ensures keys { IfOk result (λ r. keys_of r.entries ≡ ids.keys) }
     ensures free { IfOk result (λ r. AreFree (is_bound_in_either here.now other.now) 0 (values_of r.entries)) }
 {
-    // No effect on the answer: this count says that numbers do not run out.
+    // No effect on the result: this count shows that there are enough numbers.
     let _count = count_ids(here, other);
     let mut renaming = IndexMap::with_capacity_and_hasher(alloc, ids.len(), *ids.hasher())?;
     let mut trial = first(alloc);

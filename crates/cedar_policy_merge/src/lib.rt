@@ -1,8 +1,9 @@
-//! Merging the maps of policy sets: which ids of two conflict, what they are renamed to, and what the maps bind then.
+//! The merge of two policy sets, on their maps: the ids in conflict, their new ids, and the merged maps.
 //!
-//! Contracts see the maps as the two orders of a set, and say by `specs/Merge.antt` what merging leaves and answers,
-//! and by `specs/Fresh.antt` which ids are free. The maps are those of `cedar_policy_maps`, which take in what is
-//! parted here; the one refusal, but for memory, is that of `cedar_policy_set_errors`.
+//! This crate uses the maps of `cedar_policy_maps` and an error type of `cedar_policy_set_errors`.
+//!
+//! Contracts see the maps as a list of bodies and a list of policies. `specs/Merge.antt` defines the merged set and the
+//! result. `specs/Fresh.antt` defines which ids are free.
 #![tactic(auto)]
 
 mod found;

@@ -1,10 +1,11 @@
-//! Merging other maps into these: what the two bind, under ids that do not conflict.
+//! The merge of other maps into these maps, with new ids for the ids in conflict.
 ghost use Rattle.std.specs.Prelude.{◌≡◌, ◌↔◌, ◌&&◌, ◌||◌, ◌++◌, ◌+◌, ◌∷◌, ◌<◌, [], true, false, not, length};
 ghost use Rattle.std.specs.Prelude.{if◌then◌else◌, is_some, IfOk};
 ghost use Rattle.std.specs.Prelude.{OnErr, OnOk, IfSome, IsTrue, List, ℕ, Some};
 ghost use Rattle.std.specs.List.{find, list_any};
 ghost use Rattle.std.specs.Map.{lookup, values_of};
 ghost use Rattle.std.specs.Option.{option_copied, unwrap_or};
+ghost use Rattle.indexmap.specs.IndexSet.{insert_all};
 ghost use Rattle.cedar_body.specs.Bodies.{BodyParts, with_id};
 ghost use Rattle.cedar_body.specs.BodyEquality.{same_body};
 ghost use Rattle.cedar_policy.specs.Policies.{policy_id, static_policy, with_policy_id};
@@ -12,8 +13,8 @@ ghost use Rattle.cedar_policy.specs.PolicyEquality.{same_policy};
 ghost use Rattle.cedar_ids.specs.Texts.{same_text};
 ghost use Rattle.cedar_policy_maps.specs.PolicySets.{AreOnce, bound_at, is_bound, is_body_at};
 ghost use Rattle.cedar_policy_merge.specs.Fresh.{is_bound_in_either};
-ghost use Rattle.cedar_policy_merge.specs.Merge.{has_body, has_policy, gathered};
-ghost use Rattle.cedar_policy_merge.specs.Merge.{conflicts, Differ, renamed_body, renamed_policy, joined_bodies};
+ghost use Rattle.cedar_policy_merge.specs.Merge.{has_body, has_policy};
+ghost use Rattle.cedar_policy_merge.specs.Merge.{conflicts, DifferAt, renamed_body, renamed_policy, joined_bodies};
 ghost use Rattle.cedar_policy_merge.specs.Merge.{joined_policies, merged, new_id, IsRenaming, MergesSets};
 ghost use Rattle.cedar_policy_merge.specs.laws.GatherLaws.{Bodies, Policies, Links, Templates, in_groups};
 ghost use Rattle.cedar_policy_merge.specs.laws.GatherLaws.{conflicting_bodies, conflicting_policies};
@@ -39,17 +40,28 @@ use std::alloc::{AllocError, Global};
 use std::hash::BuildHasher;
 use std::rc::Rc;
 
-/// Takes in what the other maps bind, which stay as they are, and answers the ids that were renamed with their new
-/// ones.
+/// Merges the maps of another policy set into these. Returns the renamed ids of the other set with their new ids. The
+/// other maps do not change.
 ///
-/// An id conflicts where both bind it and not alike. Where none may be renamed the first of them is refused as
-/// `Occupied`. Else each gets the next of the ids `policy0`, `policy1` and so on that neither binds. What the other
-/// maps bind goes last, in their orders, under its new ids; what both bind alike takes the other's value. The merging
-/// of policy sets is this call, and its comment says the rest: the order of the conflicts, and what the call costs.
+/// An id is in conflict if the two sets bind it differently. If `rename_duplicates` is false, a conflict is an error.
+/// Otherwise each conflicting id of the other set is renamed to the next id of `policy0`, `policy1` and so on that
+/// neither set uses. The bindings of the other set are appended in their order, under their new ids. If both sets bind
+/// an id equally, its value is replaced by the other set's value.
 ///
-/// Takes memory for a copy of what joins and of policies here that take other locations, for room in the maps and in the
-/// lists of links that grow, for what is renamed and for the answer. A refused call, for memory too, leaves both orders
-/// as they were: all that can be refused is done first.
+/// `PolicySet::merge_policyset` is this function. Its comment describes the order of the new ids and the costs.
+///
+/// # Errors
+///
+/// After an error the maps of this set are unchanged.
+///
+/// - `Occupied`, with the first conflicting id: there is a conflict and `rename_duplicates` is false.
+/// - `Memory`: an allocation failed.
+///
+/// # Complexity
+///
+/// O(n), where n is the size of the other set. Allocates the copies of the new bindings, and of policies of this set
+/// that get new locations. Allocates space in the maps, in the lists of links and for the renamed bindings, and the
+/// result.
 #[tactic(auto, using(crate::specs::laws::RenamingLaws::once_free, crate::specs::laws::RenamingLaws::none_bound_of, crate::specs::laws::RenamingLaws::numbers_below))]
 pub fn merge_maps<S: BuildHasher + Copy>(
     alloc: Global,
@@ -59,8 +71,6 @@ pub fn merge_maps<S: BuildHasher + Copy>(
 ) -> Result<IndexMap<PolicyID, PolicyID, S>, PolicySetError>
     ensures { MergesSets (λ r. r.entries) result here.old other.now rename_duplicates here.new }
 {
-    // No effect at run time: these calls say that both are those of a policy set.
-    let _policy_sets = (here.is_empty(), other.is_empty());
     let ids = conflicting_ids(alloc, here, other)?;
     if let Some(id) = refused(&ids, rename_duplicates) {
         return Err(PolicySetError::Occupied { id: id.clone()? });
@@ -70,7 +80,7 @@ pub fn merge_maps<S: BuildHasher + Copy>(
     Ok(renaming)
 }
 
-// Puts what two sets bind, the other's under new ids, in the place of all.
+// Inserts the bindings of the other set under their new ids. All allocations come before the first change.
 fn put_merged<S: BuildHasher + Copy>(
     alloc: Global,
     here: &mut PolicyMaps<S>,
@@ -81,7 +91,7 @@ fn put_merged<S: BuildHasher + Copy>(
     ensures ok { OnOk result (here.new ≡ merged here.old other.now (new_id renaming.now.entries)) }
     ensures err { OnErr result (here.new ≡ here.old) }
 {
-    // No effect at run time: these calls say that both are those of a policy set.
+    // No effect at run time: these calls show the prover that both maps satisfy the invariant of a policy set.
     let _policy_sets = (here.is_empty(), other.is_empty());
     let bodies = parted_bodies(alloc, here, other, renaming)?;
     let parted = parted_policies(alloc, here, other, renaming, &bodies.join)?;
@@ -91,7 +101,7 @@ fn put_merged<S: BuildHasher + Copy>(
     Ok(())
 }
 
-// The first of some ids, where none may be renamed.
+// Returns the first conflicting id, if renaming is not allowed.
 fn refused<'a, S: BuildHasher + Copy>(
     ids: &'a IndexSet<PolicyID, S>,
     rename: bool,
@@ -104,7 +114,7 @@ fn refused<'a, S: BuildHasher + Copy>(
     ids.iter().next()
 }
 
-// The ids that conflict.
+// Returns the ids in conflict.
 #[tactic(auto, using(crate::specs::laws::GatherLaws::conflicts_in_groups))]
 fn conflicting_ids<S: BuildHasher + Copy>(
     alloc: Global,
@@ -118,8 +128,8 @@ fn conflicting_ids<S: BuildHasher + Copy>(
     Ok(ids)
 }
 
-// Gathers the ids that conflict, group after group. Bodies and policies there are walked once each: what a walk finds
-// for a later group is gathered once that group's turn comes.
+// Collects the ids in conflict, in four groups. The bodies and the policies of the other set are scanned once each. Ids
+// of the last two groups are kept in a list until their group comes.
 fn gather_all<S: BuildHasher + Copy>(
     alloc: Global,
     ids: &mut IndexSet<PolicyID, S>,
@@ -128,6 +138,8 @@ fn gather_all<S: BuildHasher + Copy>(
 ) -> Result<(), AllocError>
     ensures { OnOk result (ids.new.keys ≡ in_groups ids.old.keys here.now other.now) }
 {
+    // No effect at run time: these calls show the prover that both maps satisfy the invariant of a policy set.
+    let _policy_sets = (here.is_empty(), other.is_empty());
     let mut links = Vec::new(alloc);
     let mut templates = Vec::new(alloc);
     gather_bodies(ids, &mut links, here, other)?;
@@ -136,12 +148,12 @@ fn gather_all<S: BuildHasher + Copy>(
     gather_listed(ids, templates)
 }
 
-// Gathers ids that were listed.
+// Inserts the ids of a list.
 fn gather_listed<S: BuildHasher + Copy>(
     ids: &mut IndexSet<PolicyID, S>,
     listed: Vec<PolicyID>,
 ) -> Result<(), AllocError>
-    ensures { OnOk result (ids.new.keys ≡ gathered ids.old.keys listed.items) }
+    ensures { OnOk result (ids.new.keys ≡ insert_all same_text ids.old.keys listed.items) }
 {
     for id in listed {
         ids.insert(id)?;
@@ -149,19 +161,20 @@ fn gather_listed<S: BuildHasher + Copy>(
     Ok(())
 }
 
-// Gathers the ids of bodies there that conflict with bodies here, and lists those that conflict with links here.
+// Collects the ids of the other set's bodies that conflict with bodies of this set. Appends to `links` the ids that
+// conflict with links of this set.
 fn gather_bodies<S: BuildHasher + Copy>(
     ids: &mut IndexSet<PolicyID, S>,
     links: &mut Vec<PolicyID>,
     here: &PolicyMaps<S>,
     other: &PolicyMaps<S>,
 ) -> Result<(), AllocError>
-    ensures ids { OnOk result (ids.new.keys ≡ gathered ids.old.keys
+    ensures ids { OnOk result (ids.new.keys ≡ insert_all same_text ids.old.keys
         (conflicting_bodies Bodies here.now other.now other.now.bodies)) }
     ensures links { OnOk result (links.new.items ≡ links.old.items
         ++ conflicting_bodies Links here.now other.now other.now.bodies) }
 {
-    // No effect at run time: this call says that the other is that of a policy set.
+    // No effect at run time: this call shows the prover that the other maps satisfy the invariant of a policy set.
     let _policy_set = other.is_empty();
     let mut places = Places {
         body: 0,
@@ -174,7 +187,7 @@ fn gather_bodies<S: BuildHasher + Copy>(
     Ok(())
 }
 
-// Gathers the id of a body there, if it conflicts with a body here, or lists it, if it conflicts with a link here.
+// Does the same for one body.
 fn gather_body<S: BuildHasher + Copy>(
     ids: &mut IndexSet<PolicyID, S>,
     links: &mut Vec<PolicyID>,
@@ -184,12 +197,12 @@ fn gather_body<S: BuildHasher + Copy>(
     places: &mut Places,
 ) -> Result<(), AllocError>
     requires { find (is_body_at template.now.id) other.now.bodies ≡ Some template.now }
-    ensures ids { OnOk result (ids.new.keys ≡ gathered ids.old.keys
+    ensures ids { OnOk result (ids.new.keys ≡ insert_all same_text ids.old.keys
         (conflicting_bodies Bodies here.now other.now (template.now ∷ []))) }
     ensures links { OnOk result (links.new.items ≡ links.old.items
         ++ conflicting_bodies Links here.now other.now (template.now ∷ [])) }
 {
-    // No effect at run time: these calls say that both are those of a policy set.
+    // No effect at run time: these calls show the prover that both maps satisfy the invariant of a policy set.
     let _policy_sets = (here.is_empty(), other.is_empty());
     let own = template.id();
     match body_at(here, own, &mut places.body) {
@@ -201,8 +214,8 @@ fn gather_body<S: BuildHasher + Copy>(
     }
 }
 
-// Gathers the ids of policies there that conflict with policies here, and lists those that conflict with bodies here.
-// The ids of bodies that conflict were gathered before.
+// Collects the ids of the other set's policies that conflict with policies of this set. Appends to `templates` the ids
+// that conflict with bodies of this set. The ids of conflicting bodies are already in `ids`.
 fn gather_policies<S: BuildHasher + Copy>(
     ids: &mut IndexSet<PolicyID, S>,
     templates: &mut Vec<PolicyID>,
@@ -210,12 +223,12 @@ fn gather_policies<S: BuildHasher + Copy>(
     other: &PolicyMaps<S>,
 ) -> Result<(), AllocError>
     requires { AllStandUnless here.now other.now ids.old.keys }
-    ensures ids { OnOk result (ids.new.keys ≡ gathered ids.old.keys
+    ensures ids { OnOk result (ids.new.keys ≡ insert_all same_text ids.old.keys
         (conflicting_policies Policies here.now other.now other.now.policies)) }
     ensures templates { OnOk result (templates.new.items ≡ templates.old.items
         ++ conflicting_policies Templates here.now other.now other.now.policies) }
 {
-    // No effect at run time: these calls say that both are those of a policy set.
+    // No effect at run time: these calls show the prover that both maps satisfy the invariant of a policy set.
     let _policy_sets = (here.is_empty(), other.is_empty());
     let mut next = 0;
     for policy in other.all_policies() {
@@ -224,7 +237,7 @@ fn gather_policies<S: BuildHasher + Copy>(
     Ok(())
 }
 
-// Gathers the id of a policy there, if it conflicts with a policy here, or lists it, if it conflicts with a body here.
+// Does the same for one policy.
 fn gather_policy<S: BuildHasher + Copy>(
     ids: &mut IndexSet<PolicyID, S>,
     templates: &mut Vec<PolicyID>,
@@ -233,12 +246,12 @@ fn gather_policy<S: BuildHasher + Copy>(
     next: &mut usize,
 ) -> Result<(), AllocError>
     requires { StandsUnless here.now policy.now.template ids.old.keys }
-    ensures ids { OnOk result (ids.new.keys ≡ gathered ids.old.keys
+    ensures ids { OnOk result (ids.new.keys ≡ insert_all same_text ids.old.keys
         (if clashes here.now policy.now then policy_id policy.now ∷ [] else [])) }
     ensures templates { OnOk result (templates.new.items ≡ templates.old.items
         ++ (if lies_over here.now policy.now then policy_id policy.now ∷ [] else [])) }
 {
-    // No effect at run time: this call says that these maps are those of a policy set.
+    // No effect at run time: this call shows the prover that these maps satisfy the invariant of a policy set.
     let _policy_set = here.is_empty();
     let own = policy.id();
     match policy_at(here, own, next) {
@@ -250,13 +263,13 @@ fn gather_policy<S: BuildHasher + Copy>(
     }
 }
 
-// Gathers an id, if it conflicts.
+// Inserts an id, if it is in conflict.
 fn gather_id<S: BuildHasher + Copy>(
     ids: &mut IndexSet<PolicyID, S>,
     id: &PolicyID,
     clashes: bool,
 ) -> Result<(), AllocError>
-    ensures { OnOk result (ids.new.keys ≡ gathered ids.old.keys (if clashes then id.now ∷ [] else [])) }
+    ensures { OnOk result (ids.new.keys ≡ insert_all same_text ids.old.keys (if clashes then id.now ∷ [] else [])) }
 {
     if clashes {
         ids.insert(id.clone()?)?;
@@ -264,7 +277,7 @@ fn gather_id<S: BuildHasher + Copy>(
     Ok(())
 }
 
-// Lists an id, if it conflicts.
+// Appends an id to a list, if it is in conflict.
 fn list_id(ids: &mut Vec<PolicyID>, id: &PolicyID, clashes: bool) -> Result<(), AllocError>
     ensures { OnOk result (ids.new.items ≡ ids.old.items ++ (if clashes then id.now ∷ [] else [])) }
 {
@@ -274,8 +287,8 @@ fn list_id(ids: &mut Vec<PolicyID>, id: &PolicyID, clashes: bool) -> Result<(), 
     Ok(())
 }
 
-// Whether two bodies with one id are not bound alike. Of two policies on equal bodies of one id both are static, and
-// equal.
+// Returns whether two bodies with one id are bound differently. If both sets have a policy with the id and the bodies
+// are equal, both policies are static and equal.
 fn is_other_body<S: BuildHasher + Copy>(
     here: &PolicyMaps<S>,
     other: &PolicyMaps<S>,
@@ -289,7 +302,7 @@ fn is_other_body<S: BuildHasher + Copy>(
     stands != template || !have_policies_alike(here, other, template.id(), places)
 }
 
-// Whether a policy here and one there have an id, or neither does.
+// Returns whether both sets or neither set have a policy with the id.
 fn have_policies_alike<S: BuildHasher + Copy>(
     here: &PolicyMaps<S>,
     other: &PolicyMaps<S>,
@@ -305,7 +318,8 @@ fn have_policies_alike<S: BuildHasher + Copy>(
     }
 }
 
-// Whether two policies with one id are not bound alike, but for static ones: these conflict by their bodies.
+// Returns whether two policies with one id are bound differently and one of them is a link. Static policies are
+// compared by their bodies.
 fn is_other_policy<S: BuildHasher + Copy>(
     ids: &IndexSet<PolicyID, S>,
     stands: &Policy,
@@ -319,7 +333,7 @@ fn is_other_policy<S: BuildHasher + Copy>(
     has_link(stands, policy) && !is_same_policy(ids, stands, policy)
 }
 
-// Whether two policies with one id are the same.
+// Returns whether two policies with one id are equal.
 fn is_same_policy<S: BuildHasher + Copy>(
     ids: &IndexSet<PolicyID, S>,
     stands: &Policy,
@@ -334,7 +348,8 @@ fn is_same_policy<S: BuildHasher + Copy>(
         && same_bindings(stands.env(), policy.env())
 }
 
-// Whether two templates are the same. Those with one id are, unless it is one of these ids: only then they are compared.
+// Returns whether two templates are equal. Templates with the same id are equal, unless the id is in `ids`. Only then
+// they are compared.
 fn is_same_template<S: BuildHasher + Copy>(
     ids: &IndexSet<PolicyID, S>,
     stands: &Template,
@@ -352,7 +367,7 @@ fn is_same_template<S: BuildHasher + Copy>(
     true
 }
 
-// Whether an id is one of these. Where there are none it is not hashed.
+// Returns whether an id is in the set. Does not hash the id if the set is empty.
 fn is_among<S: BuildHasher + Copy>(ids: &IndexSet<PolicyID, S>, id: &PolicyID) -> bool
     ensures { result ≡ is_in id.now ids.now.keys }
 {
@@ -362,7 +377,7 @@ fn is_among<S: BuildHasher + Copy>(ids: &IndexSet<PolicyID, S>, id: &PolicyID) -
     ids.contains(id)
 }
 
-// Whether two policies are links, or neither is.
+// Returns whether both policies are links or neither is.
 fn have_links_alike(stands: &Policy, policy: &Policy) -> bool
     ensures { result ≡ agree (is_some stands.now.link) (is_some policy.now.link) }
 {
@@ -373,14 +388,14 @@ fn have_links_alike(stands: &Policy, policy: &Policy) -> bool
     }
 }
 
-// Whether one of two policies is a link.
+// Returns whether one of the two policies is a link.
 fn has_link(stands: &Policy, policy: &Policy) -> bool
     ensures { result ≡ (is_some stands.now.link || is_some policy.now.link) }
 {
     is_link(stands) || is_link(policy)
 }
 
-// The new id of an id there, if it gets one. Where none does no id is hashed.
+// Returns the new id of an id, if it is renamed. Does not hash the id if there are no renamed ids.
 fn new_of<'a, S: BuildHasher + Copy>(
     renaming: &'a IndexMap<PolicyID, PolicyID, S>,
     id: &PolicyID,
@@ -393,8 +408,8 @@ fn new_of<'a, S: BuildHasher + Copy>(
     renaming.get(id)
 }
 
-// Whether an id of a body there is bound here once it is the new one, if there is one: no new id is. Bodies here are
-// looked at first, since it is mostly one of theirs.
+// Returns whether this set uses the id of a body of the other set after renaming. This set uses no new id. Bodies are
+// checked first, because most ids are found there.
 fn stands_here<S: BuildHasher + Copy>(
     here: &PolicyMaps<S>,
     new: Option<&PolicyID>,
@@ -410,7 +425,7 @@ fn stands_here<S: BuildHasher + Copy>(
     }
 }
 
-// The place of the policy here that has an id there, once it is the new one, if there is one: no new id is bound.
+// Returns the place of this set's policy with this id after renaming. This set uses no new id.
 fn place_here<S: BuildHasher + Copy>(
     here: &PolicyMaps<S>,
     new: Option<&PolicyID>,
@@ -427,7 +442,7 @@ fn place_here<S: BuildHasher + Copy>(
     }
 }
 
-// Whether a body here has an id there, once it is the new one, if there is one: no new id is bound.
+// Returns whether a body of this set has this id after renaming. This set uses no new id.
 fn has_body_here<S: BuildHasher + Copy>(
     here: &PolicyMaps<S>,
     new: Option<&PolicyID>,
@@ -442,7 +457,7 @@ fn has_body_here<S: BuildHasher + Copy>(
     }
 }
 
-// Puts something last among what stands there or what joins.
+// Appends a value to the existing ones (`stand`) or to the new ones (`join`).
 fn part<T: Drop>(parted: &mut Parted<T>, stands: bool, thing: T) -> Result<(), AllocError>
     ensures stand { OnOk result (parted.new.stand.items
         ≡ parted.old.stand.items ++ (if stands then thing ∷ [] else [])) }
@@ -457,7 +472,7 @@ fn part<T: Drop>(parted: &mut Parted<T>, stands: bool, thing: T) -> Result<(), A
     Ok(())
 }
 
-// The bodies of the other set, under their new ids.
+// Splits the bodies of the other set, under their new ids, into existing and new ones.
 fn parted_bodies<S: BuildHasher + Copy>(
     alloc: Global,
     here: &PolicyMaps<S>,
@@ -475,7 +490,7 @@ fn parted_bodies<S: BuildHasher + Copy>(
     Ok(parted)
 }
 
-// Puts bodies of the other set, under their new ids, last among those that stand here or those that join.
+// Splits these bodies, and appends each to the existing or to the new ones.
 fn part_bodies<S: BuildHasher + Copy>(
     alloc: Global,
     parted: &mut Parted<Rc<Template>>,
@@ -498,7 +513,7 @@ fn part_bodies<S: BuildHasher + Copy>(
     Ok(())
 }
 
-// Puts a body of the other set, under its new id, last among those that stand here or those that join.
+// Appends a body under its new id to the existing or to the new ones.
 fn part_body<S: BuildHasher + Copy>(
     alloc: Global,
     parted: &mut Parted<Rc<Template>>,
@@ -520,7 +535,7 @@ fn part_body<S: BuildHasher + Copy>(
     part(parted, stands, renamed_body(alloc, template, new)?)
 }
 
-// A body under its new id, if it gets one.
+// Returns a body under its new id, or the shared body itself if it has none.
 fn renamed_body(
     alloc: Global,
     template: &Rc<Template>,
@@ -535,8 +550,11 @@ fn renamed_body(
     }
 }
 
-// Policies of the other set: those that join, or stand here and have other locations; the templates of others that
-// stand here, each with its policy's place; and the places that are looked at first, here and among bodies that join.
+// The policies of the other set, split by their effect on this set:
+//
+// - `policies`: the new policies, and the existing policies whose locations differ.
+// - `shares`: the templates of other existing policies, each with the place of its policy in this set.
+// - `next` and `joined`: the places to try first, in this set's policies and in the new bodies.
 #[derive(Drop)]
 struct PartedPolicies {
     policies: Parted<Policy>,
@@ -545,7 +563,7 @@ struct PartedPolicies {
     joined: usize,
 }
 
-// The policies of the other set, under their new ids.
+// Splits the policies of the other set, under their new ids.
 fn parted_policies<S: BuildHasher + Copy>(
     alloc: Global,
     here: &PolicyMaps<S>,
@@ -570,7 +588,7 @@ fn parted_policies<S: BuildHasher + Copy>(
     Ok((parted.policies, parted.shares))
 }
 
-// Puts policies of the other set, under their new ids, last among those that join, or those that stand here.
+// Splits these policies, one after another.
 fn part_policies<S: BuildHasher + Copy>(
     alloc: Global,
     parted: &mut PartedPolicies,
@@ -591,8 +609,8 @@ fn part_policies<S: BuildHasher + Copy>(
     Ok(())
 }
 
-// Puts a policy of the other set, under its new id, last among those that join, or among those that stand here, where
-// it has other locations.
+// Appends a policy under its new id to the new policies. If this set has an equal policy with the id, it is recorded as
+// an existing one.
 fn part_policy<S: BuildHasher + Copy>(
     alloc: Global,
     parted: &mut PartedPolicies,
@@ -621,7 +639,7 @@ fn part_policy<S: BuildHasher + Copy>(
     Ok(())
 }
 
-// A policy of the other set as it joins.
+// Returns the copy of a policy of the other set that is inserted.
 fn joining<S: BuildHasher + Copy>(
     alloc: Global,
     policy: &Policy,
@@ -642,7 +660,8 @@ fn joining<S: BuildHasher + Copy>(
     }
 }
 
-// A static policy under its new id, if it gets one, on a share of the body that joins under it.
+// Returns a renamed static policy that shares the new body with its new id. Returns nothing for a link, and for a
+// policy that is not renamed.
 fn on_joined(
     alloc: Global,
     policy: &Policy,
@@ -669,8 +688,8 @@ fn on_joined(
     }
 }
 
-// Lists a policy that is bound alike in both: a copy of the one there, where it binds uids with other locations, else
-// its template, unless they share it.
+// Records a policy that both sets bind equally. It records a copy of the other set's policy if the locations of bound
+// uids differ. Otherwise it records the template, unless the policies share it already.
 fn keep_at(
     parted: &mut PartedPolicies,
     place: usize,
@@ -689,7 +708,7 @@ fn keep_at(
     Ok(())
 }
 
-// The static policy of a body, unless it has slots.
+// Returns the static policy of a body, unless the body has slots.
 fn static_on(alloc: Global, template: &Rc<Template>) -> Result<Option<Policy>, AllocError>
     ensures { IfOk result (λ o. IfSome o (λ p. p ≡ static_policy template.now.value)) }
 {
@@ -700,7 +719,7 @@ fn static_on(alloc: Global, template: &Rc<Template>) -> Result<Option<Policy>, A
     }
 }
 
-// A policy under its new id, if it gets one, a link with its template under its own.
+// Returns a policy under its new id. A link gets its template under the template's new id.
 #[tactic(auto, using(crate::specs::laws::MergeSteps::renamed_twice))]
 fn renamed_policy<S: BuildHasher + Copy>(
     alloc: Global,
@@ -718,7 +737,7 @@ fn renamed_policy<S: BuildHasher + Copy>(
     }
 }
 
-// A policy under its new id, if it gets one.
+// Returns a policy under its new id, or a copy if it has none.
 #[tactic(auto, using(crate::specs::laws::MergeSteps::same_id_kept))]
 fn under_new_id(
     alloc: Global,
@@ -734,7 +753,8 @@ fn under_new_id(
     }
 }
 
-// A link with its template under its new id, if that gets one. None of a static policy.
+// Returns a link with its template under the template's new id. Returns nothing if the template is not renamed, and for
+// a static policy.
 fn on_renamed_template<S: BuildHasher + Copy>(
     alloc: Global,
     policy: &Policy,

@@ -1,11 +1,11 @@
-//! Locations of uids that are bound: whether two equal policies have the same.
+//! Comparison of the source locations of bound uids in two equal policies.
 
 use cedar_binding::{SlotEnv, bound_to};
 use cedar_ids::entity::EntityUID;
 use cedar_ids::loc::Loc;
 use std::rc::RcStr;
 
-// Whether two bindings that are equal have their uids at the same locations.
+// Returns whether two equal bindings have the same source locations.
 pub(crate) fn are_placed_as(stands: &SlotEnv, values: &SlotEnv) -> bool {
     for (slot, uid) in values {
         if !is_placed_as(bound_to(stands, *slot), uid) {
@@ -15,7 +15,7 @@ pub(crate) fn are_placed_as(stands: &SlotEnv, values: &SlotEnv) -> bool {
     true
 }
 
-// Whether a uid and its type have the locations of another and of its type.
+// Returns whether two uids and their types have the same source locations.
 fn is_placed_as(stands: Option<&EntityUID>, uid: &EntityUID) -> bool {
     match stands {
         None => false,
@@ -26,7 +26,7 @@ fn is_placed_as(stands: Option<&EntityUID>, uid: &EntityUID) -> bool {
     }
 }
 
-// Whether both are nowhere, or at one place in one text.
+// Returns whether two optional locations are both absent, or are the same range of the same text.
 fn is_at(stands: Option<&Loc>, loc: Option<&Loc>) -> bool {
     match stands {
         None => loc.is_none(),

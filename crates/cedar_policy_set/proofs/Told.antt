@@ -1,4 +1,4 @@
--- What a reader's answer says of a policy or a template, as a truth value.
+-- Shared policies and templates as their values.
 use Rattle.std.specs.Prelude.{◌≡◌, ℕ, List, [], true, Option, Some, None, is_some, refl}
 use Rattle.std.specs.declared.rc.Rc.{Rc}
 use Rattle.std.specs.declared.alloc.Global.{Global}
@@ -17,7 +17,7 @@ pub bodies_told : (ts us : List (Rc BodyParts Global))
     → pointwise same_body (bodies_of ts) (bodies_of us) ≡ pointwise (λ t u. same_body t.value u.value) ts us
 bodies_told ts us = pointwise-map (λ (t : Rc BodyParts Global). t.value) same_body ts us
 
--- a text that is known
+-- A known text is the text of its option.
 pub known_text : (o : Option (List ℕ)) → is_some o ≡ true → o ≡ Some (unwrap_or o [])
 known_text None h = absurd (cc)
 known_text (Some x) h = refl

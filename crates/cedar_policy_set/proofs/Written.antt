@@ -1,4 +1,4 @@
--- A body, and the lines of those after it.
+-- The text of a body and of the bodies after it.
 use Rattle.std.specs.Prelude.{◌≡◌, ◌↔◌, ℕ, List, [], ◌∷◌, ◌++◌, Bool, true, false, ◌&&◌, refl, codes, IsTrue}
 use Rattle.std.specs.declared.rc.Rc.{Rc}
 use Rattle.std.specs.declared.alloc.Global.{Global}
@@ -31,7 +31,7 @@ body_then took first rest f g h p q k plain =
     let more = q (known_told rest ∙ b.1) one.plain in
     put_two took f g h _ _ _ one more (ap (λ x. known_body first ++ x) (lines_told rest))
 
--- the text of two orders without anything, and of others
+-- The text of an empty set.
 pub empty_text : (ts : List (Rc BodyParts Global)) (ps : List PolicyParts) (v : Bool)
     → (IsTrue v ↔ ((ts ≡ []) × (ps ≡ []))) → v ≡ true → orders_text (bodies_of ts) ps ≡ codes "<empty policyset>"
 empty_text ts ps true h e = let b = h.0 refl in (λ i. orders_text (bodies_of (b.0 i)) (b.1 i))

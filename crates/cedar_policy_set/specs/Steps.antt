@@ -1,4 +1,5 @@
--- The step of each call on a policy set: the policy set after it, or why it is refused.
+-- The step of each call on a policy set: the policy set after the call, or the reason why it fails. A failed call
+-- leaves the set unchanged (`Refusals.antt`). An id is free if `is_bound` is false for it.
 use Rattle.std.specs.Prelude.{◌≡◌, ℕ, List, [], ◌∷◌, Bool, ◌||◌, Option, Some, None, Result, Ok, Err, if◌then◌else◌}
 use Rattle.std.specs.List.{find}
 use Rattle.cedar_ids.specs.Texts.{same_text}
@@ -13,11 +14,36 @@ use Rattle.cedar_policy_maps.specs.PolicySets.{SetParts, Binding, Static, Templa
 use Rattle.cedar_policy_maps.specs.PolicySets.{is_body_at}
 use Rattle.cedar_policy_maps.specs.PolicySets.{has_links, with_template, with_policy, with_both, without_id}
 
--- why a call is refused: an id is taken; there is no body of an id; there is no template of an id to link; the
--- bindings don't fit its slots; the action's slot is bound to no action; the id of a link is taken; there is no link of
--- an id; there is something else than
--- a link; there is no template of an id to take out; it has links; there is something else than a template; there is
--- no static policy of an id; there is a link
+-- The reason why a call fails. Each contains the id in question, except where another content is named.
+--
+-- Insertion and listing:
+--
+-- - `occupied`: the id is in use.
+-- - `no_body`: no body has the id.
+--
+-- Linking:
+--
+-- - `no_such_template`: no template has the id.
+-- - `arity`: the bound slots are not the slots of the template. It contains the slots without a binding and the
+--   bindings without a slot.
+-- - `not_an_action`: the slot of the action is bound to this uid, which is not an action.
+-- - `id_conflict`: the id of the new link is in use.
+--
+-- Removal of a link:
+--
+-- - `no_link`: the id is free.
+-- - `not_a_link`: the id belongs to a static policy or a template.
+--
+-- Removal of a template:
+--
+-- - `no_template`: the id is free.
+-- - `with_links`: the template has links.
+-- - `not_a_template`: the id belongs to a static policy or a link.
+--
+-- Removal of a static policy:
+--
+-- - `no_static`: no policy has the id.
+-- - `not_static`: the id belongs to a link.
 pub data Refusal : Type 0 where
   occupied : List ℕ → Refusal
   no_body : List ℕ → Refusal
@@ -33,16 +59,20 @@ pub data Refusal : Type 0 where
   no_static : List ℕ → Refusal
   not_static : List ℕ → Refusal
 
--- a static policy or a template joins where its id is free
+-- The step of adding a static policy with this body. The id has to be free. The body and the policy are appended.
 abbrev pub add_static_step : SetParts → BodyParts → Result SetParts Refusal
 add_static_step b s = if is_bound b s.id then Err (occupied s.id) else Ok (with_both b s (static_policy s))
 
--- a template joins, unless its id is bound
+-- The step of adding a template. The id has to be free. The template is appended to the bodies.
 abbrev pub add_template_step : SetParts → BodyParts → Result SetParts Refusal
 add_template_step b t = if is_bound b t.id then Err (occupied t.id) else Ok (with_template b t)
 
--- a link joins: by what its template's id is bound to. Where that is free, so has to be the link's own id, and it has
--- to be another; the template goes first. Where it is an equal template the link's own id has to be free
+-- The step of adding a link with id `l`, given the binding of its template's id:
+--
+-- - The template's id is free: `l` has to be free and different from the template's id. The template and the link are
+--   appended.
+-- - The id belongs to an equal template: `l` has to be free. The link is appended.
+-- - The id belongs to anything else: the step fails, and reports the template's id.
 abbrev pub add_link_at : Option Binding → SetParts → List ℕ → PolicyParts → Result SetParts Refusal
 add_link_at None b l p = if same_text l p.template.id || is_bound b l then Err (occupied l) else Ok
     (with_both b p.template p)
@@ -51,82 +81,90 @@ add_link_at (Some (Template u)) b l p =
     (occupied p.template.id)
 add_link_at (Some x) b l p = Err (occupied p.template.id)
 
--- a policy joins, as a static one or as a link
+-- The step of adding a policy with this optional link id. Without one the policy is static.
 abbrev pub add_by : Option (List ℕ) → SetParts → PolicyParts → Result SetParts Refusal
 add_by None b p = add_static_step b p.template
 add_by (Some l) b p = add_link_at (bound_at b p.template.id) b l p
 
--- a policy joins: a static policy, or a link
+-- The step of adding a policy, static or a link.
 abbrev pub add_step : SetParts → PolicyParts → Result SetParts Refusal
 add_step b p = add_by p.link b p
 
--- bindings that leave nothing unbound and nothing extra, and the action's slot to no uid that is no action, go on
+-- The step `r`, if the bindings of a link fit. The arguments before it are the slots without a binding, the bindings
+-- without a slot, and the uid of the action's slot if it is not an action. If one of the two lists is not empty, the
+-- step fails with `arity`. Otherwise, if there is such a uid, it fails with `not_an_action`.
 abbrev pub fitting : List SlotId → List SlotId → Option UidParts → Result SetParts Refusal → Result SetParts Refusal
 fitting [] [] None r = r
 fitting [] [] (Some u) r = Err (not_an_action u)
 fitting u x o r = Err (arity u x)
 
--- a link of a template, under a free id
+-- The step of linking template `t` under the id `l` with the bindings `e`. The bindings have to fit, and then the id
+-- has to be free. The link is appended to the policies.
 abbrev pub link_onto : BodyParts → SetParts → List ℕ → EnvParts → Result SetParts Refusal
 link_onto t b l e =
     fitting (unbound (body_slots t) e) (extra (body_slots t) e) (wrong_action e)
     (if is_bound b l then Err (id_conflict l) else Ok (with_policy b (record { template = t; link = Some l; env = e })))
 
--- a link of what an id is bound to, which has to be a template
+-- The step of linking the template with id `i`, given the binding of `i`. It fails if `i` is not bound to a template.
 abbrev pub link_at : Option Binding → SetParts → List ℕ → List ℕ → EnvParts → Result SetParts Refusal
 link_at (Some (Template t)) b i l e = link_onto t b l e
 link_at x b i l e = Err (no_such_template i)
 
--- a link of the template with the first id joins under the second
+-- The step of linking the template with id `i` under the id `l` with the bindings `e`.
 abbrev pub link_step : SetParts → List ℕ → List ℕ → EnvParts → Result SetParts Refusal
 link_step b i l e = link_at (bound_at b i) b i l e
 
--- what is taken out by each removal, by what the id is bound to
+-- The step of unlinking, given the binding of the id. It removes a link, and fails for anything else.
 abbrev pub unlinked_at : Option Binding → List ℕ → Result Binding Refusal
 unlinked_at (Some (Link l t e)) i = Ok (Link l t e)
 unlinked_at (Some x) i = Err (not_a_link i)
 unlinked_at None i = Err (no_link i)
 
--- what is bound to an id goes, if it is a static policy
+-- The step of removing a static policy, given the binding of the id. It removes a static policy, and fails for anything
+-- else.
 abbrev pub static_removed_at : Option Binding → List ℕ → Result Binding Refusal
 static_removed_at (Some (Static t)) i = Ok (Static t)
 static_removed_at (Some (Link l t e)) i = Err (not_static i)
 static_removed_at x i = Err (no_static i)
 
--- what is bound to an id goes, if it is a template without links
+-- The step of removing a template, given the binding of the id and whether the template has links. It removes a
+-- template without links, and fails for anything else.
 abbrev pub template_removed_at : Option Binding → Bool → List ℕ → Result Binding Refusal
 template_removed_at (Some (Template t)) linked i = if linked then Err (with_links i) else Ok (Template t)
 template_removed_at (Some x) linked i = Err (not_a_template i)
 template_removed_at None linked i = Err (no_template i)
 
--- the link with an id goes
+-- The step of unlinking an id: the removed link. The set after it is `without_id b i` (see `TakesFromSet`).
 abbrev pub unlink_step : SetParts → List ℕ → Result Binding Refusal
 unlink_step b i = unlinked_at (bound_at b i) i
 
--- the static policy with an id goes
+-- The step of removing a static policy by id: the removed binding. The set after it is `without_id b i`.
 abbrev pub remove_static_step : SetParts → List ℕ → Result Binding Refusal
 remove_static_step b i = static_removed_at (bound_at b i) i
 
--- the template with an id goes
+-- The step of removing a template by id: the removed binding. The set after it is `without_id b i`.
 abbrev pub remove_template_step : SetParts → List ℕ → Result Binding Refusal
 remove_template_step b i = template_removed_at (bound_at b i) (has_links b i) i
 
--- linking undone: the last policy set is the first with a link of this template, under this id and with these bindings,
--- so that to unlink that id takes this link out and leaves the first policy set, orders included
+-- Whether unlinking undoes linking. In set `b` the id `i` belongs to a template. In set `c`, the set after linking,
+-- unlinking `l` removes the link of that template with the bindings `e`. Without `l`, `c` is `b` again, including both
+-- orders.
 abbrev pub UnlinksTo : SetParts → List ℕ → List ℕ → EnvParts → SetParts → Type 0
 UnlinksTo b i l e c =
     (t : BodyParts) × (bound_at b i ≡ Some (Template t)) × (unlink_step c l ≡ Ok (Link l t e)) × (without_id c l ≡ b)
 
--- the ids of the policies on a body, in their order: of a template its links, of a static policy itself
+-- The step of listing the policies that use the body with id `i`, given this body, if there is one. The result is their
+-- ids, in the order of policies. For a template they are its links, and for a static policy the policy itself. The step
+-- fails if there is no body.
 abbrev pub linked_at : Option BodyParts → SetParts → List ℕ → Result (List (List ℕ)) Refusal
 linked_at None b i = Err (no_body i)
 linked_at (Some t) b i = Ok (ids_in i b.policies)
 
--- the ids of the policies on the body with an id
+-- The step of listing the policies that use the body with this id.
 abbrev pub get_linked_step : SetParts → List ℕ → Result (List (List ℕ)) Refusal
 get_linked_step b i = linked_at (find (is_body_at i) b.bodies) b i
 
--- one policy joins after another; the first refusal ends it
+-- The step of adding policies one after another. It stops at the first failure.
 abbrev pub add_then : Result SetParts Refusal → List PolicyParts → Result SetParts Refusal
 add_then (Err r) ps = Err r
 add_then (Ok b) [] = Ok b

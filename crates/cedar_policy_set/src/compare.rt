@@ -1,4 +1,4 @@
-//! Copies and equality of policy sets.
+//! Clone and equality of policy sets.
 ghost use Rattle.std.specs.Prelude.{◌≡◌};
 ghost use Rattle.std.specs.Cmp.{partial_equiv_from_equiv};
 ghost use Rattle.std.specs.Cmp.Lexicographic.{pointwise};
@@ -37,7 +37,7 @@ impl<S: BuildHasher + Copy> Eq for PolicySet<S> {
     ghost laws = { same_policy_set_equiv };
 }
 
-// Whether bodies are equal, at equal places.
+// Returns whether two lists of bodies are equal, element by element.
 #[tactic(auto, using(crate::proofs::Told::bodies_told))]
 fn same_bodies(bodies: &[Rc<Template>], others: &[Rc<Template>]) -> bool
     ensures { result ≡ pointwise same_body (bodies_of bodies.now) (bodies_of others.now) }

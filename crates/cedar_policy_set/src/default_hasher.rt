@@ -1,4 +1,4 @@
-//! The constructors of policy sets that hash by the default builder of hashers.
+//! Constructors of policy sets with the default hasher.
 ghost use Rattle.std.specs.Prelude.{◌≡◌, IfOk, Ok};
 ghost use Rattle.cedar_policy_maps.specs.PolicySets.{empty_set, HasOwnId};
 ghost use Rattle.cedar_policy_set.specs.Refusals.{Makes, told_by_set};
@@ -11,22 +11,31 @@ use std::alloc::{AllocError, Global};
 use std::hash::BuildHasherDefault;
 
 impl PolicySet {
-    /// The set without a binding. It takes no memory.
+    /// Creates an empty policy set. Does not allocate.
     pub fn new(alloc: Global) -> PolicySet
         ensures { result ≡ empty_set }
     {
         PolicySet::with_hasher(alloc, BuildHasherDefault::new())
     }
 
-    /// The set with this policy alone, and with its template: what adding it to the set without a binding leaves. A
-    /// link has to have another id than its template; the original asks nothing. Takes memory for the two places, and
-    /// is refused only where that is.
+    /// Creates a policy set from one policy. If the policy is a link, its template is inserted too. The result is the
+    /// same as adding the policy to an empty set with [`PolicySet::add`].
+    ///
+    /// The caller must ensure that a link does not have the id of its template.
+    ///
+    /// # Errors
+    ///
+    /// Returns `AllocError` if an allocation fails.
+    ///
+    /// # Differences from cedar-policy-core
+    ///
+    /// The original accepts any link.
     #[tactic(auto, using(cedar_policy_maps::specs::laws::SetLaws::alone))]
     pub fn singleton(alloc: Global, policy: Policy) -> Result<PolicySet, AllocError>
         requires { HasOwnId policy }
         ensures { IfOk result (λ s. add_step empty_set policy ≡ Ok s) }
     {
-        // No effect at run time: these calls say that exactly the slots of its template are bound.
+        // No effect at run time: these calls show the prover that exactly the slots of the policy's template are bound.
         let _whole = policy.is_static();
         let _total = policy.env();
         let mut set = PolicySet::new(alloc);
@@ -34,8 +43,14 @@ impl PolicySet {
         Ok(set)
     }
 
-    /// The set that adding these policies leaves, one after another; the first refusal is the answer, and there is no
-    /// set then. Takes memory as `add` does.
+    /// Creates a policy set from a list of policies. Adds them one after another with [`PolicySet::add`].
+    ///
+    /// # Errors
+    ///
+    /// Returns the first error of [`PolicySet::add`]. There is no set then.
+    ///
+    /// - `Occupied`: an id is already in use.
+    /// - `Memory`: an allocation failed.
     pub fn try_from_iter(alloc: Global, policies: Vec<Policy>) -> Result<PolicySet, PolicySetError>
         ensures { Makes told_by_set result (add_then (Ok empty_set) policies.items) }
     {

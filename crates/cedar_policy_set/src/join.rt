@@ -1,4 +1,4 @@
-//! What joins a policy set: policies, static policies, templates, and links of a template in the set.
+//! Insertion into a policy set: policies, static policies, templates, and links of a template in the set.
 ghost use Rattle.std.specs.Prelude.{◌≡◌, ◌<◌, length, false, IfOk, IfErr, OnOk, MatchOption, Ok, Some, None};
 ghost use Rattle.cedar_body.specs.BodyEquality.{same_body};
 ghost use Rattle.cedar_body.specs.Bodies.{body_slots};
@@ -19,8 +19,15 @@ use std::hash::BuildHasher;
 use std::rc::Rc;
 
 impl<S: BuildHasher + Copy> PolicySet<S> {
-    /// The set that adding these policies leaves, one after another, which hashes ids by what `hasher` builds; the
-    /// first refusal is the answer, and there is no set then. Takes memory as `add` does.
+    /// Creates a policy set from a list of policies, with this builder of hashers. Adds the policies one after another
+    /// with [`PolicySet::add`].
+    ///
+    /// # Errors
+    ///
+    /// Returns the first error of [`PolicySet::add`]. There is no set then.
+    ///
+    /// - `Occupied`: an id is already in use.
+    /// - `Memory`: an allocation failed.
     pub fn try_from_iter_with_hasher(
         alloc: Global,
         hasher: S,
@@ -33,7 +40,7 @@ impl<S: BuildHasher + Copy> PolicySet<S> {
         Ok(set)
     }
 
-    // Takes in policies, one after another; the first refusal ends it.
+    // Adds policies one after another, and stops at the first error.
     #[tactic(auto, using(crate::specs::laws::ListSteps::refused_then))]
     fn add_all(&mut self, alloc: Global, policies: Vec<Policy>) -> Result<(), PolicySetError>
         ensures ok { OnOk result (add_then (Ok self.old) policies.items ≡ Ok self.new) }
@@ -45,7 +52,7 @@ impl<S: BuildHasher + Copy> PolicySet<S> {
         Ok(())
     }
 
-    // Refuses an id that is bound.
+    // Returns an error if the id is in use.
     fn check_free(&self, id: &PolicyID) -> Result<(), PolicySetError>
         ensures free { OnOk result (is_bound self.now id.now ≡ false) }
         ensures bound { IfErr result (TellsBound self.now id.now) }
@@ -56,10 +63,18 @@ impl<S: BuildHasher + Copy> PolicySet<S> {
         Ok(())
     }
 
-    /// Takes in a static policy, its body last in the order of bodies and the policy last in the other.
+    /// Adds a static policy. Its body is appended to the bodies, and the policy to the policies.
     ///
-    /// `Occupied` comes where its id is bound. Takes memory to share the body, for the policy's block and for the two
-    /// places; a refused call, for memory too, leaves both orders as they were.
+    /// # Errors
+    ///
+    /// After an error the set is unchanged.
+    ///
+    /// - `Occupied`: the policy's id is in use.
+    /// - `Memory`: an allocation failed.
+    ///
+    /// # Complexity
+    ///
+    /// O(1) lookups. Allocates the shared body, the policy's block, and space in the two maps.
     pub fn add_static(&mut self, alloc: Global, policy: StaticPolicy) -> Result<(), PolicySetError>
         ensures { Steps told_by_set result self.old self.new (add_static_step self.old policy) }
     {
@@ -69,29 +84,52 @@ impl<S: BuildHasher + Copy> PolicySet<S> {
         Ok(())
     }
 
-    /// Takes in a template, last in the order of bodies.
+    /// Adds a template, and appends it to the bodies.
     ///
-    /// `Occupied` comes where its id is bound. Takes memory to share the template and for its place; a refused call,
-    /// for memory too, leaves both orders as they were.
+    /// # Errors
+    ///
+    /// After an error the set is unchanged.
+    ///
+    /// - `Occupied`: the template's id is in use.
+    /// - `Memory`: an allocation failed.
+    ///
+    /// # Complexity
+    ///
+    /// O(1) lookups. Allocates the shared template and space in the map.
     pub fn add_template(&mut self, alloc: Global, template: Template) -> Result<(), PolicySetError>
         ensures { Steps told_by_set result self.old self.new (add_template_step self.old template) }
     {
-        // The template, if its id is free.
+        // The template is dropped here if its id is in use.
         let template = self.check_free(template.id()).and(Ok(template))?;
         let template = Rc::new(alloc, template)?;
         self.maps.put_template(template)?;
         Ok(())
     }
 
-    /// Takes in a policy, last in its order.
+    /// Adds a policy, and appends it to the policies. If the policy is a link whose template is not in the set, the
+    /// template is added first.
     ///
-    /// A static policy is refused where its id is bound: `Occupied` names it. A link is refused with its template's id
-    /// where that is bound to anything but an equal template, and then with its own where that is bound or is its
-    /// template's; where its template is missing, it goes in first. Takes memory for the two places and for an id that
-    /// a refusal names, and from the allocator of the set, so that `alloc` stands for the form alone. A refused call,
-    /// for memory too, leaves both orders as they were. In the original a link whose id is a template's, or whose
-    /// missing template has the id of a link, is taken in, and so is a static policy onto an equal template without
-    /// slots and a link onto an equal static policy.
+    /// # Errors
+    ///
+    /// The first failed check in this order decides. After an error the set is unchanged.
+    ///
+    /// - `Occupied`, with the id of a static policy: the id is in use.
+    /// - `Occupied`, with the id of a link's template: the id is in use, but not by an equal template.
+    /// - `Occupied`, with the id of a link: the id is in use, or it is the id of the link's template.
+    /// - `Memory`: an allocation failed.
+    ///
+    /// # Complexity
+    ///
+    /// O(1) lookups. Allocates with the allocator of the set, and ignores the argument.
+    ///
+    /// # Differences from cedar-policy-core
+    ///
+    /// The original accepts four policies that this function rejects:
+    ///
+    /// - a link with the id of a template
+    /// - a link whose missing template has the id of another link
+    /// - a static policy whose id belongs to an equal template without slots
+    /// - a link whose template is equal to a static policy
     pub fn add(&mut self, _alloc: Global, policy: Policy) -> Result<(), PolicySetError>
         ensures { Steps told_by_set result self.old self.new (add_step self.old policy) }
     {
@@ -101,19 +139,19 @@ impl<S: BuildHasher + Copy> PolicySet<S> {
         self.add_link(policy)
     }
 
-    // Takes in a static policy.
+    // Adds a static policy.
     fn add_unlinked(&mut self, policy: Policy) -> Result<(), PolicySetError>
         requires { policy.link ≡ None }
         ensures { Steps told_by_set result self.old self.new (add_static_step self.old policy.template) }
     {
-        // No effect at run time: this call says that a policy that is no link is its body.
+        // No effect at run time: this call shows the prover that a policy that is not a link is determined by its body.
         let _whole = policy.is_static();
         self.check_free(policy.id())?;
         self.maps.put_both(policy)?;
         Ok(())
     }
 
-    // Takes in a link, by what the id of its template is bound to.
+    // Adds a link, according to the binding of its template's id.
     fn add_link(&mut self, policy: Policy) -> Result<(), PolicySetError>
         requires { policy.link ≡ None → ⊥ }
         ensures { Steps told_by_set result self.old self.new (add_step self.old policy) }
@@ -130,13 +168,14 @@ impl<S: BuildHasher + Copy> PolicySet<S> {
         }
     }
 
-    // Takes in a link where a template stands under its template's id, which is equal or not.
+    // Adds a link whose template's id is the id of a template in the set. `same` says whether the two templates are
+    // equal.
     fn add_onto(&mut self, policy: Policy, same: bool) -> Result<(), PolicySetError>
         requires link { policy.link ≡ None → ⊥ }
         requires stands { StandsThere self.old policy.template.id same policy.template }
         ensures { Steps told_by_set result self.old self.new (add_step self.old policy) }
     {
-        // No effect at run time: this call says that exactly the slots of its template are bound.
+        // No effect at run time: this call shows the prover that exactly the slots of the link's template are bound.
         let _total = policy.env();
         if !same {
             return Err(PolicySetError::Occupied {
@@ -148,13 +187,13 @@ impl<S: BuildHasher + Copy> PolicySet<S> {
         Ok(())
     }
 
-    // Takes in a link of which the template is missing.
+    // Adds a link whose template is not in the set.
     fn add_with_template(&mut self, policy: Policy) -> Result<(), PolicySetError>
         requires link { policy.link ≡ None → ⊥ }
         requires missing { bound_at self.old policy.template.id ≡ None }
         ensures { Steps told_by_set result self.old self.new (add_step self.old policy) }
     {
-        // No effect at run time: this call says that exactly the slots of its template are bound.
+        // No effect at run time: this call shows the prover that exactly the slots of the link's template are bound.
         let _total = policy.env();
         let is_taken = policy.id() == policy.template().id() || self.maps.is_bound(policy.id());
         if is_taken {
@@ -166,7 +205,7 @@ impl<S: BuildHasher + Copy> PolicySet<S> {
         Ok(())
     }
 
-    // Puts a link of a template in the set last: to take it out again leaves the former set.
+    // Appends a link of a template in the set. To unlink the new link restores the former set.
     #[tactic(auto, using(crate::specs::laws::StepLaws::no_template_step, crate::specs::laws::LinkLaws::link_undone, crate::specs::laws::LinkLaws::link_there))]
     pub(crate) fn join_link(
         &mut self,
@@ -186,11 +225,29 @@ impl<S: BuildHasher + Copy> PolicySet<S> {
         }
     }
 
-    /// Links as [`PolicySet::link`] does, to a copy of these bindings, and lends nothing.
+    /// Links a template to a copy of these bindings under a new id, and appends the link to the policies. It differs
+    /// from [`PolicySet::link`] in two ways:
     ///
-    /// Where the bindings do not fit nothing was copied, so that to make many links from one map, whose room serves all,
-    /// costs a map only where there is a policy. Refused as that is; takes memory as that does, for the copy, and for an
-    /// id that a refusal names. It is this project's own.
+    /// - It borrows the bindings and copies them only if they fit. So a caller can reuse one map for many links.
+    /// - It returns no reference to the link.
+    ///
+    /// # Errors
+    ///
+    /// The first failed check in this order decides. After an error the set is unchanged.
+    ///
+    /// - `NoSuchTemplate`: the first id is not the id of a template. It may be the id of a static policy.
+    /// - `ArityError` or `NotAnAction`: the bindings do not fit, as [`Template::check_binding`] reports.
+    /// - `PolicyIdConflict`: the new id is in use.
+    /// - `Memory`: an allocation failed.
+    ///
+    /// # Complexity
+    ///
+    /// O(1) lookups, and the check of the bindings. Allocates the link with its copy of the bindings, and space in the
+    /// maps.
+    ///
+    /// # Differences from cedar-policy-core
+    ///
+    /// The original has no such function.
     #[tactic(auto, using(crate::specs::laws::StepLaws::no_template_step))]
     pub fn link_copying(
         &mut self,
@@ -210,7 +267,7 @@ impl<S: BuildHasher + Copy> PolicySet<S> {
         }
     }
 
-    // A further share of the template with this id, where a template stands there.
+    // Returns a new reference to the template with this id, or nothing if the id is not a template's.
     fn template(&self, id: &PolicyID) -> Result<Option<Rc<Template>>, AllocError>
         ensures { IfOk result (λ o. MatchOption o (HasNoTemplate (bound_at self.now id.now))
             (λ t. bound_at self.now id.now ≡ Some (template_binding t.value))) }
@@ -221,7 +278,7 @@ impl<S: BuildHasher + Copy> PolicySet<S> {
         }
     }
 
-    // Puts a link of this template, which stands under its id, last.
+    // Appends a link of this template, which is in the set under its id.
     #[tactic(auto, using(crate::specs::laws::StepLaws::unfit_is_refused, crate::specs::laws::StepLaws::fit_is_not_refused))]
     fn link_template(
         &mut self,
@@ -238,7 +295,7 @@ impl<S: BuildHasher + Copy> PolicySet<S> {
         self.put_link(policy)
     }
 
-    // Puts a link of this template, which stands under its id, to a copy of these bindings last.
+    // Appends a link of this template, which is in the set under its id, to a copy of these bindings.
     #[tactic(auto, using(crate::specs::laws::StepLaws::unfit_is_refused, crate::specs::laws::StepLaws::fit_is_not_refused))]
     fn link_template_copying(
         &mut self,
@@ -255,13 +312,13 @@ impl<S: BuildHasher + Copy> PolicySet<S> {
         self.put_link(policy)
     }
 
-    // Puts a link whose template stands here last, where its own id is free.
+    // Appends a link whose template is in the set, if the link's id is free.
     fn put_link(&mut self, policy: Policy) -> Result<(), LinkingError>
         requires link { policy.link ≡ None → ⊥ }
         requires stands { Stands self.old policy.template }
         ensures { Steps told_by_linking result self.old self.new (link_put self.old policy) }
     {
-        // No effect at run time: this call says that exactly the slots of its template are bound.
+        // No effect at run time: this call shows the prover that exactly the slots of the link's template are bound.
         let _total = policy.env();
         let occupied = self.maps.is_bound(policy.id());
         if occupied {
@@ -274,7 +331,7 @@ impl<S: BuildHasher + Copy> PolicySet<S> {
     }
 }
 
-// The own id of a link, which is let go.
+// Returns the id of a link, and drops the rest of the link.
 fn own_id_of(link: Policy) -> PolicyID
     requires { link.link ≡ None → ⊥ }
     ensures { Some result ≡ link.link }
@@ -288,7 +345,7 @@ fn own_id_of(link: Policy) -> PolicyID
     }
 }
 
-// Whether two templates are equal.
+// Returns whether two templates are equal.
 fn are_same(template: &Template, other: &Template) -> bool
     ensures { result ≡ same_body template.now other.now }
 {

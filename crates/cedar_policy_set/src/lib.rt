@@ -1,11 +1,11 @@
-//! Policy sets: what an id is bound to, a static policy, a template, or a link of a template.
+//! Policy sets. A policy set binds each id to a static policy, a template, or a link of a template in the set.
 //!
-//! Contracts see a set as two orders, that of its bodies and that of its policies (`TwoSets.antt`, which also says
-//! what holds of every set). Each call is its step on them (`specs/Steps.antt`): the policy set after it, or why it is
-//! refused, the first reason in a stated order; a refused call leaves both orders as they were
-//! (`specs/Refusals.antt`). The set is kept in the three ordered maps of `cedar_policy_maps`, which also has how a set
-//! is seen (`TwoSets.antt`) and its iterators; look-ups go by their keys. The refusals are those of
-//! `cedar_policy_set_errors`, and two sets are merged by `cedar_policy_merge`.
+//! The set is stored in the three ordered maps of `cedar_policy_maps`, which also has the iterators. The error types
+//! are in `cedar_policy_set_errors`, and `cedar_policy_merge` merges two sets.
+//!
+//! Contracts see a set as a list of bodies and a list of policies. See `PolicySets.antt` of `cedar_policy_maps`, which
+//! also defines the invariant. For each call, `specs/Steps.antt` defines the set after it, or the first error in a
+//! fixed order. `specs/Refusals.antt` states that a failed call leaves the set unchanged.
 #![tactic(auto)]
 
 mod compare;

@@ -1,12 +1,10 @@
-//! The policy that linking made, lent by the set that it stands in.
+//! A reference to the policy that `link` added.
 ghost use Rattle.std.specs.Prelude.{◌≡◌, ◌<◌, IfOk, Some, length};
 ghost use Rattle.std.specs.Borrow.{sem};
 ghost use Rattle.cedar_binding.specs.Views.{env_of};
 ghost use Rattle.cedar_policy_maps.specs.PolicySets.{last_policy};
-ghost use Rattle.cedar_policy_set.specs.Lending.{StaysIfRefused};
 ghost use Rattle.cedar_policy_set.specs.Refusals.{Answers, told_by_linking};
 ghost use Rattle.cedar_policy_set.specs.Steps.{link_step, UnlinksTo};
-ghost use Rattle.cedar_policy_set.specs.contracts.policy_set.PolicySet.{the_row};
 
 use crate::policy_set::PolicySet;
 use cedar_ids::policy_id::PolicyID;
@@ -15,10 +13,12 @@ use std::alloc::Global;
 use std::hash::{BuildHasher, BuildHasherDefault, FoldHasher};
 use std::ops::Deref;
 
-/// The link that a set just took in. It lends the set for as long as it is held, and is read as the policy itself.
+/// A reference to the link that [`PolicySet::link`] added. It borrows the set mutably and dereferences to the policy.
 ///
-/// The original answers a plain reference to the policy. Beside an error that owns an id no caller could prove from
-/// that what the set became, so this stands in its place.
+/// # Differences from cedar-policy-core
+///
+/// The original returns a plain reference to the policy. With a plain reference next to an error that owns an id, no
+/// contract could state the set after the call.
 #[derive(Debug)]
 pub struct Linked<'a, S: BuildHasher = BuildHasherDefault<FoldHasher>> {
     set: &'a mut PolicySet<S>,
@@ -26,12 +26,23 @@ pub struct Linked<'a, S: BuildHasher = BuildHasherDefault<FoldHasher>> {
 }
 
 impl<S: BuildHasher + Copy> PolicySet<S> {
-    /// Links the template with this id to these bindings under a new id: the link goes last in the order of policies.
+    ghost use Rattle.cedar_policy_set.specs.Lending.{LeavesUnchangedIfErr};
+
+    /// Links the template with this id to these bindings under a new id, and appends the link to the policies. To
+    /// unlink the new link returns it and restores the former set, including both orders.
     ///
-    /// Refused in this order: `NoSuchTemplate` where the first id is no template's, also where it is a static policy's;
-    /// `ArityError` and then `NotAnAction` as `Template::check_binding` says; `PolicyIdConflict` where the new id is
-    /// bound. Takes memory for the link, its place and the lists of a refusal; a refused call, for memory too, leaves
-    /// both orders as they were. To unlink the new link gives it back and leaves the former set, orders included.
+    /// # Errors
+    ///
+    /// The first failed check in this order decides. After an error the set is unchanged.
+    ///
+    /// - `NoSuchTemplate`: the first id is not the id of a template. It may be the id of a static policy.
+    /// - `ArityError` or `NotAnAction`: the bindings do not fit, as `Template::check_binding` reports.
+    /// - `PolicyIdConflict`: the new id is in use.
+    /// - `Memory`: an allocation failed.
+    ///
+    /// # Complexity
+    ///
+    /// O(1) lookups, and the check of the bindings. Allocates the link, space in the maps, and the lists of an error.
     pub fn link(
         &mut self,
         alloc: Global,
@@ -39,8 +50,8 @@ impl<S: BuildHasher + Copy> PolicySet<S> {
         new_id: PolicyID,
         values: SlotEnv,
     ) -> Result<Linked<'_, S>, LinkingError>
-        ensures* refused { sem 𝓛 (StaysIfRefused (the_row S.row S.Hasher.row S.BuildHasher S.Hasher.Hasher)
-            self.entry self.old (λ l. l.set.ghost_name) result) }
+        ensures* refused { sem 𝓛 (LeavesUnchangedIfErr S.row S.Hasher.row S.BuildHasher S.Hasher.Hasher
+            self.entry result) }
         ensures same_set { IfOk result (λ l. l.set.ghost_name ≡ self.entry.ghost_name) }
         ensures steps { Answers told_by_linking (λ l. l.set.now) result
             (link_step self.old template_id new_id (env_of values)) }
@@ -50,7 +61,7 @@ impl<S: BuildHasher + Copy> PolicySet<S> {
         Ok(Linked { set: self })
     }
 
-    // The policy that went last.
+    // Returns the last policy.
     fn last(&self) -> &Policy
         requires { 0 < length self.now.policies }
         ensures { Some result.now ≡ last_policy self.now }

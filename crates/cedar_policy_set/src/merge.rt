@@ -1,4 +1,4 @@
-//! Merging another policy set into this one.
+//! Merge of two policy sets.
 ghost use Rattle.cedar_policy_merge.specs.Merge.{MergesSets};
 
 use crate::policy_set::PolicySet;
@@ -10,23 +10,43 @@ use std::alloc::Global;
 use std::hash::BuildHasher;
 
 impl<S: BuildHasher + Copy> PolicySet<S> {
-    /// Takes in what another set binds, which stays as it is, and answers the ids that were renamed with their new
-    /// ones.
+    /// Merges another policy set into this one. Returns the renamed ids of the other set with their new ids. The other
+    /// set does not change.
     ///
-    /// An id conflicts where both sets bind it to something else: another kind of thing, or bodies, templates or
-    /// bindings that are not equal. Without `rename_duplicates` the first such id is refused as `Occupied`. With it
-    /// each gets the next of the ids `policy0`, `policy1` and so on that neither set binds, first the bodies there that
-    /// conflict with bodies here, then policies with policies, templates there with links here, and links there with
-    /// templates here. What the other set binds goes last, in its orders, each link with its template renamed. Ids of
-    /// this set keep their places; the original moves those that both bind to the back, and takes a template without
-    /// slots for an equal static policy. What both bind alike takes the other's value, which differs in locations
-    /// alone.
+    /// An id is in conflict if the two sets bind it differently: to things of different kinds, or to unequal bodies,
+    /// templates or bindings. If `rename_duplicates` is false, a conflict is an error. Otherwise each conflicting id of
+    /// the other set is renamed to the next id of `policy0`, `policy1` and so on that neither set uses. The new ids are
+    /// given in this order:
     ///
-    /// Takes memory for a copy of what joins and of policies here that take other locations, for room in the maps and in
-    /// the lists of links that grow, for what is renamed and for the answer. A refused call, for memory too, leaves both
-    /// orders as they were: all that can be refused is done first. It costs what the other set costs: look-ups for each
-    /// of its ids, in both sets, the copies, and a look at each of the ids `policyN` that are bound. What this set binds
-    /// is neither walked nor copied; a map that is full moves to one of twice its places.
+    /// - bodies of the other set that conflict with bodies of this set
+    /// - policies that conflict with policies
+    /// - templates of the other set that conflict with links of this set
+    /// - links of the other set that conflict with templates of this set
+    ///
+    /// The bindings of the other set are appended in their order. A link gets the renamed template. An id that both
+    /// sets bind equally keeps its place in this set. Its value is replaced by the other set's value, which differs
+    /// only in locations.
+    ///
+    /// # Errors
+    ///
+    /// After an error the set is unchanged.
+    ///
+    /// - `Occupied`, with the first conflicting id: there is a conflict and `rename_duplicates` is false.
+    /// - `Memory`: an allocation failed.
+    ///
+    /// # Complexity
+    ///
+    /// O(n), where n is the size of the other set: a few lookups for each of its ids, and copies. It also makes a
+    /// lookup for each id `policyN` that is in use. This set is neither scanned nor copied, unless a map is full and
+    /// doubles its size.
+    ///
+    /// Allocates the copies of the new bindings, and of policies of this set that get new locations. Allocates space in
+    /// the maps, in the lists of links and for the renamed bindings, and the result.
+    ///
+    /// # Differences from cedar-policy-core
+    ///
+    /// The original moves ids that both sets bind to the end. It also treats a template without slots as equal to a
+    /// static policy.
     pub fn merge_policyset(
         &mut self,
         alloc: Global,

@@ -1,4 +1,4 @@
-//! Policy sets: making and reading them.
+//! The type of policy sets, and its readers.
 ghost use Rattle.std.specs.Prelude.{◌≡◌, ◌↔◌, IfErr, IsErr, IsTrue};
 ghost use Rattle.std.specs.List.{find};
 ghost use Rattle.std.specs.Option.{option_copied, option_map};
@@ -21,16 +21,19 @@ use std::hash::{BuildHasher, BuildHasherDefault, FoldHasher};
 use std::marker::Model;
 use std::rc::Rc;
 
-/// A policy set: an id is bound to a static policy, to a template, or to a link of a template in the set.
+/// A policy set. It binds each id to a static policy, to a template, or to a link of a template in the set.
 ///
-/// Contracts see two orders: that of bodies, where static policies and templates stand, and that of policies, where
-/// static policies and links stand, each as it joined. Equality is that of both orders and of all values, looks at no
-/// location and takes no memory. `clone` takes memory for the three maps and for what policies copy. `Display` takes
-/// none. Look-ups go by keys and walk nothing.
+/// A set has two orders. The bodies belong to static policies and templates, in insertion order. The policies are the
+/// static policies and links, in insertion order. Contracts see the two lists.
 ///
-/// Its maps hash ids by the hashers that `S` builds, and so do those that its calls make. By default they have a fixed
-/// seed, so that whoever picks the ids can make them collide, and each call slow: a set of ids that strangers pick is
-/// made by [`PolicySet::with_hasher`] with a builder that has a random key. No contract sees the builder.
+/// Equality compares both orders and all values. It ignores locations and does not allocate. `clone` allocates three
+/// maps and the copies of the policies. `Display` does not allocate. A lookup by id scans nothing.
+///
+/// # Hashing
+///
+/// The maps hash ids with a fixed seed. If untrusted parties choose the ids, use [`PolicySet::with_hasher`] with a
+/// randomly keyed builder. `S` is the type of the builder. The maps that the calls create use the same builder. The
+/// choice of hasher never changes a result.
 #[derive(Drop)]
 pub struct PolicySet<S: BuildHasher = BuildHasherDefault<FoldHasher>> {
     pub(crate) maps: PolicyMaps<S>,
@@ -48,16 +51,18 @@ impl<S: BuildHasher> Model for PolicySet<S> {
 }
 
 impl<S: BuildHasher> fmt::Debug for PolicySet<S> {
-    /// Writes the three maps that the set is kept in.
+    /// Writes the three maps of the set.
     fn fmt<W: fmt::Write>(&self, f: &mut fmt::Formatter<W>) -> fmt::Result {
         fmt::Debug::fmt(&self.maps, f)
     }
 }
 
 impl<S: BuildHasher + Copy> PolicySet<S> {
-    /// The set without a binding, which hashes ids by what `hasher` builds. It takes no memory.
+    /// Creates an empty policy set with this builder of hashers. Does not allocate.
     ///
-    /// The original has one way of hashing.
+    /// # Differences from cedar-policy-core
+    ///
+    /// The original has only one hasher.
     pub fn with_hasher(alloc: Global, hasher: S) -> PolicySet<S>
         ensures { result ≡ empty_set }
     {
@@ -66,21 +71,31 @@ impl<S: BuildHasher + Copy> PolicySet<S> {
         }
     }
 
-    /// What builds the set's hashers. It takes no memory.
+    /// Returns the builder of hashers. Does not allocate.
     pub fn hasher(&self) -> &S {
         self.maps.hasher()
     }
 
-    /// The set that is kept in these three maps: bodies, static policies' too, policies, and under each body's id the
-    /// ids of the policies on it. It takes no memory. It passes over the policies once, for its proof alone, and over
-    /// the third map, of which the set keeps what stands under templates' ids: on a static policy's body stands that
-    /// policy alone.
+    /// Creates a policy set from three maps. `templates` contains the bodies of templates and static policies, and
+    /// `links` the policies. `template_to_links_map` contains the ids of the policies that use each body. All maps use
+    /// the first map's builder of hashers.
     ///
-    /// The maps have to agree: bodies and policies stand under their own ids; each policy's template stands among the
-    /// bodies; a link has an id that no body has, and its template is no static policy's; and the third map has the ids
-    /// of all bodies, in their order, each with the ids of the policies on it, in theirs. The original leaves to its
-    /// caller that they do, and open in which order the third is. New maps that the set makes are hashed as the first
-    /// of these is.
+    /// The caller must ensure that the maps agree:
+    ///
+    /// - Bodies and policies have their own ids as keys.
+    /// - The template of each policy is among the bodies.
+    /// - A link has an id that no body has, and its template is not the body of a static policy.
+    /// - The third map has the ids of all bodies as keys, in their order.
+    /// - Each list has the ids of the policies that use the body, in the order of the policies.
+    ///
+    /// # Complexity
+    ///
+    /// O(n), where n is the number of policies and bodies. Does not allocate. The scan of the policies is only needed
+    /// by the proof.
+    ///
+    /// # Differences from cedar-policy-core
+    ///
+    /// In the original the third map can have any order.
     pub fn from_raw_components(
         templates: IndexMap<PolicyID, Rc<Template>, S>,
         links: IndexMap<PolicyID, Policy, S>,
@@ -94,7 +109,7 @@ impl<S: BuildHasher + Copy> PolicySet<S> {
         }
     }
 
-    /// Whether nothing is bound. It takes no memory, as no reader here does but where one says so.
+    /// Returns whether nothing is bound. Does not allocate.
     pub fn is_empty(&self) -> bool
         ensures value { IsTrue result ↔ (self.now ≡ empty_set) }
         ensures policy_set { IsPolicySet self.now }
@@ -102,36 +117,39 @@ impl<S: BuildHasher + Copy> PolicySet<S> {
         self.maps.is_empty()
     }
 
-    /// The policy with this id, a static policy or a link, if there is one: one look-up.
+    /// Returns the policy with this id, a static policy or a link. Makes one lookup, and does not allocate.
     pub fn get(&self, id: &PolicyID) -> Option<&Policy>
         ensures { option_copied result ≡ find (is_policy_at id.now) self.now.policies }
     {
         self.maps.policy_at(id)
     }
 
-    /// The body with this id, of a static policy or a template, as it is shared, if there is one: one look-up. The
-    /// original shares it once more.
+    /// Returns the shared body of the static policy or template with this id. Makes one lookup, and does not allocate.
+    ///
+    /// # Differences from cedar-policy-core
+    ///
+    /// The original returns a new reference to the body.
     pub fn get_template_arc(&self, id: &PolicyID) -> Option<&Rc<Template>>
         ensures { option_map (λ t. t.now.value) result ≡ find (is_body_at id.now) self.now.bodies }
     {
         self.maps.body_at(id)
     }
 
-    /// The body with this id, of a static policy or a template, if there is one: one look-up.
+    /// Returns the body of the static policy or template with this id. Makes one lookup, and does not allocate.
     pub fn get_template(&self, id: &PolicyID) -> Option<&Template>
         ensures { option_copied result ≡ find (is_body_at id.now) self.now.bodies }
     {
         self.maps.template_at(id)
     }
 
-    /// All policies, static policies and links, in the order in which they joined.
+    /// Iterates over the policies, static policies and links, in insertion order. Does not allocate.
     pub fn policies(&self) -> Policies<'_>
         ensures { result ≡ self.now.policies }
     {
         self.maps.policies()
     }
 
-    /// All policies, static policies and links, in the order in which they joined; the set is taken apart.
+    /// Iterates over the policies, static policies and links, in insertion order. Consumes the set. Does not allocate.
     pub fn into_policies(self) -> IntoPolicies
         ensures { result ≡ self.policies }
     {
@@ -139,30 +157,38 @@ impl<S: BuildHasher + Copy> PolicySet<S> {
         maps.into_policies()
     }
 
-    /// All bodies, of static policies and of templates, in the order in which they joined.
+    /// Iterates over the bodies of all static policies and templates, in insertion order. Does not allocate.
     pub fn all_templates(&self) -> AllTemplates<'_>
         ensures { result ≡ self.now.bodies }
     {
         self.maps.all_templates()
     }
 
-    /// The bodies that have slots, in the order in which they joined.
+    /// Iterates over the bodies that have slots, in insertion order. Does not allocate.
     pub fn templates(&self) -> Templates<'_>
         ensures { result ≡ slotted_in self.now.bodies }
     {
         self.maps.templates()
     }
 
-    /// The static policies, in the order in which they joined.
+    /// Iterates over the static policies, in insertion order. Does not allocate.
     pub fn static_policies(&self) -> StaticPolicies<'_>
         ensures { result ≡ statics_in self.now.policies }
     {
         self.maps.static_policies()
     }
 
-    /// The ids of the policies on the body with this id, in the order in which they joined: of a template its links, of
-    /// a static policy itself. `MissingTemplate` comes where no body has the id. It takes memory only for the id that a
-    /// refusal names, and costs two look-ups at most.
+    /// Iterates over the ids of the policies that use the body with this id, in insertion order. For a template they
+    /// are its links. For a static policy it is the policy itself.
+    ///
+    /// # Errors
+    ///
+    /// - `MissingTemplate`: no body has the id.
+    /// - `Memory`: an allocation failed, for the id of the other error.
+    ///
+    /// # Complexity
+    ///
+    /// At most two lookups. Allocates only for an error.
     #[tactic(auto, using(crate::specs::laws::StepLaws::listed))]
     pub fn get_linked_policies(
         &self,

@@ -1,4 +1,4 @@
-//! What leaves a policy set: links, static policies, templates.
+//! Removal from a policy set: links, static policies and templates.
 ghost use Rattle.std.specs.Prelude.{◌≡◌, IfErr, IsErr};
 ghost use Rattle.cedar_policy_maps.specs.PolicySets.{policy_binding, Template as template_binding};
 ghost use Rattle.cedar_policy_set.specs.Refusals.{TakesFromSet, told_by_unlinking, told_by_removal};
@@ -15,18 +15,30 @@ use cedar_policy_set_errors::err::{
 use std::hash::BuildHasher;
 
 impl<S: BuildHasher + Copy> PolicySet<S> {
-    /// Takes out the link with this id, and closes the order up.
+    /// Removes the link with this id and returns it. The order of the remaining policies does not change.
     ///
-    /// `UnlinkingError` comes where nothing is bound to the id, `NotLinkError` where it is a static policy's or a
-    /// template's. Takes memory only for the id that a refusal names, so that a link is always taken out; a refused
-    /// call leaves both orders as they were. What stands behind it moves up, in the map of policies and among its
-    /// template's links; nothing is walked. The original ends the program where its map of links lacks the template.
+    /// # Errors
+    ///
+    /// After an error the set is unchanged.
+    ///
+    /// - `UnlinkingError`: the id is not in use.
+    /// - `NotLinkError`: the id belongs to a static policy or a template.
+    /// - `Memory`: an allocation failed for the id of another error, so the removal of a link never returns it.
+    ///
+    /// # Complexity
+    ///
+    /// A few lookups. The entries after the link move by one place, in the map of policies and in the list of its
+    /// template. Allocates only for an error.
+    ///
+    /// # Differences from cedar-policy-core
+    ///
+    /// The original panics if its map of links does not contain the template.
     pub fn unlink(&mut self, id: &PolicyID) -> Result<Policy, PolicySetUnlinkError>
         ensures taken { TakesFromSet told_by_unlinking policy_binding result self.old self.new id.now
             (unlink_step self.old id.now) }
         ensures refused { IfErr result (λ e. IsErr (unlink_step self.old id.now)) }
     {
-        // No effect at run time: this call says that the maps are those of a policy set.
+        // No effect at run time: this call shows the prover that the maps satisfy the invariant of a policy set.
         let _policy_set = self.maps.is_empty();
         match self.maps.found(id) {
             None => return Err(PolicySetUnlinkError::UnlinkingError(id.clone()?)),
@@ -47,17 +59,31 @@ impl<S: BuildHasher + Copy> PolicySet<S> {
         }
     }
 
-    /// Takes out the static policy with this id and its body, and closes both orders up.
+    /// Removes the static policy with this id and its body, and returns the policy. The order of the remaining policies
+    /// and bodies does not change.
     ///
-    /// `RemovePolicyNoLinkError` comes where no policy has the id, `RemovePolicyNoTemplateError` where it is a link's.
-    /// Takes memory only for the id that a refusal names; a refused call leaves both orders as they were. What stands
-    /// behind it in the maps moves up; nothing is walked. In the original a refused call moves the link to the back.
+    /// # Errors
+    ///
+    /// After an error the set is unchanged.
+    ///
+    /// - `RemovePolicyNoLinkError`: no policy has the id. It may be the id of a template.
+    /// - `RemovePolicyNoTemplateError`: the id belongs to a link.
+    /// - `Memory`: an allocation failed for the id of another error, so the removal of a static policy never returns
+    ///   it.
+    ///
+    /// # Complexity
+    ///
+    /// A few lookups. The entries after the policy move by one place in the maps. Allocates only for an error.
+    ///
+    /// # Differences from cedar-policy-core
+    ///
+    /// In the original a call that fails because the id belongs to a link moves the link to the end.
     pub fn remove_static(&mut self, id: &PolicyID) -> Result<Policy, PolicySetPolicyRemovalError>
         ensures taken { TakesFromSet told_by_removal policy_binding result self.old self.new id.now
             (remove_static_step self.old id.now) }
         ensures refused { IfErr result (λ e. IsErr (remove_static_step self.old id.now)) }
     {
-        // No effect at run time: this call says that the maps are those of a policy set.
+        // No effect at run time: this call shows the prover that the maps satisfy the invariant of a policy set.
         let _policy_set = self.maps.is_empty();
         match self.maps.found(id) {
             None => return Err(PolicySetPolicyRemovalError::RemovePolicyNoLinkError(id.clone()?)),
@@ -80,13 +106,25 @@ impl<S: BuildHasher + Copy> PolicySet<S> {
         }
     }
 
-    /// Takes out the template with this id, and closes the order up.
+    /// Removes the template with this id and returns it. The order of the remaining bodies does not change.
     ///
-    /// `NotTemplateError` comes where the id is a static policy's or a link's, `RemovePolicyNoTemplateError` where
-    /// nothing is bound to it, `RemoveTemplateWithLinksError` where the template has links. Takes memory for a copy of
-    /// the template, which may be shared elsewhere, and for the id that a refusal names; a refused call, for memory
-    /// too, leaves both orders as they were. What stands behind it in the maps moves up; nothing is walked. The
-    /// original ends the program where its map of links lacks the template.
+    /// # Errors
+    ///
+    /// After an error the set is unchanged.
+    ///
+    /// - `RemovePolicyNoTemplateError`: the id is not in use.
+    /// - `NotTemplateError`: the id belongs to a static policy or a link.
+    /// - `RemoveTemplateWithLinksError`: the template has links.
+    /// - `Memory`: an allocation failed.
+    ///
+    /// # Complexity
+    ///
+    /// A few lookups. The entries after the template move by one place in the maps. Allocates a copy of the template,
+    /// because it can be shared.
+    ///
+    /// # Differences from cedar-policy-core
+    ///
+    /// The original panics if its map of links does not contain the template.
     pub fn remove_template(
         &mut self,
         id: &PolicyID,

@@ -1,4 +1,4 @@
-//! How policy sets are written.
+//! `Display` of policy sets.
 ghost use Rattle.std.specs.Prelude.{◌≡◌, ◌↔◌, ◌&&◌, ◌++◌, [], true, IsTrue};
 ghost use Rattle.std.specs.Fmt.{WritesOnOk};
 ghost use Rattle.std.specs.List.{list_all, flat_map};
@@ -16,14 +16,14 @@ use std::rc::Rc;
 impl<S: BuildHasher + Copy> fmt::Display for PolicySet<S> {
     ghost output = { set_output };
 
-    /// Writes all bodies and then all policies, each on lines of its own; of a set without a binding it says that. It
-    /// takes no memory.
+    /// Writes all bodies and then all policies, separated by line feeds. Writes `<empty policyset>` for an empty set.
+    /// Does not allocate.
     fn fmt<W: fmt::Write>(&self, f: &mut fmt::Formatter<W>) -> fmt::Result {
         write_orders(self.maps.shared_bodies(), self.maps.all_policies(), f)
     }
 }
 
-// Writes the two orders.
+// Writes the bodies and the policies of a set.
 #[tactic(auto, using(crate::proofs::Written::empty_text, crate::proofs::Written::full_text))]
 fn write_orders<W: fmt::Write>(
     bodies: &[Rc<Template>],
@@ -39,14 +39,14 @@ fn write_orders<W: fmt::Write>(
     write_titled(bodies, policies, f)
 }
 
-// Whether both orders are empty.
+// Returns whether there are no bodies and no policies.
 fn are_empty(bodies: &[Rc<Template>], policies: &[Policy]) -> bool
     ensures { IsTrue result ↔ ((bodies.now ≡ []) × (policies.now ≡ [])) }
 {
     bodies.is_empty() && policies.is_empty()
 }
 
-// Writes the two orders, each under its title.
+// Writes the bodies and the policies, each list after its title.
 fn write_titled<W: fmt::Write>(
     bodies: &[Rc<Template>],
     policies: &[Policy],
@@ -61,7 +61,7 @@ fn write_titled<W: fmt::Write>(
     write_policies(policies, f)
 }
 
-// Writes bodies, parted by line feeds.
+// Writes bodies, separated by line feeds.
 fn write_bodies<W: fmt::Write>(bodies: &[Rc<Template>], f: &mut fmt::Formatter<W>) -> fmt::Result
     ensures { list_all is_known_body (bodies_of bodies.now) ≡ true
         → WritesOnOk W.write_str_gives f.old result (bodies_text (bodies_of bodies.now)) f.new }
@@ -72,7 +72,7 @@ fn write_bodies<W: fmt::Write>(bodies: &[Rc<Template>], f: &mut fmt::Formatter<W
     }
 }
 
-// Writes a body, and others after it, each after a line feed.
+// Writes a body, and then the other bodies, each after a line feed.
 #[tactic(auto, using(crate::proofs::Told::lines_told, crate::proofs::Told::known_told))]
 fn write_parted<W: fmt::Write>(
     first: &Template,
@@ -87,7 +87,6 @@ fn write_parted<W: fmt::Write>(
     write_body_lines(rest, f)
 }
 
-// Writes a body after a line feed.
 #[tactic(auto, using(crate::proofs::Told::known_text))]
 fn write_body_line<W: fmt::Write>(body: &Template, f: &mut fmt::Formatter<W>) -> fmt::Result
     ensures { is_known_body body.now ≡ true
@@ -96,7 +95,6 @@ fn write_body_line<W: fmt::Write>(body: &Template, f: &mut fmt::Formatter<W>) ->
     write!(f, "\n{body}")
 }
 
-// Writes a body.
 #[tactic(auto, using(crate::proofs::Told::known_text))]
 fn write_body<W: fmt::Write>(body: &Template, f: &mut fmt::Formatter<W>) -> fmt::Result
     ensures { is_known_body body.now ≡ true
@@ -105,7 +103,6 @@ fn write_body<W: fmt::Write>(body: &Template, f: &mut fmt::Formatter<W>) -> fmt:
     write!(f, "{body}")
 }
 
-// Writes bodies, each after a line feed.
 fn write_body_lines<W: fmt::Write>(
     bodies: &[Rc<Template>],
     f: &mut fmt::Formatter<W>,
@@ -119,7 +116,7 @@ fn write_body_lines<W: fmt::Write>(
     Ok(())
 }
 
-// Writes policies, parted by line feeds.
+// Writes policies, separated by line feeds.
 #[tactic(auto, using(crate::proofs::Told::known_text))]
 fn write_policies<W: fmt::Write>(policies: &[Policy], f: &mut fmt::Formatter<W>) -> fmt::Result
     ensures { list_all is_known_policy policies.now ≡ true
@@ -134,7 +131,6 @@ fn write_policies<W: fmt::Write>(policies: &[Policy], f: &mut fmt::Formatter<W>)
     }
 }
 
-// Writes policies, each after a line feed.
 #[tactic(auto, using(crate::proofs::Told::known_text))]
 fn write_policy_lines<W: fmt::Write>(policies: &[Policy], f: &mut fmt::Formatter<W>) -> fmt::Result
     ensures { list_all is_known_policy policies.now ≡ true

@@ -1,4 +1,4 @@
-//! Whether the links and the bodies of a policy set are valid.
+//! Validation of policy sets.
 ghost use Rattle.std.specs.Prelude.{◌≡◌, OnOk, IfErr, All};
 ghost use Rattle.std.specs.List.{find};
 ghost use Rattle.std.specs.Option.{option_copied};
@@ -16,12 +16,21 @@ use std::hash::BuildHasher;
 use std::rc::Rc;
 
 impl<S: BuildHasher + Copy> PolicySet<S> {
-    /// The set itself, if its links and its bodies are valid; else the first fault.
+    /// Returns the set itself, if its links and bodies are valid.
     ///
-    /// `LinkToSlotlessTemplate` names the first link, in the order of policies, of a template without slots; else
-    /// `InvalidTemplate` has the first body, in the order of bodies, that `Template::try_validate` refuses, with its
-    /// error. Takes memory for a copy of each body and as that call does; `Memory` comes only where that was refused. A
-    /// refusal drops the set.
+    /// # Errors
+    ///
+    /// After an error the set is dropped. The links are checked before the bodies.
+    ///
+    /// - `LinkToSlotlessTemplate`: a link has a template without slots. The error names the first one, in the order of
+    ///   policies.
+    /// - `InvalidTemplate`: a body does not pass [`Template::try_validate`]. The error has the id and the error of the
+    ///   first one, in the order of bodies.
+    /// - `Memory`: an allocation failed.
+    ///
+    /// # Complexity
+    ///
+    /// O(n), where n is the size of the set. Allocates a copy of each body for its check.
     pub fn try_validate(self, alloc: Global) -> Result<PolicySet<S>, PolicySetValidationError>
         ensures { ValidatesSet result self }
     {
@@ -29,7 +38,7 @@ impl<S: BuildHasher + Copy> PolicySet<S> {
         Ok(self)
     }
 
-    // Refuses the first link of a template without slots, else the first body that is not valid.
+    // Returns an error for the first link of a template without slots, or else for the first invalid body.
     fn check(&self, alloc: Global) -> Result<(), PolicySetValidationError>
         ensures ok { OnOk result (HasSlottedLinks self.now × All IsValidBody self.now.bodies) }
         ensures err { IfErr result (λ e. IsSetFault e self.now) }
@@ -45,21 +54,20 @@ impl<S: BuildHasher + Copy> PolicySet<S> {
     }
 }
 
-// The first link of a template without slots.
+// Returns the first link of a template without slots.
 fn first_slotless(policies: &[Policy]) -> Option<&Policy>
     ensures { option_copied result ≡ find is_slotless_link policies.now }
 {
     policies.iter().find(|p| is_slotless_link(p))
 }
 
-// Whether a policy is a link of a template without slots.
 fn is_slotless_link(policy: &Policy) -> bool
     ensures { result ≡ is_slotless_link policy.now }
 {
     is_link(policy) && has_no_slots(policy.template())
 }
 
-// Refuses the first body that is not valid.
+// Returns an error for the first invalid body.
 #[tactic(auto, using(crate::specs::laws::ListSteps::all_bodies))]
 fn validate_bodies(alloc: Global, bodies: &[Rc<Template>]) -> Result<(), PolicySetValidationError>
     ensures ok { OnOk result (All IsValidBody (bodies_of bodies.now)) }
@@ -71,7 +79,7 @@ fn validate_bodies(alloc: Global, bodies: &[Rc<Template>]) -> Result<(), PolicyS
     Ok(())
 }
 
-// Refuses a body that is not valid.
+// Returns an error if the body is invalid.
 fn validate_body(alloc: Global, template: &Template) -> Result<(), PolicySetValidationError>
     ensures ok { OnOk result (IsValidBody template.now) }
     ensures err { IfErr result (λ e. IsBodyFault e template.now) }

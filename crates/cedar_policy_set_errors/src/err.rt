@@ -1,4 +1,4 @@
-//! Why a call on a policy set is refused.
+//! The errors of policy set operations.
 ghost use Rattle.std.specs.Prelude.{◌≡◌};
 ghost use Rattle.cedar_policy_set_errors.specs.SetFaults.{set_fault_of};
 
@@ -7,16 +7,20 @@ use cedar_policy::TemplateValidationError;
 use std::alloc::{AllocError, AllocFailed};
 use thiserror::Error;
 
-/// Why a policy or a template does not join a set. The original has no refusal for memory.
+/// The reason why a policy or template could not be added to a set.
+///
+/// # Differences from cedar-policy-core
+///
+/// The original has no variant for allocation failures.
 #[derive(Debug, Drop, Error)]
 pub enum PolicySetError {
-    /// The id is bound already.
+    /// The id is already in use.
     #[error("duplicate template or policy id `{id}`")]
     Occupied {
-        /// The id that is taken.
+        /// The id.
         id: PolicyID,
     },
-    /// Memory was refused.
+    /// An allocation failed.
     #[error("out of memory")]
     Memory,
 }
@@ -41,13 +45,17 @@ impl<T: Drop> From<AllocFailed<T>> for PolicySetError {
     }
 }
 
-/// Why the policies on a body are not listed. The original has no refusal for memory.
+/// The reason why the policies of a template or static policy could not be listed.
+///
+/// # Differences from cedar-policy-core
+///
+/// The original has no variant for allocation failures.
 #[derive(Debug, Drop, Error)]
 pub enum PolicySetGetLinksError {
-    /// There is no body of this id.
+    /// There is no body with this id.
     #[error("No template `{0}`")]
     MissingTemplate(PolicyID),
-    /// Memory was refused.
+    /// An allocation failed.
     #[error("out of memory")]
     Memory,
 }
@@ -72,16 +80,20 @@ impl<T: Drop> From<AllocFailed<T>> for PolicySetGetLinksError {
     }
 }
 
-/// Why a link is not taken out. The original has no refusal for memory.
+/// The reason why a link could not be removed.
+///
+/// # Differences from cedar-policy-core
+///
+/// The original has no variant for allocation failures.
 #[derive(Debug, Drop, Error)]
 pub enum PolicySetUnlinkError {
-    /// Nothing is bound to this id.
+    /// The id is not in use.
     #[error("unable to unlink policy id `{0}` because it does not exist")]
     UnlinkingError(PolicyID),
-    /// This id is a static policy's or a template's.
+    /// The id belongs to a static policy or a template.
     #[error("unable to remove link with policy id `{0}` because it is a static policy")]
     NotLinkError(PolicyID),
-    /// Memory was refused.
+    /// An allocation failed.
     #[error("out of memory")]
     Memory,
 }
@@ -106,19 +118,23 @@ impl<T: Drop> From<AllocFailed<T>> for PolicySetUnlinkError {
     }
 }
 
-/// Why a template is not taken out. The original has no refusal for memory.
+/// The reason why a template could not be removed.
+///
+/// # Differences from cedar-policy-core
+///
+/// The original has no variant for allocation failures.
 #[derive(Debug, Drop, Error)]
 pub enum PolicySetTemplateRemovalError {
-    /// Nothing is bound to this id.
+    /// The id is not in use.
     #[error("unable to remove template id `{0}` from template list because it does not exist")]
     RemovePolicyNoTemplateError(PolicyID),
-    /// The template of this id has links.
+    /// The template with this id has links.
     #[error("unable to remove template id `{0}` from template list because it still has active links")]
     RemoveTemplateWithLinksError(PolicyID),
-    /// This id is a static policy's or a link's.
+    /// The id belongs to a static policy or a link.
     #[error("unable to remove template with policy id `{0}` because it is a static policy")]
     NotTemplateError(PolicyID),
-    /// Memory was refused.
+    /// An allocation failed.
     #[error("out of memory")]
     Memory,
 }
@@ -143,16 +159,20 @@ impl<T: Drop> From<AllocFailed<T>> for PolicySetTemplateRemovalError {
     }
 }
 
-/// Why a static policy is not taken out. The original has no refusal for memory.
+/// The reason why a static policy could not be removed.
+///
+/// # Differences from cedar-policy-core
+///
+/// The original has no variant for allocation failures.
 #[derive(Debug, Drop, Error)]
 pub enum PolicySetPolicyRemovalError {
     /// No policy has this id.
     #[error("unable to remove static policy id `{0}` from link list because it does not exist")]
     RemovePolicyNoLinkError(PolicyID),
-    /// This id is a link's.
+    /// The id belongs to a link.
     #[error("unable to remove static policy id `{0}` from template list because it does not exist")]
     RemovePolicyNoTemplateError(PolicyID),
-    /// Memory was refused.
+    /// An allocation failed.
     #[error("out of memory")]
     Memory,
 }
@@ -177,19 +197,22 @@ impl<T: Drop> From<AllocFailed<T>> for PolicySetPolicyRemovalError {
     }
 }
 
-/// Why a set is not valid. `clone` takes memory for the ids and for what the error of a template holds. The original
-/// has no refusal for memory.
+/// The reason why a policy set is invalid. `clone` allocates copies of the ids and of the template's error.
+///
+/// # Differences from cedar-policy-core
+///
+/// The original has no variant for allocation failures.
 #[derive(Debug, Drop, Error)]
 pub enum PolicySetValidationError {
-    /// A body is not valid: the first one in the order of bodies.
+    /// A body is invalid. It is the first invalid one in the order of the bodies.
     #[error("invalid template `{id}`: {error}")]
     InvalidTemplate {
-        /// Its id.
+        /// The id of the body.
         id: PolicyID,
-        /// Its first fault.
+        /// The first error of the body.
         error: TemplateValidationError,
     },
-    /// A link is one of a template without slots: the first one in the order of policies.
+    /// A link has a template without slots. It is the first one in the order of the policies.
     #[error("link `{link_id}` references template `{template_id}` which has no slots")]
     LinkToSlotlessTemplate {
         /// The id of the link.
@@ -197,7 +220,7 @@ pub enum PolicySetValidationError {
         /// The id of its template.
         template_id: PolicyID,
     },
-    /// Memory was refused.
+    /// An allocation failed.
     #[error("out of memory")]
     Memory,
 }

@@ -1,5 +1,5 @@
-//! Why a call on a policy set is refused, an enum for each kind of call. The set itself stands above, in
-//! `cedar_policy_set`, which passes these names on.
+//! The errors of policy set operations, with one enum for each kind of operation. The set itself is in
+//! `cedar_policy_set`, which re-exports these names.
 #![tactic(auto)]
 
 pub mod err;

@@ -1,28 +1,28 @@
-//! What came of a call while a request was to be refused.
+//! The outcome of a call while one allocation is forced to fail.
 use crate::refuser::{refuse, relent};
 use crate::things::with_word;
 use std::alloc::{AllocError, Global};
 use std::fmt::Display;
 
-/// What came of a call.
+/// The outcome of a call.
 #[derive(Clone, Copy, Drop, PartialEq, Eq)]
 pub enum Answer {
-    /// What it answers with ample memory, and what stands then.
+    /// The call returned the result that it returns with enough memory, and left the expected state.
     Ample,
-    /// That memory was refused; and all stands that must.
+    /// The call returned an allocation error, and left the expected state.
     Memory,
-    /// Another answer, or another thing stands.
+    /// The call returned another result, or left another state.
     Wrong,
 }
 
-/// What came of a call, and whether a request was refused.
+/// The outcome of a call, and whether an allocation was forced to fail.
 #[derive(Clone, Copy, Drop, PartialEq, Eq)]
 pub struct Tried {
     pub answer: Answer,
     pub refused: bool,
 }
 
-/// What comes of a call for which what it takes could not be made, which ample memory rules out.
+/// Returns the outcome if an argument of the call could not be created. This is impossible with enough memory.
 pub fn unmade() -> Tried {
     Tried {
         answer: Answer::Wrong,
@@ -30,7 +30,7 @@ pub fn unmade() -> Tried {
     }
 }
 
-/// The ample answer, if it is that.
+/// Returns `Ample` if the condition is true, else `Wrong`.
 pub fn ample_if(is_wanted: bool) -> Answer {
     if is_wanted {
         Answer::Ample
@@ -39,7 +39,7 @@ pub fn ample_if(is_wanted: bool) -> Answer {
     }
 }
 
-/// Want of memory, if all stands that must.
+/// Returns `Memory` if the condition is true, else `Wrong`.
 pub fn memory_if(stands: bool) -> Answer {
     if stands {
         Answer::Memory
@@ -48,7 +48,7 @@ pub fn memory_if(stands: bool) -> Answer {
     }
 }
 
-/// Whether a text has the words that are wanted, of which `_` stands for any one.
+/// Returns whether a text has the expected words. `_` stands for any word.
 pub fn has_words(text: &str, want: &str) -> bool {
     let mut due = want.split_whitespace();
     for word in text.split_whitespace() {
@@ -60,7 +60,7 @@ pub fn has_words(text: &str, want: &str) -> bool {
     due.next().is_none()
 }
 
-/// Whether a thing is written so, where blanks and ends of lines count alike.
+/// Returns whether a value is printed as this text. All white space counts as equal.
 pub fn is_worded<T: Display>(alloc: Global, thing: &T, want: &str) -> bool {
     match thing.to_string(alloc) {
         Ok(text) => {
@@ -72,7 +72,7 @@ pub fn is_worded<T: Display>(alloc: Global, thing: &T, want: &str) -> bool {
     }
 }
 
-// The texts of things, one after another, with a semicolon behind each.
+// Returns the printed texts of values, with a semicolon after each.
 fn written<T: Display>(alloc: Global, things: &[T]) -> Option<String> {
     let mut all = Some(String::new(alloc));
     for thing in things {
@@ -90,7 +90,7 @@ fn written<T: Display>(alloc: Global, things: &[T]) -> Option<String> {
     all
 }
 
-/// Whether things are written so, one after another, with ` ;` behind each, where blanks and ends of lines count alike.
+/// Returns whether values are printed as this text, with ` ;` after each. All white space counts as equal.
 pub fn are_worded<T: Display>(alloc: Global, things: &[T], want: &str) -> bool {
     match written(alloc, things) {
         Some(text) => {
@@ -102,7 +102,7 @@ pub fn are_worded<T: Display>(alloc: Global, things: &[T], want: &str) -> bool {
     }
 }
 
-// What a refusal is: want of memory, or the one that is wanted, which stands behind a mark.
+// Returns the outcome for an error: an allocation error, or the expected error, which follows `! `.
 fn refusal<E: Display + Drop>(alloc: Global, error: E, want: &str) -> Answer {
     let is_memory = is_worded(alloc, &error, "out of memory")
         || is_worded(alloc, &error, "memory allocation failed");
@@ -118,7 +118,7 @@ fn refusal<E: Display + Drop>(alloc: Global, error: E, want: &str) -> Answer {
     }
 }
 
-/// What came of a call that answers a thing, of which is asked whether it is the right one, or a refusal.
+/// Returns the outcome of a call that returns a value or an error. `is_right` checks the value.
 pub fn judged<T: Drop, E: Display + Drop, F: FnOnce(&T) -> bool>(
     alloc: Global,
     answer: Result<T, E>,
@@ -139,7 +139,7 @@ pub fn judged<T: Drop, E: Display + Drop, F: FnOnce(&T) -> bool>(
     Tried { answer, refused }
 }
 
-/// What came of a call that answers a thing that is written so, or is refused so; nothing else stands.
+/// Returns the outcome of a call that returns a value or an error, where `want` is the expected text of either.
 pub fn made<T: Display + Drop, E: Display + Drop>(
     alloc: Global,
     answer: Result<T, E>,
@@ -157,7 +157,7 @@ pub fn made<T: Display + Drop, E: Display + Drop>(
     Tried { answer, refused }
 }
 
-/// What comes of a call that takes a thing, made while the request of this number is refused.
+/// Runs a call that consumes a value, while the allocation with this number is forced to fail.
 pub fn with<A: Drop, F: FnOnce(A) -> Tried>(
     alloc: Global,
     number: usize,
@@ -175,7 +175,7 @@ pub fn with<A: Drop, F: FnOnce(A) -> Tried>(
     }
 }
 
-/// What comes of a call on a thing that is looked at, made while the request of this number is refused.
+/// Runs a call that borrows a value, while the allocation with this number is forced to fail.
 pub fn on<A: Drop, F: FnOnce(&A) -> Tried>(
     alloc: Global,
     number: usize,
@@ -195,7 +195,7 @@ pub fn on<A: Drop, F: FnOnce(&A) -> Tried>(
     }
 }
 
-/// What comes of copying a thing that is written so.
+/// Runs `clone` on a value. The copy must be printed as this text.
 pub fn copied<T: Clone + Display + Drop>(
     alloc: Global,
     number: usize,
@@ -214,7 +214,7 @@ pub fn copied<T: Clone + Display + Drop>(
     }
 }
 
-/// What comes of copying a thing that the copy has to equal.
+/// Runs `clone` on a value. The copy must equal the value.
 pub fn same_copied<T: Clone + PartialEq + Drop>(
     alloc: Global,
     number: usize,
@@ -240,7 +240,7 @@ pub fn same_copied<T: Clone + PartialEq + Drop>(
     }
 }
 
-// Whether a thing is shown by this text.
+// Returns whether `show` returns this text for a value.
 fn is_shown<T, S: Fn(Global, &T) -> Option<String>>(
     alloc: Global,
     thing: &T,
@@ -259,7 +259,7 @@ fn is_shown<T, S: Fn(Global, &T) -> Option<String>>(
     }
 }
 
-/// What comes of copying a thing; the copy is shown by the same text.
+/// Runs `clone` on a value. `show` must return this text for the copy.
 pub fn shown_copied<T: Clone + Drop, S: Fn(Global, &T) -> Option<String>>(
     alloc: Global,
     number: usize,
@@ -289,7 +289,7 @@ pub fn shown_copied<T: Clone + Drop, S: Fn(Global, &T) -> Option<String>>(
     }
 }
 
-// What a call that changes a thing came to, by what is shown before it and after it.
+// Runs a call that changes a value, and compares the texts that `show` returns before and after.
 fn change<
     T: Drop,
     E: Display + Drop,
@@ -321,8 +321,8 @@ fn change<
     Tried { answer, refused }
 }
 
-/// What comes of a call that changes a thing, which is shown by a text of all that calls may change; where the call is
-/// refused, the thing stays as it was.
+/// Runs a call that changes a value. `show` returns a text of all that calls may change. After an error the text must
+/// be the same as before.
 pub fn changed<
     T: Drop,
     E: Display + Drop,

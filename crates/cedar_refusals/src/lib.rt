@@ -1,14 +1,18 @@
-//! For tests: requests for memory that are refused in turn.
+//! Tests with injected allocation failures, one failure after another.
 //!
-//! A test asks a refuser that stands before the C library's heap, if there is one: `tools/refuser.c`, which `./refuse`
-//! loads. It is asked by requests for blocks of sizes that no machine has, so where there is none they are refused and
-//! nothing else happens: each call is then made once, with ample memory. It counts the blocks that are there, and after
-//! each turn of a call there have to be as many as before it.
+//! A test controls a failure injector in front of the C library's heap, if there is one: `tools/refuser.c`, which
+//! `./refuse` loads. A request for a block of an impossible size is a command to the injector. Without an injector such
+//! requests just fail, so each call runs once, with enough memory. The injector counts the allocated blocks. After each
+//! run of a call the count must be the same as before.
 //!
-//! What is tried stands in rows, one line each: the call, what it is given, and what comes of it with ample memory,
-//! with ` | ` between them. A refusal stands behind `! `. A row that begins with `- ` is one of a call that then asks
-//! for no memory, and one that begins with `~ ` is one of a call that then leaves what it made where it is. Rows that are
-//! made with ample memory alone, once each, are worked ones: they show what a call answers.
+//! Test cases are lines with three parts, separated by ` | `: the call, its arguments, and its result with enough
+//! memory.
+//!
+//! - An expected error follows `! `.
+//! - A case that begins with `- ` is a call that does not allocate.
+//! - A case that begins with `~ ` is a call that keeps some of its allocations.
+//!
+//! Worked examples are cases that run once, with enough memory. They document the result of a call.
 #![tactic(auto)]
 
 mod answers;

@@ -1,7 +1,7 @@
-//! What a test says to the refuser.
+//! The commands to the failure injector.
 use std::alloc::Global;
 
-// Sizes from here on are words to the refuser.
+// Sizes from here on are commands to the injector.
 const WORDS: usize = 1 << 62;
 
 const EVERY: usize = WORDS + (1 << 33);
@@ -14,7 +14,7 @@ const COUNT: usize = WORDS + (1 << 36);
 
 const AS_COUNTED: usize = WORDS + (1 << 37);
 
-// Whether a block of this size is given.
+// Returns whether a block of this size can be allocated.
 fn is_given(alloc: Global, size: usize) -> bool {
     match Vec::<u8>::with_capacity(alloc, size) {
         Ok(block) => {
@@ -25,12 +25,12 @@ fn is_given(alloc: Global, size: usize) -> bool {
     }
 }
 
-/// Whether there is a refuser.
+/// Returns whether there is an injector.
 pub fn is_there(alloc: Global) -> bool {
     is_given(alloc, THERE)
 }
 
-/// From here on the request of this number is refused, counted from 1; where it is 0, every one.
+/// Makes the allocation with this number fail, counted from 1 from now on. 0 makes all allocations fail.
 pub fn refuse(alloc: Global, number: usize) {
     let word = match number {
         0 => EVERY,
@@ -39,17 +39,17 @@ pub fn refuse(alloc: Global, number: usize) {
     let _ = is_given(alloc, word);
 }
 
-/// From here on no request is refused. Whether one was.
+/// Stops the injected failures. Returns whether an allocation was forced to fail.
 pub fn relent(alloc: Global) -> bool {
     is_given(alloc, NO_MORE)
 }
 
-/// Counts the blocks that are there.
+/// Records the number of allocated blocks.
 pub fn count(alloc: Global) {
     let _ = is_given(alloc, COUNT);
 }
 
-/// Whether as many blocks are there as were counted last.
+/// Returns whether the number of allocated blocks is the recorded one.
 pub fn is_as_counted(alloc: Global) -> bool {
     is_given(alloc, AS_COUNTED)
 }

@@ -1,10 +1,10 @@
-//! Rows of calls, each made again and again while another request is refused.
+//! Test cases whose calls run repeatedly, while a different allocation is forced to fail each time.
 use crate::answers::{Answer, Tried};
 use crate::refuser::{count, is_as_counted, is_there};
 use std::alloc::Global;
 
-/// A row: a call, what it is given, what comes of it with ample memory, whether it then asks for memory, and whether it
-/// then leaves what it made where it is.
+/// A test case: the call, its arguments, its result with enough memory, whether it allocates, and whether it keeps some
+/// of its allocations.
 #[derive(Clone, Copy)]
 pub struct Row<'a> {
     pub call: &'a str,
@@ -14,7 +14,7 @@ pub struct Row<'a> {
     pub leaves: bool,
 }
 
-/// The row that a line is, unless it is empty.
+/// Parses a test case from a line. Returns `None` for an empty line.
 pub fn row_of(line: &str) -> Option<Row<'_>> {
     let line = line.trim();
     if line.is_empty() {
@@ -39,24 +39,24 @@ pub fn row_of(line: &str) -> Option<Row<'_>> {
     })
 }
 
-/// Calls by the names that rows have for them.
+/// The calls by their names in test cases.
 pub trait Calls {
-    /// The call of a row, made while the request of this number is refused.
+    /// Runs the call of a case, while the allocation with this number is forced to fail.
     fn tried(&self, alloc: Global, number: usize, row: Row<'_>) -> Tried;
 }
 
-/// How a call went, each of its requests refused in turn.
+/// The outcome of a call after each of its allocations was forced to fail.
 #[derive(Clone, Copy, Debug, Drop, PartialEq, Eq)]
 pub enum InTurn {
-    /// It made so many requests, and each answer was right.
+    /// The call made this many allocations, and each result was right.
     Well(usize),
-    /// The answer was wrong while the request of this number was refused; 0 where none was.
+    /// The result was wrong when the allocation with this number was forced to fail, or 0 if none was.
     Wrong(usize),
-    /// Not all that was requested was let go, in the turn of this number.
+    /// The call leaked an allocation in the run with this number.
     Kept(usize),
 }
 
-// Whether the answer is right: memory is wanting only where a request was refused.
+// Returns whether an outcome is right. An allocation error is right only if an allocation was forced to fail.
 fn is_right(tried: Tried) -> bool {
     match tried.answer {
         Answer::Ample => true,
@@ -65,13 +65,13 @@ fn is_right(tried: Tried) -> bool {
     }
 }
 
-// Whether all that a call requested has to be let go: it leaves nothing, or it was refused.
+// Returns whether a call must free all its allocations: it keeps none, or it failed.
 fn lets_go(row: Row<'_>, tried: Tried) -> bool {
     !row.leaves || tried.answer != Answer::Ample
 }
 
-/// Makes the call of a row again and again, the first request refused, then the second and so on, until none is. After
-/// each turn all that it requested has to be let go, but for what a call leaves where it is once it is done.
+/// Runs the call of a case repeatedly. The first allocation is forced to fail, then the second, and so on, until none
+/// is reached. After each run the call must have freed its allocations, except those that a successful call keeps.
 pub fn in_turn<C: Calls>(alloc: Global, calls: &C, row: Row<'_>) -> InTurn {
     let there = is_there(alloc);
     for number in 1..100_000 {
@@ -90,11 +90,11 @@ pub fn in_turn<C: Calls>(alloc: Global, calls: &C, row: Row<'_>) -> InTurn {
     InTurn::Wrong(100_000)
 }
 
-// The number of a request that no call reaches.
+// The number of an allocation that no call reaches.
 const NEVER: usize = 1 << 32;
 
-/// Whether the calls of all rows of a text answer what they must with ample memory, each made once. A line that begins
-/// with `#` is a heading. A wrong row is told.
+/// Runs the calls of all cases of a text once, with enough memory, and returns whether all results are right. A line
+/// that begins with `#` is a heading. Wrong cases are printed.
 pub fn worked_rows<C: Calls>(rt: HostRuntime, calls: &C, rows: &str) -> bool {
     let alloc = rt.alloc();
     let mut well = true;
@@ -112,9 +112,9 @@ pub fn worked_rows<C: Calls>(rt: HostRuntime, calls: &C, rows: &str) -> bool {
     well
 }
 
-/// Whether the calls of all rows of a text answer what they must, each request refused in turn. Where there is a
-/// refuser each row is told with what came of it, and has to ask for memory where it says so; where there is none, a
-/// wrong row is told.
+/// Runs the calls of all cases of a text with injected failures, and returns whether all results are right. With an
+/// injector each case is printed with its outcome, and must allocate as it states. Without an injector only wrong cases
+/// are printed.
 pub fn tried_rows<C: Calls>(rt: HostRuntime, calls: &C, rows: &str) -> bool {
     let alloc = rt.alloc();
     let there = is_there(alloc);

@@ -1,10 +1,10 @@
-//! Things that could be made, or not: a test hands them on, and the call that they are made for lets them go.
+//! Values that may or may not have been created. A test passes them on, and the tested call drops them.
 use std::alloc::{AllocError, Global};
 use std::collections::HashSet;
 use std::hash::Hash;
 use std::rc::Rc;
 
-/// Two things, where both could be made.
+/// Returns a pair if both values exist.
 pub fn both<A: Drop, B: Drop>(first: Option<A>, second: Option<B>) -> Option<(A, B)> {
     match first {
         Some(a) => match second {
@@ -21,7 +21,7 @@ pub fn both<A: Drop, B: Drop>(first: Option<A>, second: Option<B>) -> Option<(A,
     }
 }
 
-/// A list and a further thing last.
+/// Appends a value to a list.
 pub fn with_last<T: Drop>(all: Option<Vec<T>>, x: Option<T>) -> Option<Vec<T>> {
     match both(all, x) {
         Some((mut all, x)) => match all.push(x) {
@@ -36,7 +36,7 @@ pub fn with_last<T: Drop>(all: Option<Vec<T>>, x: Option<T>) -> Option<Vec<T>> {
     }
 }
 
-/// A set and a further thing.
+/// Inserts a value into a set.
 pub fn joined<T: Eq + Hash + Drop>(all: Option<HashSet<T>>, x: Option<T>) -> Option<HashSet<T>> {
     match both(all, x) {
         Some((mut all, x)) => match all.insert(x) {
@@ -51,7 +51,7 @@ pub fn joined<T: Eq + Hash + Drop>(all: Option<HashSet<T>>, x: Option<T>) -> Opt
     }
 }
 
-/// A thing behind a count.
+/// Moves a value into an `Rc`.
 pub fn counted<T: Drop>(alloc: Global, made: Option<T>) -> Option<Rc<T>> {
     match made {
         Some(x) => Rc::new(alloc, x).ok(),
@@ -59,13 +59,13 @@ pub fn counted<T: Drop>(alloc: Global, made: Option<T>) -> Option<Rc<T>> {
     }
 }
 
-// Puts a word and a blank behind a text.
+// Appends a word and a space to a text.
 fn put_word(text: &mut String, word: &str) -> Result<(), AllocError> {
     text.push_str(word)?;
     text.push(' ')
 }
 
-/// A text with a further word.
+/// Appends a word and a space to a text.
 pub fn with_word(text: Option<String>, word: &str) -> Option<String> {
     match text {
         Some(mut text) => match put_word(&mut text, word) {
@@ -79,7 +79,7 @@ pub fn with_word(text: Option<String>, word: &str) -> Option<String> {
     }
 }
 
-/// A text of its own.
+/// Returns an owned copy of a text.
 pub fn owned(alloc: Global, text: &str) -> Option<String> {
     String::from_str(alloc, text).ok()
 }

@@ -1,4 +1,4 @@
--- Of keys none of which passes none is equal to one that does.
+-- If no key passes a test, no key is equal to one that passes.
 use Rattle.std.specs.List.{list_any}
 use Rattle.std.specs.Set.{is_member}
 use Rattle.std.proofs.Common.{◌≡◌, Bool, true, false, ◌||◌, List, [], ◌∷◌, refl, ap, sym, subst, ◌∙◌}

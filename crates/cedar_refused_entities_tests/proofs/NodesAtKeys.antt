@@ -1,4 +1,4 @@
--- A node that is put at its key leaves each key its node's.
+-- After a node is inserted by its key, each key is its node's key.
 use Rattle.std.specs.Prelude.{◌≡◌, Bool, true, false, cond, Some}
 use Rattle.std.proofs.Common.{sym, refl, subst, ◌∙◌}
 use Rattle.std.specs.HashMap.{HashMap, get}

@@ -1,5 +1,5 @@
-//! The calls of the layers from ids to the store of entities, and to its slices and trials: worked rows of what they
-//! answer, and each request for memory refused in turn.
+//! Tests of the layers from ids to the entity store, with its slices and dry runs: worked examples of results, and
+//! injected allocation failures.
 #![tactic(auto)]
 
 #[cfg(test)]

@@ -1,5 +1,5 @@
-// What the rows are made with. A thing is handed on as it was made, `None` where it could not be; what asks it lets it
-// go.
+// Helpers that create the arguments of test cases. They pass values as `Option`, where `None` means that the value
+// could not be created. Helpers that inspect a value drop it.
 mod children;
 mod closing;
 mod entities;
@@ -45,7 +45,7 @@ fn uid(alloc: Global, text: &str) -> Option<EntityUID> {
     EntityUID::from_normalized_str(alloc, text).ok()
 }
 
-// A place of one character.
+// Returns a location of one character.
 fn place(alloc: Global) -> Option<Loc> {
     match RcStr::from_str(alloc, "a text") {
         Ok(src) => Some(Loc::new(0, 1, src)),
@@ -53,7 +53,7 @@ fn place(alloc: Global) -> Option<Loc> {
     }
 }
 
-// The uid of type `A` with this eid, or another type's, which stands before a dot.
+// Returns the uid of type `A` with this eid. `B.x` is the uid with type `B` and eid `x`.
 fn uid_of(alloc: Global, name: &str) -> Option<EntityUID> {
     let (ty, eid) = name.split_once('.').unwrap_or(("A", name));
     match format!(in alloc; "{ty}::\"{eid}\"") {
@@ -66,7 +66,7 @@ fn uid_of(alloc: Global, name: &str) -> Option<EntityUID> {
     }
 }
 
-// That uid, to be shared.
+// Returns the shared uid with this name.
 fn shared(alloc: Global, name: &str) -> Option<SharedUid> {
     match uid_of(alloc, name) {
         Some(uid) => SharedUid::new(alloc, uid).ok(),
@@ -74,7 +74,7 @@ fn shared(alloc: Global, name: &str) -> Option<SharedUid> {
     }
 }
 
-// Uids as a list, to be shared.
+// Returns a list of shared uids.
 fn pointers(alloc: Global, names: &str) -> Option<Vec<SharedUid>> {
     let mut all = Some(Vec::new(alloc));
     for name in names.split_whitespace() {
@@ -83,7 +83,7 @@ fn pointers(alloc: Global, names: &str) -> Option<Vec<SharedUid>> {
     all
 }
 
-// Uids as a hash set.
+// Returns a hash set of uids.
 fn hashed(alloc: Global, names: &str) -> Option<HashSet<EntityUID>> {
     let mut all = Some(HashSet::new(alloc));
     for name in names.split_whitespace() {
@@ -92,7 +92,7 @@ fn hashed(alloc: Global, names: &str) -> Option<HashSet<EntityUID>> {
     all
 }
 
-// Uids as a set.
+// Returns a `UidSet` of uids.
 fn set_of(alloc: Global, names: &str) -> Option<UidSet> {
     match hashed(alloc, names) {
         Some(uids) => UidSet::from_set(alloc, uids).ok(),
@@ -100,7 +100,7 @@ fn set_of(alloc: Global, names: &str) -> Option<UidSet> {
     }
 }
 
-// The eids of uids in order.
+// Returns the eids of uids, in order.
 fn eids(alloc: Global, uids: Uids<'_>) -> Option<String> {
     let mut text = Some(String::new(alloc));
     for uid in uids {
@@ -109,7 +109,7 @@ fn eids(alloc: Global, uids: Uids<'_>) -> Option<String> {
     text
 }
 
-// Whether the eids of uids in order are these.
+// Returns whether the eids of uids, in order, are the expected ones.
 fn has_eids(alloc: Global, uids: Uids<'_>, want: &str) -> bool {
     match eids(alloc, uids) {
         Some(text) => {

@@ -1,4 +1,4 @@
--- What may go into maps: a policy with its template, as a merge takes it in.
+-- Conditions for inserting a policy with its template into maps, as a merge inserts them.
 use Rattle.std.specs.Prelude.{◌≡◌, List, [], ◌∷◌, refl}
 use Rattle.std.proofs.Common.{subst, sym}
 use Rattle.std.specs.declared.rc.Rc.{Rc}
@@ -21,7 +21,7 @@ one_taken p c = record {
   bare = (refl, tt);
 }
 
--- what may go first with its template may be taken in with it
+-- A policy that can be inserted into empty maps with its template can be bulk inserted with it.
 pub both_taken : (ss ts : List (Rc BodyParts Global)) (ps : List PolicyParts) (t : Rc BodyParts Global)
     (p : PolicyParts) → CanJoinBoth empty_set p → ss ≡ [] → ts ≡ t ∷ [] → t.value ≡ p.template → ps ≡ p ∷ [] →
     CanTakeIn empty_set (bodies_of ss) (bodies_of ts) ps

@@ -31,7 +31,7 @@ placed (Some l) p e own =
           ∙ ap (λ v. v || false) (same_text_equiv.symm p.template.id l ∙ apart),
     )
 
--- nothing is asked of them but that a link has another id than its template
+-- The maps of one policy agree if a link has another id than its template.
 pub one_makes : (p : PolicyParts) → HasOwnId p →
     CanMakeSet (record {
       bodies = (p.template.id, p.template) ∷ [];

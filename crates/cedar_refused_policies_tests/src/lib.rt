@@ -1,5 +1,4 @@
-//! The calls of the layers from annotations to policy sets: worked rows of what they answer, and each request for memory
-//! refused in turn.
+//! Tests of the layers from annotations to policy sets: worked examples of results, and injected allocation failures.
 #![tactic(auto)]
 
 #[cfg(test)]

@@ -1,5 +1,5 @@
-// What the rows are made with. A thing is handed on as it was made, `None` where it could not be; what asks it lets it
-// go.
+// Helpers that create the arguments of test cases. They pass values as `Option`, where `None` means that the value
+// could not be created. Helpers that inspect a value drop it.
 mod actions;
 mod annotations;
 mod bindings;
@@ -30,7 +30,7 @@ fn id(alloc: Global, text: &str) -> Option<PolicyID> {
     PolicyID::from_string(alloc, text).ok()
 }
 
-// The uid of type `A` with this eid, or another type's, which stands before a dot.
+// Returns the uid of type `A` with this eid. `B.x` is the uid with type `B` and eid `x`.
 fn uid(alloc: Global, name: &str) -> Option<EntityUID> {
     let (ty, eid) = name.split_once('.').unwrap_or(("A", name));
     match format!(in alloc; "{ty}::\"{eid}\"") {

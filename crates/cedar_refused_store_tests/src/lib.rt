@@ -1,5 +1,5 @@
-//! The program's calls and lists of calls on stores: worked rows of the lists, and each request for memory refused in
-//! turn.
+//! Tests of the program's functions and of lists of calls on stores: worked examples of the lists, and injected
+//! allocation failures.
 #![tactic(auto)]
 
 #[cfg(test)]

@@ -1,4 +1,4 @@
-// The program's calls and lists of calls on stores.
+// Tests of the program's functions and of lists of calls on stores.
 mod lines;
 mod replays;
 mod runs;

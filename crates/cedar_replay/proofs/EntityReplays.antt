@@ -1,4 +1,4 @@
--- The world that calls make, one call after another.
+-- The entities that calls produce, one call after another.
 use Rattle.std.specs.Prelude.{◌≡◌, ℕ, suc, ◌+◌, List, [], ◌∷◌, ◌++◌, length, map, Result, Ok, Err, OnOk, IfOk, IfErr}
 use Rattle.std.proofs.Common.{ap, refl, ◌∙◌, arith}
 use Rattle.cedar_ids.specs.declared.entity.EntityUID.{EntityUID}
@@ -29,7 +29,7 @@ pub longer : {X : Type 0} (xs : List X) (x : X) → length (xs ++ x ∷ []) ≡ 
 longer [] x = refl
 longer (y ∷ ys) x = let e = longer ys x in omega arith
 
--- a call that is refused ends the list
+-- A failed call ends the list.
 pub stops : {X : Type 0} (f : X → Call) (all done : List X) (c : X) (rest : List X) (n : ℕ) (e : EntitiesError)
     → all ≡ done ++ c ∷ rest → length done ≡ n
     → AllPass empty_world (map f done) → IsRefusedAs (all_made empty_world (map f done)) (f c) e
@@ -44,13 +44,12 @@ stops f all done c rest n e place count passed refused = record {
   refused = refused;
 }
 
--- a plain store has no cycle
+-- Whether the input store has no cycle.
 abbrev pub HasNone : World → Type 0
 HasNone W = IsCyclic W → ⊥
 
 module _ (T : StoreView) (base : World → World) (L : List Given) where
-  -- what is added to the plain store of a base passes, makes what adding makes of the base, and is refused as the base
-  -- says
+  -- The result of adding entities to a plain store, in terms of its input store: success, content and errors.
   pub add_passes : (r : Result StoreView EntitiesError)
       → ((W : World) → IsPlainStore W T → AddsPlain ComputeNow (base W) L r)
       → OnOk r ((W : World) → IsPlainStore W T → AllAgree (base W) L × HasNone (added (base W) L))
@@ -73,7 +72,7 @@ module _ (T : StoreView) (base : World → World) (L : List Given) where
   add_refuses (Err e) adds = λ W h. (adds W h).err
 
 module _ (T : StoreView) (L : List Given) where
-  -- the same of what is put over
+  -- The result of upserting entities, in the same terms.
   pub upsert_passes : (r : Result StoreView EntitiesError)
       → ((W : World) → IsPlainStore W T → UpsertsPlain ComputeNow W L r)
       → OnOk r ((W : World) → IsPlainStore W T → HasNone (overwritten W L))
@@ -95,7 +94,7 @@ module _ (T : StoreView) (L : List Given) where
   upsert_refuses (Err e) puts = λ W h. (puts W h).err
 
 module _ (T : StoreView) (U : List EntityUID) where
-  -- and of what is taken out, which always passes
+  -- The result of removing entities, which always succeeds.
   pub remove_makes : (r : Result StoreView EntitiesError) → ((W : World) → IsPlainStore W T → RemovesPlain W U r)
       → IfOk r (λ S. (W : World) → IsPlainStore W T → IsPlainStore (deleted W U) S)
   remove_makes (Ok S) out = λ W h. (out W h).ok

@@ -1,4 +1,4 @@
--- Lists of calls on a policy set, as steps from policy set to policy set.
+-- Lists of calls on a policy set, as steps between policy sets.
 use Rattle.std.specs.Prelude.{◌≡◌, List, [], ◌∷◌, Result, IfErr, IsErr}
 use Rattle.cedar_binding.specs.Views.{env_of}
 use Rattle.cedar_policy_maps.specs.PolicySets.{SetParts, policy_binding, Template}
@@ -12,13 +12,13 @@ use Rattle.cedar_replay.specs.declared.call.Answer.TheVariants as answers
 use Rattle.cedar_replay.specs.declared.call.PolicyCall.{PolicyCall}
 use Rattle.cedar_replay.specs.declared.call.PolicyCall.TheVariants as calls
 
--- an error comes only where the step is refused: so the call takes no memory where it succeeds
+-- Whether a result is an error only if the step is an error. Then `Memory` is impossible if the step succeeds.
 abbrev pub IsRefusedByStep : {A E B : Type 0} → Result A E → Result B Refusal → Type 0
 IsRefusedByStep r step = IfErr r (λ e. IsErr step)
 
--- the call answers so, and makes the second policy set of the first, whatever builds the hashers: by its step, or by
--- merging. Want of memory leaves the policy set as it was, and does not come where a link or a static policy can be
--- taken out. No call has an answer in another call's variant
+-- Whether a call has this result and changes the policy set `old` to `new`, for every builder of hashers. Each call
+-- except a merge follows its step. `Memory` leaves the set unchanged, and is impossible if a link or a static policy
+-- can be removed. A result in the variant of another call is impossible.
 abbrev pub IsStep : {S H : Type 0} → PolicyCall S H → Answer S H → SetParts → SetParts → Type 0
 IsStep (calls.AddStatic s) (answers.AddStatic r) old new = Steps told_by_set r old new (add_static_step old s)
 IsStep (calls.AddTemplate t) (answers.AddTemplate r) old new = Steps told_by_set r old new (add_template_step old t)
@@ -35,8 +35,8 @@ IsStep (calls.RemoveTemplate i) (answers.RemoveTemplate r) old new =
 IsStep (calls.Merge other rename) (answers.Merge r) old new = Merges (λ m. m.entries) r old other rename new
 IsStep c a old new = ⊥
 
--- the calls answer so one after another, each from the policy set that the one before it made, and the last policy set
--- is `new`
+-- Whether the calls have these results, each applied to the policy set after the call before it, and the last set is
+-- `new`.
 abbrev pub AreSteps : {S H : Type 0} → List (PolicyCall S H) → List (Answer S H) → SetParts → SetParts → Type 0
 AreSteps [] [] old new = new ≡ old
 AreSteps [] (a ∷ rest) old new = ⊥

@@ -1,4 +1,4 @@
-//! A call on a policy set, and what it answers.
+//! The calls on a policy set, and their results.
 use cedar_ids::policy_id::PolicyID;
 use cedar_policy::{LinkingError, Policy, SlotEnv, StaticPolicy, Template};
 use cedar_policy_set::{
@@ -8,7 +8,11 @@ use cedar_policy_set::{
 use indexmap::IndexMap;
 use std::hash::{BuildHasher, BuildHasherDefault, FoldHasher};
 
-/// A call on a policy set, with what it is given. It is this project's own.
+/// A call on a policy set, with its arguments.
+///
+/// # Differences from cedar-policy-core
+///
+/// The original has no such type.
 #[derive(Debug, Drop)]
 pub enum PolicyCall<S: BuildHasher = BuildHasherDefault<FoldHasher>> {
     /// [`PolicySet::add_static`].
@@ -17,7 +21,7 @@ pub enum PolicyCall<S: BuildHasher = BuildHasherDefault<FoldHasher>> {
     AddTemplate(Template),
     /// [`PolicySet::add`].
     Add(Policy),
-    /// [`PolicySet::link`]: the template's id, the new id, and the bindings.
+    /// [`PolicySet::link`]: the id of the template, the new id and the bindings.
     Link(PolicyID, PolicyID, SlotEnv),
     /// [`PolicySet::unlink`].
     Unlink(PolicyID),
@@ -25,27 +29,31 @@ pub enum PolicyCall<S: BuildHasher = BuildHasherDefault<FoldHasher>> {
     RemoveStatic(PolicyID),
     /// [`PolicySet::remove_template`].
     RemoveTemplate(PolicyID),
-    /// [`PolicySet::merge_policyset`]: the other set, and whether ids that conflict are renamed.
+    /// [`PolicySet::merge_policyset`]: the other set, and whether conflicting ids are renamed.
     Merge(PolicySet<S>, bool),
 }
 
-/// What a call on a policy set answered: its value or its error, in the variant of the call. It is this project's own.
+/// The result of a call on a policy set, in the variant of the call.
+///
+/// # Differences from cedar-policy-core
+///
+/// The original has no such type.
 #[derive(Debug, Drop)]
 pub enum Answer<S: BuildHasher = BuildHasherDefault<FoldHasher>> {
-    /// Of [`PolicyCall::AddStatic`].
+    /// The result of [`PolicyCall::AddStatic`].
     AddStatic(Result<(), PolicySetError>),
-    /// Of [`PolicyCall::AddTemplate`].
+    /// The result of [`PolicyCall::AddTemplate`].
     AddTemplate(Result<(), PolicySetError>),
-    /// Of [`PolicyCall::Add`].
+    /// The result of [`PolicyCall::Add`].
     Add(Result<(), PolicySetError>),
-    /// Of [`PolicyCall::Link`]. The link itself stands in the set.
+    /// The result of [`PolicyCall::Link`]. The link itself is in the set.
     Link(Result<(), LinkingError>),
-    /// Of [`PolicyCall::Unlink`]: the link that was taken out.
+    /// The result of [`PolicyCall::Unlink`]: the removed link.
     Unlink(Result<Policy, PolicySetUnlinkError>),
-    /// Of [`PolicyCall::RemoveStatic`]: the static policy that was taken out.
+    /// The result of [`PolicyCall::RemoveStatic`]: the removed static policy.
     RemoveStatic(Result<Policy, PolicySetPolicyRemovalError>),
-    /// Of [`PolicyCall::RemoveTemplate`]: the template that was taken out.
+    /// The result of [`PolicyCall::RemoveTemplate`]: the removed template.
     RemoveTemplate(Result<Template, PolicySetTemplateRemovalError>),
-    /// Of [`PolicyCall::Merge`]: the ids that were renamed with their new ones, in order.
+    /// The result of [`PolicyCall::Merge`]: the renamed ids with their new ids, in order.
     Merge(Result<IndexMap<PolicyID, PolicyID, S>, PolicySetError>),
 }

@@ -1,4 +1,4 @@
-//! Lists of calls on a store of entities.
+//! Lists of calls on an entity store.
 ghost use Rattle.std.specs.Prelude.{◌≡◌, IfOk, IfErr, OnOk, map};
 ghost use Rattle.std.specs.List.{AllByRecursion};
 ghost use Rattle.cedar_entity_maps.specs.Plain.{IsPlainStore};
@@ -12,10 +12,10 @@ use std::alloc::Global;
 use std::hash::{BuildHasher, BuildHasherDefault};
 use std::rc::Rc;
 
-/// A call on a store of entities, with what it is given.
+/// A call on an entity store, with its arguments.
 #[derive(Debug, Drop)]
 pub enum EntityCall {
-    /// [`Entities::from_entities`]: a store of these entities takes the place of the one so far.
+    /// [`Entities::from_entities`]: a store of the given entities replaces the store.
     From(Vec<Entity>),
     /// [`Entities::add_entities`].
     Add(Vec<Rc<Entity>>),
@@ -27,7 +27,7 @@ pub enum EntityCall {
     Partial,
 }
 
-// The store after one call.
+// Returns the store after one call.
 fn replay_one<S: BuildHasher + Copy>(
     alloc: Global,
     store: Entities<S>,
@@ -52,35 +52,54 @@ fn replay_one<S: BuildHasher + Copy>(
     }
 }
 
-/// Makes the calls one after another, the first on the store without entities, and gives the store that they
-/// leave. Ancestors are computed in each call, as by [`TCComputation::ComputeNow`].
+/// Runs calls on an initially empty store, one after another, and returns the final store. Each call computes the
+/// ancestors, as with [`TCComputation::ComputeNow`].
 ///
-/// The first refusal ends the list. The error has the number of the calls before it, which all succeeded, and
-/// why the next was refused: [`EntitiesError::Duplicate`], [`EntitiesError::TransitiveClosureError`] or
-/// `Memory`. No store is given back then.
+/// The caller must ensure that the given entities have no indirect ancestors. Then the store contains the result of
+/// plain insertion, replacement by the last version, and deletion. The ancestors of each entity are exactly the uids
+/// that it reaches over parents.
 ///
-/// The caller sees to it that no entity has indirect ancestors. Then the store holds what plain insertion, overwriting
-/// by the last version and deletion leave, and the ancestors of each entity are exactly the uids that it reaches over
-/// the parents. The stores hash uids by a fixed seed. It takes memory; its cost is that of the calls. It is this
-/// project's own.
+/// The stores hash uids with a fixed seed. If untrusted parties choose the uids, use [`replay_entities_with_hasher`]
+/// with a randomly keyed builder.
+///
+/// # Errors
+///
+/// The first error ends the list, and the store is dropped. The error contains the number of calls before it, which all
+/// succeeded, and one of the following errors:
+///
+/// - [`EntitiesError::Duplicate`]: as the failed call.
+/// - [`EntitiesError::TransitiveClosureError`]: as the failed call.
+/// - `Memory`: an allocation failed.
+///
+/// # Complexity
+///
+/// The sum of the calls' costs.
+///
+/// # Differences from cedar-policy-core
+///
+/// The original has no such function.
 pub fn replay_entities(
     alloc: Global,
     calls: Vec<EntityCall>,
 ) -> Result<Entities, (usize, EntitiesError)>
     requires { AllByRecursion HasBareEntities calls.items }
 
-    // No call is refused, and the store is the plain store of the world that the calls make.
+    // All calls succeed, and the result is the plain store of the entities that the calls produce.
     ensures pass { OnOk result (AllPass empty_world (map call_of calls.items)) }
     ensures ok { IfOk result (λ s.
         IsPlainStore (all_made empty_world (map call_of calls.items)) s) }
 
-    // The calls before the number pass, and the next one is refused so.
+    // The calls before the number succeed, and the next one fails with this error.
     ensures err { IfErr result (λ r. StopsAt (map call_of calls.items) r.0 r.1) }
 {
     replay_entities_with_hasher(alloc, BuildHasherDefault::new(), calls)
 }
 
-/// What [`replay_entities`] gives, with stores that hash uids by what `hasher` builds.
+/// Runs calls as [`replay_entities`] does. The stores hash uids with the hashers that `hasher` builds.
+///
+/// # Errors
+///
+/// As [`replay_entities`].
 pub fn replay_entities_with_hasher<S: BuildHasher + Copy>(
     alloc: Global,
     hasher: S,
@@ -88,12 +107,12 @@ pub fn replay_entities_with_hasher<S: BuildHasher + Copy>(
 ) -> Result<Entities<S>, (usize, EntitiesError)>
     requires { AllByRecursion HasBareEntities calls.items }
 
-    // No call is refused, and the store is the plain store of the world that the calls make.
+    // All calls succeed, and the result is the plain store of the entities that the calls produce.
     ensures pass { OnOk result (AllPass empty_world (map call_of calls.items)) }
     ensures ok { IfOk result (λ s.
         IsPlainStore (all_made empty_world (map call_of calls.items)) s) }
 
-    // The calls before the number pass, and the next one is refused so.
+    // The calls before the number succeed, and the next one fails with this error.
     ensures err { IfErr result (λ r. StopsAt (map call_of calls.items) r.0 r.1) }
 {
     let mut store = Entities::with_hasher(alloc, hasher);

@@ -1,10 +1,12 @@
-//! Lists of calls, on a store of entities and on a policy set.
+//! Lists of calls on an entity store or on a policy set.
 //!
-//! [`replay_entities`] makes the calls one after another up to the first refusal, and its contract says which world of
-//! entities the store then holds (`Calls.antt` of `cedar_entities`), whose ancestors are exactly what the parents
-//! imply. [`replay_policies`] makes all calls and keeps what each answers; its contract says that the answers and the
-//! set afterwards are those of the calls' steps in turn (`specs/Replays.antt`), which are the steps of
-//! `cedar_policy_set` on two orders, merging among them.
+//! [`replay_entities`] runs the calls one after another, up to the first error. [`replay_policies`] runs all calls and
+//! returns all their results.
+//!
+//! The contract of [`replay_entities`] states which entities the store contains (`Calls.antt` of `cedar_entities`), and
+//! that their ancestors are exactly those that follow from the parents. The contract of [`replay_policies`] states that
+//! the results and the final set follow the calls' steps, one after another (`specs/Replays.antt`). The specs of
+//! `cedar_policy_set` define these steps.
 #![tactic(auto, using(cedar_ids::specs::laws::UidOfLaws::same_uid_decides))]
 
 mod call;

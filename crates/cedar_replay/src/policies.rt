@@ -1,4 +1,4 @@
-//! Making the calls of a list.
+//! Lists of calls on a policy set.
 ghost use Rattle.std.specs.Prelude.{◌≡◌, ◌++◌, [], ◌∷◌, ◌<◌, ◌≤◌, ◌+◌, length, IfOk, OnErr};
 ghost use Rattle.std.specs.Vec.{vec_len, vec_capacity};
 ghost use Rattle.cedar_binding.specs.Views.{env_of};
@@ -13,7 +13,7 @@ use cedar_policy_set::PolicySet;
 use std::alloc::{AllocError, Global};
 use std::hash::BuildHasher;
 
-// Links a template, and keeps the link in the set alone.
+// Links a template, and drops the returned reference to the link.
 fn link<S: BuildHasher + Copy>(
     alloc: Global,
     set: &mut PolicySet<S>,
@@ -27,7 +27,7 @@ fn link<S: BuildHasher + Copy>(
     Ok(())
 }
 
-// Makes one call.
+// Runs one call.
 fn replay_one<S: BuildHasher + Copy>(
     alloc: Global,
     set: &mut PolicySet<S>,
@@ -51,7 +51,7 @@ fn replay_one<S: BuildHasher + Copy>(
     }
 }
 
-// Puts an answer last, where there is room for it.
+// Appends a result. The space must be reserved.
 fn append<S: BuildHasher>(answers: &mut Vec<Answer<S>>, answer: Answer<S>)
     requires { vec_len answers.old < vec_capacity answers.old }
     ensures items { answers.new.items ≡ answers.old.items ++ answer ∷ [] }
@@ -61,23 +61,33 @@ fn append<S: BuildHasher>(answers: &mut Vec<Answer<S>>, answer: Answer<S>)
     answers.push(answer).unwrap();
 }
 
-/// Makes the calls one after another on the set, and gives what each answers, in their order.
+/// Runs calls on the set, one after another, and returns all results in order. A failed call leaves the set unchanged,
+/// and the next call follows.
 ///
-/// A call that is refused leaves the set as it was, for memory too, and the next call follows. `Err` comes only where
-/// the room for the list of answers was refused, which is asked for before the first call, and leaves the set as it
-/// was. Takes that memory beside what the calls take; its cost is that of the calls. It is this project's own.
+/// # Errors
+///
+/// Returns `AllocError` if the allocation of the list of results fails. No call is then made, and the `AllocError`
+/// leaves the set unchanged.
+///
+/// # Complexity
+///
+/// The sum of the calls' costs. The list of results is allocated before the first call.
+///
+/// # Differences from cedar-policy-core
+///
+/// The original has no such function.
 pub fn replay_policies<S: BuildHasher + Copy>(
     alloc: Global,
     set: &mut PolicySet<S>,
     calls: Vec<PolicyCall<S>>,
 ) -> Result<Vec<Answer<S>>, AllocError>
-    // There is an answer for each call, in the variant of the call.
+    // There is one result for each call.
     ensures count { IfOk result (λ answers. length answers.items ≡ length calls.items) }
 
-    // The answers and the set afterwards are those of the steps in turn, each from the set that the one before it left.
+    // The results and the final set follow from the steps, each applied to the set after the step before it.
     ensures steps { IfOk result (λ answers. AreSteps calls.items answers.items set.old set.new) }
 
-    // No call was made where there is no room for the answers.
+    // If the list of results cannot be allocated, no call is made.
     ensures err { OnErr result (set.new ≡ set.old) }
 {
     let mut answers = Vec::with_capacity(alloc, calls.len())?;

@@ -1,4 +1,4 @@
--- Filling a slot, for the calls that fill it.
+-- Filling a slot, for the functions that fill it.
 use Rattle.std.proofs.Common.{◌≡◌, false}
 use Rattle.cedar_ids.specs.Uid.{UidParts}
 use Rattle.cedar_scope.specs.Scope.{Constraint}

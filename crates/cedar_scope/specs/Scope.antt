@@ -1,14 +1,14 @@
--- References and constraints as callers see them. No location is in them.
+-- References and constraints as callers see them. Locations are not part of them.
 use Rattle.cedar_ids.specs.Name.{NameParts}
 use Rattle.cedar_ids.specs.Uid.{UidParts}
 
--- what a constraint refers to: a uid, or the slot of its variable
+-- A reference of a constraint: a uid, or the slot of its variable.
 pub data Reference : Type 0 where
   to_uid : UidParts → Reference
   to_slot : Reference
 
--- what a principal or a resource has to be: anything; in what is referred to; equal to it; of a type; of a
--- type and in what is referred to
+-- The condition on a principal or a resource: any entity, `in` a reference, `==` a reference, `is` a type, or both `is`
+-- a type and `in` a reference.
 pub data Constraint : Type 0 where
   any : Constraint
   within : Reference → Constraint

@@ -1,4 +1,4 @@
--- The expressions that references and constraints stand for.
+-- The expressions of references and constraints.
 use Rattle.std.specs.Prelude.{true}
 use Rattle.cedar_terms.specs.LiteralTree.{bool_literal}
 use Rattle.cedar_terms.specs.UidTrees.{uid_expr}
@@ -12,26 +12,26 @@ use Rattle.cedar_scope.specs.Scope.{of_type_within}
 use Rattle.cedar_scope.specs.declared.variable.PrincipalOrResource.{PrincipalOrResource}
 use Rattle.cedar_scope.specs.declared.variable.PrincipalOrResource.TheVariants.{Principal, Resource}
 
--- the variable itself
+-- The variable of a request for this variable of a constraint.
 abbrev pub var_of : PrincipalOrResource → Var
 var_of Principal = vars.Principal
 var_of Resource = vars.Resource
 
--- the slot of the variable
+-- The slot of the variable.
 abbrev pub slot_id_of : PrincipalOrResource → SlotId
 slot_id_of Principal = slots.Principal
 slot_id_of Resource = slots.Resource
 
--- the variable as an expression
+-- The expression of the variable.
 abbrev pub variable_expr : PrincipalOrResource → ExprTree
 variable_expr v = var_node (var_of v)
 
--- the uid, or the slot
+-- The expression of a reference: the uid, or the slot.
 abbrev pub reference_expr : SlotId → Reference → ExprTree
 reference_expr s (to_uid u) = uid_expr u
 reference_expr s to_slot = slot_node s
 
--- `true`; `v in X`; `v == X`; `v is T`; `v is T` and `v in X`
+-- The expression of a constraint: `true`, `v in X`, `v == X`, `v is T`, or `v is T && v in X`.
 abbrev pub constraint_expr : PrincipalOrResource → Constraint → ExprTree
 constraint_expr v any = val_node (bool_literal true)
 constraint_expr v (within r) = in_node (variable_expr v) (reference_expr (slot_id_of v) r)

@@ -1,4 +1,4 @@
--- What callers see of references and constraints, and of what iterators have left.
+-- References and constraints as callers see them.
 use Rattle.cedar_ids.specs.UidOf.{uid_parts}
 use Rattle.cedar_ids.specs.Views.{type_name}
 use Rattle.cedar_scope.specs.Scope.{Reference, to_uid, to_slot, Constraint, any, within, equals, of_type}
@@ -8,12 +8,12 @@ use Rattle.cedar_scope.specs.declared.reference.EntityReference.TheVariants as r
 use Rattle.cedar_scope.specs.declared.constraint.PrincipalOrResourceConstraint.{PrincipalOrResourceConstraint}
 use Rattle.cedar_scope.specs.declared.constraint.PrincipalOrResourceConstraint.TheVariants as constraints
 
--- a reference without its location
+-- The reference without its location.
 abbrev pub reference_of : EntityReference → Reference
 reference_of (references.EUID u) = to_uid (uid_parts u.value)
 reference_of (references.Slot loc) = to_slot
 
--- a constraint of a principal or a resource without locations
+-- The constraint without its locations.
 abbrev pub constraint_of : PrincipalOrResourceConstraint → Constraint
 constraint_of constraints.Any = any
 constraint_of (constraints.In r) = within (reference_of r)

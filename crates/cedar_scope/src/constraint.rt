@@ -1,4 +1,4 @@
-//! What a policy asks of the principal or of the resource: one type for both, which each wraps.
+//! The shared type of principal and resource constraints.
 ghost use Rattle.std.specs.Prelude.{◌≡◌, IfOk, IsTrue, true, string_bytes};
 ghost use Rattle.std.specs.Option.{option_map};
 ghost use Rattle.std.specs.Fmt.{WritesOnOk};
@@ -31,69 +31,69 @@ use std::fmt;
 use std::hash::{Hash, Hasher};
 use std::rc::Rc;
 
-/// What a principal or a resource has to be.
+/// The condition that a policy places on the principal or on the resource.
 ///
-/// The order is by kind, as the kinds are listed here, then by the stated type, then by what is referred
-/// to. Equality, order and hash look at no location and take no memory. `clone` shares types and uids, and
-/// is refused only where a shared part can't be shared once more.
+/// The order is by kind, in the order of the variants, then by the type, then by the reference. Equality, order and
+/// hash ignore locations and do not allocate. `clone` shares types and uids. Its only error is `AllocError`, if a
+/// shared part cannot be shared once more.
 #[derive(Debug, Drop)]
 pub enum PrincipalOrResourceConstraint {
-    /// Anything.
+    /// Any entity.
     Any,
-    /// In what is referred to.
+    /// Any entity that is in the referenced entity.
     In(EntityReference),
-    /// Equal to what is referred to.
+    /// Only the referenced entity.
     Eq(EntityReference),
-    /// Of this type.
+    /// Any entity of this type.
     Is(Rc<EntityType>),
-    /// Of this type, and in what is referred to.
+    /// Any entity of this type that is in the referenced entity.
     IsIn(Rc<EntityType>, EntityReference),
 }
 
 impl PrincipalOrResourceConstraint {
-    /// Anything. Takes no memory, as no constructor here does.
+    /// Returns the constraint that allows any entity. Does not allocate.
     pub fn any() -> PrincipalOrResourceConstraint
         ensures { constraint_of result ≡ any }
     {
         Self::Any
     }
 
-    /// Equal to this uid.
+    /// Returns the constraint `== euid`. Does not allocate.
     pub fn is_eq(euid: Rc<EntityUID>) -> PrincipalOrResourceConstraint
         ensures { constraint_of result ≡ equals (to_uid (uid_parts euid.value)) }
     {
         Self::Eq(EntityReference::euid(euid))
     }
 
-    /// Equal to what the slot is bound to. The slot has no location.
+    /// Returns the constraint `== slot`. The slot has no location. Does not allocate.
     pub fn is_eq_slot() -> PrincipalOrResourceConstraint
         ensures { constraint_of result ≡ equals to_slot }
     {
         Self::Eq(EntityReference::Slot(None))
     }
 
-    /// In this uid.
+    /// Returns the constraint `in euid`. Does not allocate.
     pub fn is_in(euid: Rc<EntityUID>) -> PrincipalOrResourceConstraint
         ensures { constraint_of result ≡ within (to_uid (uid_parts euid.value)) }
     {
         Self::In(EntityReference::euid(euid))
     }
 
-    /// In what the slot is bound to. The slot has no location.
+    /// Returns the constraint `in slot`. The slot has no location. Does not allocate.
     pub fn is_in_slot() -> PrincipalOrResourceConstraint
         ensures { constraint_of result ≡ within to_slot }
     {
         Self::In(EntityReference::Slot(None))
     }
 
-    /// Of this type.
+    /// Returns the constraint `is entity_type`. Does not allocate.
     pub fn is_entity_type(entity_type: Rc<EntityType>) -> PrincipalOrResourceConstraint
         ensures { constraint_of result ≡ of_type (type_name entity_type.value) }
     {
         Self::Is(entity_type)
     }
 
-    /// Of this type, and in this uid.
+    /// Returns the constraint `is entity_type in in_entity`. Does not allocate.
     pub fn is_entity_type_in(
         entity_type: Rc<EntityType>,
         in_entity: Rc<EntityUID>,
@@ -104,15 +104,23 @@ impl PrincipalOrResourceConstraint {
         Self::IsIn(entity_type, EntityReference::euid(in_entity))
     }
 
-    /// Of this type, and in what the slot is bound to. The slot has no location.
+    /// Returns the constraint `is entity_type in slot`. The slot has no location. Does not allocate.
     pub fn is_entity_type_in_slot(entity_type: Rc<EntityType>) -> PrincipalOrResourceConstraint
         ensures { constraint_of result ≡ of_type_within (type_name entity_type.value) to_slot }
     {
         Self::IsIn(entity_type, EntityReference::Slot(None))
     }
 
-    /// The expression of the constraint on this variable and its slot: `true` where anything will do. The
-    /// node of a slot has the location of its reference. Takes memory for at most seven nodes.
+    /// Returns the constraint on the variable `v` and its slot, as an expression. For `Any` the expression is `true`.
+    /// The node of a slot has the location of the reference.
+    ///
+    /// # Errors
+    ///
+    /// Returns `AllocError` if an allocation fails.
+    ///
+    /// # Complexity
+    ///
+    /// O(1). Allocates at most seven nodes.
     pub fn as_expr(&self, alloc: Global, v: PrincipalOrResource) -> Result<Expr, AllocError>
         ensures { IfOk result (λ e. e ≡ constraint_expr v (constraint_of self.now)) }
     {
@@ -127,9 +135,12 @@ impl PrincipalOrResourceConstraint {
         }
     }
 
-    /// The text of the constraint on this variable and its slot, as `principal is T in ?principal`: exactly
-    /// so where its eid is ASCII, else with the eid as `str::escape_debug` writes it. Takes memory for the
-    /// text.
+    /// Returns the text of the constraint on the variable `v` and its slot, for example `principal is T in ?principal`.
+    /// An eid that is not ASCII is written as by `str::escape_debug`.
+    ///
+    /// # Errors
+    ///
+    /// Returns `AllocError` if an allocation fails.
     pub fn display(&self, alloc: Global, v: PrincipalOrResource) -> Result<String, AllocError>
         ensures { IsTrue (is_ascii_constraint (constraint_of self.now)) →
             IfOk result (λ s. string_bytes s ≡ constraint_text v (constraint_of self.now)) }
@@ -141,7 +152,7 @@ impl PrincipalOrResourceConstraint {
         .to_string(alloc)
     }
 
-    /// The uid that is referred to, if there is one. Takes no memory.
+    /// Returns the referenced uid, if there is one. Does not allocate.
     pub fn get_euid(&self) -> Option<&Rc<EntityUID>>
         ensures { option_map (λ u. uid_parts u.now.value) result ≡ constraint_uid (constraint_of self.now) }
     {
@@ -157,8 +168,8 @@ impl PrincipalOrResourceConstraint {
         }
     }
 
-    /// The types that are named: that of the uid, then the stated one, either where there is one. Takes no
-    /// memory.
+    /// Iterates over the types in the constraint: the type of the uid, then the stated type, each if there is one. Does
+    /// not allocate.
     pub fn iter_entity_type_names(&self) -> ConstraintTypeNames<'_>
         ensures { result ≡ constraint_types (constraint_of self.now) }
     {
@@ -169,7 +180,7 @@ impl PrincipalOrResourceConstraint {
         }
     }
 
-    // The place of its kind among the kinds.
+    // Returns the index of the kind.
     fn kind(&self) -> u8
         ensures { result ≡ constraint_kind (constraint_of self.now) }
     {
@@ -182,7 +193,7 @@ impl PrincipalOrResourceConstraint {
         }
     }
 
-    // The type that is stated, if one is.
+    // Returns the stated type, if there is one.
     fn stated_type(&self) -> Option<&EntityType>
         ensures { option_map (λ t. type_name t.now) result ≡ stated_type (constraint_of self.now) }
     {
@@ -195,7 +206,7 @@ impl PrincipalOrResourceConstraint {
         }
     }
 
-    // What is referred to, if anything is.
+    // Returns the reference, if there is one.
     fn reference(&self) -> Option<&EntityReference>
         ensures { option_map (λ r. reference_of r.now) result ≡ reference_in (constraint_of self.now) }
     {
@@ -208,7 +219,7 @@ impl PrincipalOrResourceConstraint {
         }
     }
 
-    // The constraint with the uid in place of the slot.
+    // Replaces the slot, if there is one, by the uid.
     pub(crate) fn with_filled_slot(self, euid: Rc<EntityUID>) -> PrincipalOrResourceConstraint
         ensures { constraint_of result ≡ filled (uid_parts euid.value) (constraint_of self) }
     {
@@ -226,7 +237,7 @@ impl PrincipalOrResourceConstraint {
         }
     }
 
-    // How this constraint and another stand in the order.
+    // Compares two constraints.
     pub(crate) fn compare(&self, other: &PrincipalOrResourceConstraint) -> Ordering
         ensures { result ≡ constraint_cmp (constraint_of self.now) (constraint_of other.now) }
     {
@@ -236,7 +247,7 @@ impl PrincipalOrResourceConstraint {
             .then_with(|| compare_references(self.reference(), other.reference()))
     }
 
-    // Writes the constraint on this variable.
+    // Writes the constraint on the variable `v`.
     pub(crate) fn write<W: fmt::Write>(
         &self,
         v: PrincipalOrResource,
@@ -268,7 +279,7 @@ ghost use Rattle.std.specs.Option.{option_cmp};
 ghost use Rattle.cedar_ids.specs.Name.{name_cmp};
 ghost use Rattle.cedar_scope.specs.ScopeOrder.{reference_cmp};
 
-// How two types stand in the order, none before any.
+// Compares two optional types. `None` is less than any type.
 fn compare_types(a: Option<&EntityType>, b: Option<&EntityType>) -> Ordering
     ensures { result ≡ option_cmp name_cmp
         (option_map (λ t. type_name t.now) a.entry) (option_map (λ t. type_name t.now) b.entry) }
@@ -285,7 +296,7 @@ fn compare_types(a: Option<&EntityType>, b: Option<&EntityType>) -> Ordering
     }
 }
 
-// How two references stand in the order, none before any.
+// Compares two optional references. `None` is less than any reference.
 fn compare_references(a: Option<&EntityReference>, b: Option<&EntityReference>) -> Ordering
     ensures { result ≡ option_cmp reference_cmp
         (option_map (λ r. reference_of r.now) a.entry) (option_map (λ r. reference_of r.now) b.entry) }
@@ -302,7 +313,7 @@ fn compare_references(a: Option<&EntityReference>, b: Option<&EntityReference>) 
     }
 }
 
-// That the variable is in what is referred to.
+// Returns the expression `v in reference`.
 fn in_expr(
     alloc: Global,
     v: PrincipalOrResource,
@@ -315,7 +326,7 @@ fn in_expr(
     Expr::is_in(alloc, left, right)
 }
 
-// That the variable equals what is referred to.
+// Returns the expression `v == reference`.
 fn eq_expr(
     alloc: Global,
     v: PrincipalOrResource,
@@ -328,7 +339,7 @@ fn eq_expr(
     Expr::is_eq(alloc, left, right)
 }
 
-// That the variable is of a type.
+// Returns the expression `v is ty`.
 fn is_expr(alloc: Global, v: PrincipalOrResource, ty: &EntityType) -> Result<Expr, AllocError>
     ensures { IfOk result (λ e. e ≡ constraint_expr v (of_type (type_name ty.now))) }
 {
@@ -337,7 +348,7 @@ fn is_expr(alloc: Global, v: PrincipalOrResource, ty: &EntityType) -> Result<Exp
     Expr::is_entity_type(alloc, left, ty)
 }
 
-// That it is of a type, and in what is referred to.
+// Returns the expression `v is ty && v in reference`.
 fn is_in_expr(
     alloc: Global,
     v: PrincipalOrResource,
@@ -352,7 +363,7 @@ fn is_in_expr(
     Expr::and(alloc, left, right)
 }
 
-// A constraint on a variable, as it is written.
+// A constraint with its variable, for printing.
 #[derive(Drop)]
 struct OnVariable<'a> {
     constraint: &'a PrincipalOrResourceConstraint,

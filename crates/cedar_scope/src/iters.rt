@@ -1,4 +1,4 @@
-//! The iterator of a constraint's types. Contracts see it as the list of what it has left.
+//! The iterator over the types in a constraint. Contracts see it as the list of the remaining items.
 ghost use Rattle.std.specs.Prelude.{◌≡◌, ◌++◌};
 ghost use Rattle.std.specs.Option.{option_map, option_to_list};
 ghost use Rattle.std.specs.Iterator.{YieldsFirstBy, item_count};
@@ -7,7 +7,7 @@ ghost use Rattle.cedar_ids.specs.Views.{type_name};
 use cedar_ids::entity::EntityType;
 use std::marker::Model;
 
-/// The types that a constraint of a principal or a resource names: that of its uid, then the stated one.
+/// An iterator over the types in a principal or resource constraint: the type of its uid, then the stated type.
 #[derive(Drop)]
 pub struct ConstraintTypeNames<'a> {
     of_uid: Option<&'a EntityType>,
@@ -27,7 +27,7 @@ impl<'a> Model for ConstraintTypeNames<'a> {
 }
 
 impl<'a> ConstraintTypeNames<'a> {
-    // These types, the first before the second.
+    // Creates an iterator over these types.
     pub(crate) fn of(
         of_uid: Option<&'a EntityType>,
         stated: Option<&'a EntityType>,

@@ -1,9 +1,11 @@
-//! Scope constraints: what a policy asks of the principal and of the resource that it is for.
+//! Scope constraints: the conditions that a policy places on the principal and on the resource.
 //!
-//! Contracts see references and constraints as values without locations (`specs/Scope.antt`), so equality,
-//! order and hash never look at a location. Three files hold what callers read: `specs/ScopeTrees.antt`
-//! says which expression a constraint stands for, `specs/ScopeTexts.antt` how it is written, and
-//! `specs/ScopeReads.antt` which uids and types it names and how its slot is filled.
+//! Equality, order and hash ignore locations. Contracts see references and constraints as values without locations
+//! (`specs/Scope.antt`).
+//!
+//! - `specs/ScopeTrees.antt` specifies the expression of a constraint.
+//! - `specs/ScopeTexts.antt` specifies its printed text.
+//! - `specs/ScopeReads.antt` specifies its uid and types, and how its slot is filled.
 #![tactic(auto)]
 
 pub mod constraint;

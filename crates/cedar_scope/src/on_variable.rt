@@ -1,5 +1,5 @@
-//! A constraint with the variable that it is on: the principal's and the resource's are its two instances. What it does
-//! is done in the form that both share.
+//! Constraints with a fixed variable: one type for the principal and one for the resource. The methods call the shared
+//! type.
 ghost use Rattle.std.specs.Prelude.{◌≡◌, IfOk, false};
 ghost use Rattle.std.specs.Ordering.{as_partial_cmp};
 ghost use Rattle.std.specs.Cmp.{partial_equiv_from_equiv, po};
@@ -29,14 +29,14 @@ use std::hash::{Hash, Hasher};
 use std::marker::{Model, PhantomData};
 use std::rc::Rc;
 
-/// A variable as a type: `Principal` or `Resource`. It tells a constraint on the one from a constraint on the other.
+/// A variable as a type: `Principal` or `Resource`. It distinguishes principal constraints from resource constraints.
 pub trait ScopeVariable {
     ghost variable: { PrincipalOrResource };
 
-    /// What a constraint on the variable is called, as `Debug` writes it.
+    /// The name of the constraint type, as `Debug` writes it.
     const NAME: &'static str;
 
-    /// The variable.
+    /// Returns the variable.
     fn variable() -> PrincipalOrResource
         ensures { result ≡ variable };
 }
@@ -69,19 +69,18 @@ impl ScopeVariable for Resource {
     }
 }
 
-/// What the principal of a request has to be.
+/// The condition on the principal of a request.
 pub type PrincipalConstraint = VariableConstraint<Principal>;
 
-/// What the resource of a request has to be.
+/// The condition on the resource of a request.
 pub type ResourceConstraint = VariableConstraint<Resource>;
 
-/// What one variable of a request has to be: [`PrincipalConstraint`] or [`ResourceConstraint`].
+/// The condition on one variable of a request: [`PrincipalConstraint`] or [`ResourceConstraint`].
 ///
-/// Contracts see the constraint without its locations. Equality, order and hash are those of the
-/// constraint and look at no location. `clone` shares types and uids, and is refused only where a shared
-/// part can't be shared once more. `Display` writes the constraint on its variable, as `principal`, with
-/// `?principal` for its slot, and takes no memory: exactly so where its eid is ASCII, else with the eid as
-/// `str::escape_debug` writes it.
+/// Equality, order and hash use only the constraint, and ignore locations. `clone` shares types and uids. Its only
+/// error is `AllocError`, if a shared part cannot be shared once more. `Display` writes the constraint with its
+/// variable, for example `principal`, and with its slot, for example `?principal`. An eid that is not ASCII is written
+/// as by `str::escape_debug`. Writing does not allocate. Contracts see the constraint without its locations.
 #[derive(Drop)]
 pub struct VariableConstraint<V: ScopeVariable> {
     constraint: PrincipalOrResourceConstraint,
@@ -102,7 +101,7 @@ impl<V: ScopeVariable> Model for VariableConstraint<V> {
 }
 
 impl<V: ScopeVariable> VariableConstraint<V> {
-    /// The variable under this constraint. Takes no memory, as no constructor here does.
+    /// Creates the constraint on the variable. Does not allocate.
     pub fn new(constraint: PrincipalOrResourceConstraint) -> VariableConstraint<V>
         ensures { result ≡ constraint_of constraint }
     {
@@ -112,14 +111,14 @@ impl<V: ScopeVariable> VariableConstraint<V> {
         }
     }
 
-    /// The constraint. Takes no memory.
+    /// Returns the constraint. Does not allocate.
     pub fn as_inner(&self) -> &PrincipalOrResourceConstraint
         ensures { constraint_of result.now ≡ self.now }
     {
         &self.constraint
     }
 
-    /// The constraint. Takes no memory.
+    /// Returns the constraint. Does not allocate.
     pub fn into_inner(self) -> PrincipalOrResourceConstraint
         ensures { constraint_of result ≡ self }
     {
@@ -127,57 +126,60 @@ impl<V: ScopeVariable> VariableConstraint<V> {
         constraint
     }
 
-    /// The expression of the constraint on its variable and the variable's slot, as
-    /// `PrincipalOrResourceConstraint::as_expr` makes it. Takes memory as that does.
+    /// Returns the constraint as an expression, as [`PrincipalOrResourceConstraint::as_expr`] does for the variable.
+    ///
+    /// # Errors
+    ///
+    /// Returns `AllocError` if an allocation fails.
     pub fn as_expr(&self, alloc: Global) -> Result<Expr, AllocError>
         ensures { IfOk result (λ e. e ≡ constraint_expr V.variable self.now) }
     {
         self.constraint.as_expr(alloc, V::variable())
     }
 
-    /// Anything.
+    /// Returns the constraint that allows any entity. Does not allocate.
     pub fn any() -> VariableConstraint<V>
         ensures { result ≡ any }
     {
         VariableConstraint::<V>::new(PrincipalOrResourceConstraint::any())
     }
 
-    /// Equal to this uid.
+    /// Returns the constraint `== euid`. Does not allocate.
     pub fn is_eq(euid: Rc<EntityUID>) -> VariableConstraint<V>
         ensures { result ≡ equals (to_uid (uid_parts euid.value)) }
     {
         VariableConstraint::<V>::new(PrincipalOrResourceConstraint::is_eq(euid))
     }
 
-    /// Equal to what the slot is bound to.
+    /// Returns the constraint `== slot`. Does not allocate.
     pub fn is_eq_slot() -> VariableConstraint<V>
         ensures { result ≡ equals to_slot }
     {
         VariableConstraint::<V>::new(PrincipalOrResourceConstraint::is_eq_slot())
     }
 
-    /// In this uid.
+    /// Returns the constraint `in euid`. Does not allocate.
     pub fn is_in(euid: Rc<EntityUID>) -> VariableConstraint<V>
         ensures { result ≡ within (to_uid (uid_parts euid.value)) }
     {
         VariableConstraint::<V>::new(PrincipalOrResourceConstraint::is_in(euid))
     }
 
-    /// In what the slot is bound to.
+    /// Returns the constraint `in slot`. Does not allocate.
     pub fn is_in_slot() -> VariableConstraint<V>
         ensures { result ≡ within to_slot }
     {
         VariableConstraint::<V>::new(PrincipalOrResourceConstraint::is_in_slot())
     }
 
-    /// Of this type.
+    /// Returns the constraint `is entity_type`. Does not allocate.
     pub fn is_entity_type(entity_type: Rc<EntityType>) -> VariableConstraint<V>
         ensures { result ≡ of_type (type_name entity_type.value) }
     {
         VariableConstraint::<V>::new(PrincipalOrResourceConstraint::is_entity_type(entity_type))
     }
 
-    /// Of this type, and in this uid.
+    /// Returns the constraint `is entity_type in in_entity`. Does not allocate.
     pub fn is_entity_type_in(
         entity_type: Rc<EntityType>,
         in_entity: Rc<EntityUID>,
@@ -189,7 +191,7 @@ impl<V: ScopeVariable> VariableConstraint<V> {
         VariableConstraint::<V>::new(constraint)
     }
 
-    /// Of this type, and in what the slot is bound to.
+    /// Returns the constraint `is entity_type in slot`. Does not allocate.
     pub fn is_entity_type_in_slot(entity_type: Rc<EntityType>) -> VariableConstraint<V>
         ensures { result ≡ of_type_within (type_name entity_type.value) to_slot }
     {
@@ -198,8 +200,8 @@ impl<V: ScopeVariable> VariableConstraint<V> {
         ))
     }
 
-    /// The constraint with this uid in place of the slot, if it refers to the slot; else it stays as it is.
-    /// What comes holds no slot, so filling it once more changes nothing. Takes no memory.
+    /// Replaces the slot, if there is one, by the uid. A constraint without a slot is returned unchanged. The result
+    /// has no slot, so a second call changes nothing. Does not allocate.
     #[tactic(auto, using(crate::proofs::Filled::holds_no_slot, crate::proofs::Filled::stays_filled))]
     pub fn with_filled_slot(self, euid: Rc<EntityUID>) -> VariableConstraint<V>
         ensures fills { result ≡ filled (uid_parts euid.value) self }

@@ -1,4 +1,4 @@
-//! What a constraint refers to: a uid, or the slot of its variable.
+//! References in constraints: a uid, or the slot of the variable.
 ghost use Rattle.std.specs.Prelude.{◌≡◌, IfOk, true};
 ghost use Rattle.std.specs.Fmt.{WritesOnOk};
 ghost use Rattle.std.specs.Ordering.{on, as_partial_cmp};
@@ -24,29 +24,39 @@ use std::fmt;
 use std::hash::{Hash, Hasher};
 use std::rc::Rc;
 
-/// What a constraint refers to: a uid, or the slot of its variable.
+/// The entity that a constraint refers to: a uid, or the slot of its variable.
 ///
-/// Every uid stands before the slot, and uids stand in their order. Equality, order and hash look at no
-/// location; in the original the order may see that of a slot. `clone` shares the uid, and is refused only
-/// where a shared part can't be shared once more.
+/// Uids have their order, and every uid is less than the slot. Equality, order and hash ignore locations. `clone`
+/// shares the uid. Its only error is `AllocError`, if a shared part cannot be shared once more.
+///
+/// # Differences from cedar-policy-core
+///
+/// In the original the order may depend on the location of a slot.
 #[derive(Debug, Drop)]
 pub enum EntityReference {
     /// This uid.
     EUID(Rc<EntityUID>),
-    /// The slot, and where it stands, if that is known.
+    /// The slot of the variable, with its location, if it is known.
     Slot(Option<Loc>),
 }
 
 impl EntityReference {
-    /// The reference to this uid. Takes no memory.
+    /// Creates the reference to this uid. Does not allocate.
     pub fn euid(euid: Rc<EntityUID>) -> EntityReference
         ensures { reference_of result ≡ to_uid (uid_parts euid.value) }
     {
         Self::EUID(euid)
     }
 
-    /// The reference to this uid, which it comes to share. Takes memory for that. In the original this is a
-    /// conversion.
+    /// Creates the reference to this uid, and allocates a shared copy.
+    ///
+    /// # Errors
+    ///
+    /// Returns `AllocError` if an allocation fails.
+    ///
+    /// # Differences from cedar-policy-core
+    ///
+    /// In the original this is a conversion by `From`.
     pub fn from_uid(alloc: Global, uid: EntityUID) -> Result<EntityReference, AllocError>
         ensures { IfOk result (λ r. reference_of r ≡ to_uid (uid_parts uid)) }
     {
@@ -54,8 +64,12 @@ impl EntityReference {
         Ok(EntityReference::euid(euid))
     }
 
-    /// The expression of the uid, or of this slot: its node has the location of the reference. Takes memory
-    /// as the constructors of `Expr` do; the uid is shared.
+    /// Returns the reference as an expression: the uid, or the given slot. The node of the slot has the location of the
+    /// reference. The uid is shared.
+    ///
+    /// # Errors
+    ///
+    /// Returns `AllocError` if an allocation fails.
     pub fn into_expr(&self, alloc: Global, slot: SlotId) -> Result<Expr, AllocError>
         ensures { IfOk result (λ e. e ≡ reference_expr slot (reference_of self.now)) }
     {
@@ -68,7 +82,7 @@ impl EntityReference {
         }
     }
 
-    // How this reference and another stand in the order.
+    // Compares two references.
     pub(crate) fn compare(&self, other: &EntityReference) -> Ordering
         ensures { result ≡ reference_cmp (reference_of self.now) (reference_of other.now) }
     {
@@ -84,7 +98,7 @@ impl EntityReference {
         }
     }
 
-    // Writes the uid, or this slot.
+    // Writes the uid, or the given slot.
     pub(crate) fn write<W: fmt::Write>(
         &self,
         slot: SlotId,

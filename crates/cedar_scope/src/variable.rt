@@ -1,4 +1,4 @@
-//! The variable that a constraint is on: the principal or the resource.
+//! The variable of a constraint: the principal or the resource.
 ghost use Rattle.std.specs.Prelude.{◌≡◌, Some};
 ghost use Rattle.std.specs.Ordering.{on};
 ghost use Rattle.std.specs.Cmp.{partial_equiv_from_equiv, on_equiv};
@@ -13,15 +13,14 @@ use cedar_terms::var::Var;
 use std::fmt;
 use std::hash::{Hash, Hasher};
 
-/// The variables whose constraints have one form: the principal and the resource.
+/// A variable whose constraints have the shared type: the principal or the resource.
 ///
-/// It is written as the variable, in lower case. Copying, comparing, hashing, writing and converting it
-/// take no memory.
+/// `Display` writes the variable in lower case. Copying, comparing, hashing, writing and converting do not allocate.
 #[derive(Clone, Copy, Debug)]
 pub enum PrincipalOrResource {
-    /// Who asks.
+    /// The entity that makes the request.
     Principal,
-    /// What it is asked of.
+    /// The entity that the action concerns.
     Resource,
 }
 
@@ -47,7 +46,7 @@ impl From<PrincipalOrResource> for SlotId {
     }
 }
 
-/// `Var::Action` and `Var::Context` are refused, by the variable itself.
+/// Converts a variable. `Var::Action` and `Var::Context` are returned as the error.
 impl TryFrom<Var> for PrincipalOrResource {
     type Error = Var;
 

@@ -1,4 +1,4 @@
--- The list of what is held at some uids, and what a store of it holds.
+-- The list of the entities at some uids, and the entity map of a store of this list.
 use Rattle.std.specs.Prelude.{◌≡◌, Bool, true, false, cond, ◌||◌, List, [], ◌∷◌, ◌++◌, Option, Some, None, map}
 use Rattle.std.specs.Prelude.{filter_map}
 use Rattle.std.proofs.Common.{ap, sym, refl, subst, ◌∙◌}
@@ -28,7 +28,7 @@ found_more : {X : Type 0} (b r : Bool) (x : Option X) (e : X) → (b ≡ true �
 found_more true r x e h = sym (h refl)
 found_more false r x e h = refl
 
--- each of these uids has an entity under its own uid, or none
+-- Holds if the entity at each of the uids, if there is one, has that uid.
 abbrev pub AreKeyed : Held → List EntityUID → Type 0
 AreKeyed D ks = AllByRecursion (λ k. IfSome (finmap.get D k) (λ e. e.uid ≡ k)) ks
 
@@ -45,7 +45,7 @@ module _ (D : Held) where
       ∙ ap (cond (same_uid q k) (Some e)) h
       ∙ found_more (same_uid q k) r (finmap.get D q) e (λ t. ap (finmap.get D) ((same_uid_decides q k).0 t) ∙ is)
 
-  -- the first of the list with a uid is what is held there, where the uid is one of those
+  -- The first entity of the list with a uid is the entity at that uid, if the uid is among the given ones.
   pub first_held : (ks : List EntityUID) → AreKeyed D ks → (q : EntityUID)
       → first_entity (filter_map (finmap.get D) ks) q ≡ cond (is_member same_uid ks q) (finmap.get D q) None
   first_held [] a q = refl
@@ -60,7 +60,7 @@ module _ (D : Held) where
   held_more None k rest is u a = a
   held_more (Some e) k rest is u a = (ap (finmap.get D) u ∙ is, a)
 
-  -- each of the list is what is held at its uid
+  -- Each entity of the list is the entity at its uid.
   pub all_held : (ks : List EntityUID) → AreKeyed D ks
       → AllByRecursion (λ e. finmap.get D e.uid ≡ Some e) (filter_map (finmap.get D) ks)
   all_held [] a = tt
@@ -86,7 +86,7 @@ module _ (D : Held) where
   matches ks k (e ∷ L) a =
       (subst (λ x. IsDeepEqual x e) (sym (present_itself ks k e a.0)) (deep_equality.itself e), matches ks k L a.1)
 
-  -- each of the list is the version of its uid that is present
+  -- Each entity of the list equals the existing one with its uid.
   pub all_match : (ks : List EntityUID) → AreKeyed D ks
       → AllMatch (finmap.get no_entities) (filter_map (finmap.get D) ks)
   all_match ks k = matches ks k (filter_map (finmap.get D) ks) (all_held ks k)
@@ -95,7 +95,7 @@ module _ (D : Held) where
   all_at P [] y ys a = a.0
   all_at P (x ∷ xs) y ys a = all_at P xs y ys a.1
 
-  -- so none is a differing duplicate
+  -- No entity of the list is a differing duplicate.
   pub none_differs : (ks : List EntityUID) → AreKeyed D ks → (u : EntityUID)
       → FirstMismatch (finmap.get no_entities) (filter_map (finmap.get D) ks) u → ⊥
   none_differs ks k u m =
@@ -103,7 +103,7 @@ module _ (D : Held) where
       (subst (AllByRecursion (MatchesPresent (finmap.get no_entities) (filter_map (finmap.get D) ks))) m.place
       (all_match ks k)))
 
-  -- a store of the list holds what is held at those uids
+  -- A store of the list contains the entities at the uids.
   pub store_of : (ks : List EntityUID) → AreKeyed D ks → (test : EntityUID → Bool)
       → ((q : EntityUID) → is_member same_uid ks q ≡ test q)
       → with_first no_entities (filter_map (finmap.get D) ks) ≡ finmap.retain_keys D test

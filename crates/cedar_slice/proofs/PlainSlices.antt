@@ -1,4 +1,4 @@
--- The slice of the plain store of a world.
+-- The slice of the plain store of an input store.
 use Rattle.std.specs.Prelude.{◌≡◌, ◌↔◌, Bool, true, false, cond, List, [], ◌∷◌, Option, Some, None, is_some}
 use Rattle.std.proofs.Common.{ap, sym, refl, subst, ◌∙◌, inl, inr}
 use Rattle.std.proofs.lemmas.Bool.{false≢true}
@@ -17,7 +17,7 @@ use Rattle.cedar_entity_maps.specs.laws.PlainAncestors.{ancestry_plain, first_ke
 use Rattle.cedar_slice.specs.Slices.{is_wanted, sliced, part_of, IsWanted, IsPlainSlice, IsPartWith}
 use Rattle.cedar_slice.specs.laws.OneSlice.{part_edges, wanted_by}
 
--- what a map has of the keys that pass a test
+-- A lookup in a map after its keys were filtered.
 pub get_kept : {X : Type 0} (m : finmap.FinMap uid_order X) (test : EntityUID → Bool) (q : EntityUID)
     → finmap.get (finmap.retain_keys m test) q ≡ cond (test q) (finmap.get m q) None
 get_kept m test q = finmap.get-retain_keys m test q (λ x t. ap test (sym (one_equal q x t)))
@@ -52,7 +52,7 @@ module _ (W : World) (S : StoreView) (plain : IsPlainStore W S) where
     wanted_iff : (q : EntityUID) → (test q ≡ true) ↔ IsWanted W U q
     wanted_iff = wanted_by W (ancestry S.held) (ancestry_plain W S plain) U
 
-    -- a parent of what is wanted is wanted
+    -- A parent of a selected uid is selected.
     next_wanted : (a b : EntityUID) → test a ≡ true → graph W a b ≡ true → test b ≡ true
     next_wanted a b h g =
         let w = (wanted_iff a).0 h in
@@ -104,7 +104,7 @@ module _ (W : World) (S : StoreView) (plain : IsPlainStore W S) where
       acyclic = λ q r. plain.acyclic q (reach_up q q r);
     }
 
-    -- the slice of the plain store of a world is the plain store of the world's slice
+    -- The slice of the plain store of an input store is the plain store of its slice.
     pub plain_slice : IsPlainSlice W U (record { held = sliced S.held U; partial = false })
     plain_slice =
         record {
@@ -127,7 +127,8 @@ module _ (W : World) (S : StoreView) (plain : IsPlainStore W S) where
         | inr r ↦ along w.from q r.0 (has.asked w.from w.asked (first_key W w.from q r.0 r.1)) r.1 k
       ]
 
-      -- a part of the world that has the uids and, with each, its parents has all of the slice
+      -- A part of the input store that contains the requested entities and their parents contains all entities of the
+      -- slice.
       pub least_part : (q : EntityUID) → finmap.contains_key (sliced S.held U) q ≡ true
           → finmap.contains_key V.entities q ≡ true
       least_part q h =

@@ -1,4 +1,4 @@
--- What a store made of copies of what is wanted holds, and why it is refused.
+-- The entity map and the errors of a store that is created from copies of the selected entities.
 use Rattle.std.specs.Prelude.{◌≡◌, true, false, cond, List, None, filter_map, Result, Ok, Err, IfOk, IfErr}
 use Rattle.std.proofs.Common.{ap, refl, subst, ◌∙◌}
 use Rattle.std.specs.Set.{is_member}
@@ -17,14 +17,14 @@ use Rattle.cedar_slice.specs.laws.OneSlice.{asked_is_wanted}
 use Rattle.cedar_slice.proofs.Copies.{AreKeyed, none_differs, store_of}
 use Rattle.cedar_slice.proofs.PlainSlices.{get_kept}
 
--- what is asked for is as it was
+-- The requested entities are unchanged.
 pub asked_stays : (D : Held) (U : List EntityUID) (q : EntityUID) → is_member same_uid U q ≡ true
     → finmap.get (sliced D U) q ≡ finmap.get D q
 asked_stays D U q m = get_kept D (is_wanted D U) q ∙ ap (λ t. cond t (finmap.get D q) None) (asked_is_wanted D U q m)
 
 module _ (D : Held) (ks : List EntityUID) (keyed : AreKeyed D ks) (L : List EntityView)
     (copies : L ≡ filter_map (finmap.get D) ks) where
-  -- the store of the copies holds the slice
+  -- The store of the copies contains the slice.
   pub holds_slice : (U : List EntityUID) → ((q : EntityUID) → is_member same_uid ks q ≡ is_wanted D U q)
       → (r : Result StoreView EntitiesError)
       → IfOk r (λ s. s.partial ≡ false) → IfOk r (λ s. s.held ≡ with_first no_entities L)
@@ -35,7 +35,7 @@ module _ (D : Held) (ks : List EntityUID) (keyed : AreKeyed D ks) (L : List Enti
       λ i. record { held = is i; partial = flag i }
   holds_slice U same (Err e) flag held = tt
 
-  -- and only want of memory refuses it, since that mode refuses no closure
+  -- It fails only if an allocation fails, because its mode makes no check of the closure.
   pub only_memory : (r : Result StoreView EntitiesError)
       → IfErr r
       (λ e. MatchRefusal e (FirstMismatch (finmap.get no_entities) L) (λ t. AllMatch (finmap.get no_entities) L × ⊥))

@@ -19,7 +19,7 @@ use std::alloc::{AllocError, Global};
 use std::collections::HashSet;
 use std::hash::BuildHasher;
 
-// Notes some uids.
+// Inserts uids into a set.
 fn note_all<S: BuildHasher>(
     noted: &mut HashSet<SharedUid, S>,
     uids: SharedUids<'_>,
@@ -33,7 +33,7 @@ fn note_all<S: BuildHasher>(
     Ok(())
 }
 
-// Notes the ancestors of the entity that the store has with a uid, if there is one.
+// Inserts the ancestors of the entity with a uid into a set, if the store has that entity.
 fn note_above<S: BuildHasher + Clone>(
     store: &Entities<S>,
     noted: &mut HashSet<SharedUid, S>,
@@ -48,7 +48,7 @@ fn note_above<S: BuildHasher + Clone>(
     }
 }
 
-// Notes a uid that is asked for, and the ancestors of the entity that the store has with it.
+// Inserts a requested uid, and the ancestors of the entity with this uid.
 fn want<S: BuildHasher + Clone>(
     alloc: Global,
     store: &Entities<S>,
@@ -64,8 +64,7 @@ fn want<S: BuildHasher + Clone>(
     Ok(())
 }
 
-// The uids that are asked for, and the ancestors of what the store has with them. What is asked for again is passed
-// over.
+// Returns the requested uids and the ancestors of the entities with these uids. Skips repeated uids.
 fn all_wanted<S: BuildHasher + Clone>(
     alloc: Global,
     store: &Entities<S>,
@@ -86,7 +85,7 @@ fn all_wanted<S: BuildHasher + Clone>(
     Ok(wanted)
 }
 
-// Puts a copy of the entity that the store has with a uid, if there is one, at the end of a list.
+// Appends a copy of the entity with a uid to a list, if the store has that entity.
 fn copy_held<S: BuildHasher + Clone>(
     store: &Entities<S>,
     list: &mut Vec<Entity>,
@@ -102,7 +101,7 @@ fn copy_held<S: BuildHasher + Clone>(
     Ok(())
 }
 
-// Copies of the entities that the store has with some uids.
+// Returns copies of the entities with the uids.
 fn copies_of<S: BuildHasher + Clone>(
     alloc: Global,
     store: &Entities<S>,
@@ -119,7 +118,7 @@ fn copies_of<S: BuildHasher + Clone>(
     Ok(list)
 }
 
-// The slice of a store at some uids, of which is not known that it is plain.
+// Returns the slice of a store that is not known to be plain.
 fn part_of<S: BuildHasher + Clone>(
     alloc: Global,
     store: &Entities<S>,
@@ -144,14 +143,22 @@ fn part_of<S: BuildHasher + Clone>(
     Entities::from_entities_with_hasher(alloc, hasher, list, TCComputation::AssumeAlreadyComputed)
 }
 
-/// The slice of a store at some uids, not partial: copies of the entities that have one of these uids, and of those
-/// that the store holds among the ancestors of one of them, each with all that it holds. Asked uids that the store
-/// lacks, and repeats, change nothing. The slice hashes uids as the store does, by a copy of its builder of hashers.
+/// Returns the slice of a store at some uids: a store with copies of the requested entities and of all their stored
+/// ancestors.
 ///
-/// Refused by [`EntitiesError::Memory`] alone, whatever the store. It takes memory. It looks each asked uid up, notes
-/// its ancestors, and looks each uid that was noted up once and copies what it finds: the store is never walked as a
-/// whole. Attributes and tags are copied, the uids of ancestors are shared. Where the store knows that its ancestors are
-/// what the parents imply, the slice knows it too: edits of it cost what edits of the store do.
+/// The copies have the attributes, tags, parents and ancestors of the originals. Uids that are not in the store, and
+/// repeated uids, have no effect. The slice is not partial. It uses a clone of the store's hasher builder. If the store
+/// is known to be plain, so is the slice, and edits of both cost the same.
+///
+/// # Errors
+///
+/// Returns `EntitiesError::Memory` if an allocation fails. An allocation failure is the only error, whatever the store
+/// contains.
+///
+/// # Complexity
+///
+/// Looks up each requested uid, inserts its ancestors into a set, and looks up each uid of this set once. The rest of
+/// the store is not read. Attributes and tags are copied, and the uids of ancestors are shared.
 pub fn slice<S: BuildHasher + Clone>(
     alloc: Global,
     store: &Entities<S>,

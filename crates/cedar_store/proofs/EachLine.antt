@@ -12,11 +12,11 @@ use Rattle.cedar_store.specs.Sessions.{SessionView, StandsAt, Takes}
 after_after : (a b : List ℕ) (w : Written) → after a (after b w) ≡ after (a ++ b) w
 after_after a b w = λ i. record { bytes = sym (append_assoc a b w.bytes) i; status = w.status }
 
--- what the output of the lines from a place on makes with what is written so far
+-- Whether the output of the remaining lines, appended to the bytes written so far, satisfies `Q`.
 abbrev pub Continues : (Written → Type 0) → ℕ → State → List (List ℕ) → List ℕ → Type 0
 Continues Q n s ls out = (w : Written) → IsOutputFrom n s ls w → Q (after out w)
 
--- how many bytes are left, one more where anything is
+-- The number of remaining bytes plus 1, or 0 if no line is left.
 abbrev pub bytes_left : Option (List ℕ) → ℕ
 bytes_left None = 0
 bytes_left (Some xs) = suc (length xs)
@@ -31,7 +31,7 @@ pub none_left : (o : Option (Bor (List ℕ))) → ((xs : Bor (List ℕ)) → o �
 none_left None h = refl
 none_left (Some xs) h = absurd (h xs refl)
 
--- a line that is taken
+-- The step of a line that is a command.
 pub line_taken : (Q : Written → Type 0) (n : ℕ) (s : State) (m : SessionView) (old new l : List ℕ)
     (ls : List (List ℕ)) → Takes true l s m old new → Continues Q n s (l ∷ ls) old
     → (t : State) × StandsAt m t × Continues Q (n + 1) t ls new
@@ -45,7 +45,7 @@ line_taken Q n s m old new l ls h k =
           (k (after out w) (inl (h.0, t, out, w, h.3, h.4, r, refl))),
     )
 
--- a line that is no command
+-- The end of a run at a line that is not a command.
 pub line_refused : (Q : Written → Type 0) (n : ℕ) (s : State) (m : SessionView) (old new l : List ℕ)
     (ls : List (List ℕ)) → Takes false l s m old new → Continues Q n s (l ∷ ls) old
     → Q (record { bytes = new ++ not_command n; status = 2 })
@@ -54,7 +54,7 @@ line_refused Q n s m old new l ls h k =
     subst (λ o. Q (record { bytes = o ++ not_command n; status = 2 })) (sym h.2)
     (k (record { bytes = not_command n; status = 2 }) (inr (h.0, refl)))
 
--- no line is left
+-- The end of a run after the last line.
 pub lines_end : (Q : Written → Type 0) (n : ℕ) (s : State) (old : List ℕ) → Continues Q n s [] old
     → Q (record { bytes = old; status = 0 })
 unfolding IsOutputFrom

@@ -16,7 +16,7 @@ use Rattle.cedar_store.specs.Output.{not_command}
 use Rattle.cedar_store.proofs.Joined.{none_found}
 use Rattle.cedar_store.proofs.OneOutput.{one_output}
 
--- ---- which command a line is
+-- ---- The command of a line
 
 read_so : (fs : List (List ℕ)) (o : Option PolicyCommand) → policy_command fs ≡ o → Found (λ c. IsPolicyCommand c fs)
 read_so fs (Some c) e = inl (c, read_is_command fs c e)
@@ -46,12 +46,12 @@ readable_line true fs (inl c) = inl (c.0, (refl, c.1))
 readable_line true fs (inr none) = inr (λ c h. none c h.1)
 readable_line false fs f = inr (λ c h. let e = h.0 in cc)
 
--- the command that a line is
+-- The command of a line, or the fact that it is not a command.
 line_found : (l : List ℕ) → Found (λ c. IsLine c l)
 line_found l = readable_line (list_all is_line_byte l) (slice_split (λ b. b == 9) l)
     (command_found (slice_split (λ b. b == 9) l))
 
--- ---- what a command gives
+-- ---- The effect of a command
 
 gives : (s : State) (c : Command) → (t : State) × (out : List ℕ) × Gives s c t out
 gives s Nothing = (s, [], (refl, refl))
@@ -60,7 +60,7 @@ gives s (Entity c) = let a = entity_gives c s.entities in
 gives s (Policy c) = let a = policy_gives c s.policy_sets in
     (record { entities = s.entities; policy_sets = a.0 }, a.1, (refl, a.2))
 
--- ---- the lines
+-- ---- The lines
 
 from : (ls : List (List ℕ)) (n : ℕ) (s : State) → (w : Written) × IsOutputFrom n s ls w
 unfolding IsOutputFrom
@@ -73,10 +73,10 @@ from (l ∷ ls) n s = elim (line_found l) [
   | inr none ↦ (record { bytes = not_command n; status = 2 }, inr (none, refl))
 ]
 
--- some output
+-- Every input has an output.
 has_output : (input : List ℕ) → (w : Written) × IsOutput input w
 has_output input = from (slice_split (λ b. b == 10) input) 1 start
 
--- and no other
+-- Every input has exactly one output.
 pub has_one_output : HasOneOutput
 has_one_output input = let h = has_output input in (h.0, h.1, λ v k. one_output input v h.0 k h.1)

@@ -14,9 +14,9 @@ use Rattle.cedar_policy_lines.specs.laws.ReadCommands.{command_is_read}
 use Rattle.cedar_store.specs.Command.{Command, Nothing, Entity, Policy, IsCommand}
 use Rattle.cedar_store.specs.Output.{State, Written, Gives, IsOutput, IsOutputFrom, after}
 
--- ---- fields are those of one command
+-- ---- Fields are at most one command
 
--- fields that begin with such a word are those of no command on policy sets
+-- Fields that begin with a word of no command on policy sets are not such a command.
 none_behind : (w : List ℕ) (us : List EntityUID) (fs : List (List ℕ))
     → ((ts : List (List ℕ)) → policy_command (w ∷ ts) ≡ None) → AreFields w us fs → policy_command fs ≡ None
 none_behind w us [] none h = absurd h
@@ -25,7 +25,7 @@ none_behind w us (f ∷ fs) none h = ap (λ v. policy_command (v ∷ fs)) h.0 �
 none_read : (fs : List (List ℕ)) (c : PolicyCommand) → policy_command fs ≡ None → IsPolicyCommand c fs → ⊥
 none_read fs c e h = let g : None ≡ Some c = sym e ∙ command_is_read c fs h in cc
 
--- and so are those of a command on the store
+-- The fields of a command on the store are not a command on policy sets.
 no_policy : (c : EntityCommand) (fs : List (List ℕ)) → IsEntityCommand c fs → policy_command fs ≡ None
 no_policy (Ent u ps) fs h = none_behind (codes "ent") (u ∷ ps) fs (λ ts. refl) h
 no_policy Build fs h = none_behind (codes "build") [] fs (λ ts. refl) h
@@ -38,7 +38,7 @@ no_policy (Anc u) fs h = none_behind (codes "anc") (u ∷ []) fs (λ ts. refl) h
 both : (c : EntityCommand) (d : PolicyCommand) (fs : List (List ℕ)) → IsEntityCommand c fs → IsPolicyCommand d fs → ⊥
 both c d fs h k = none_read fs d (no_policy c fs h) k
 
--- an empty field is the word of no command on the store
+-- Whether a field is empty. No command on the store has an empty word.
 abbrev is_empty : List ℕ → Bool
 is_empty [] = true
 is_empty (x ∷ xs) = false
@@ -67,7 +67,7 @@ same_policy c d fs h k = one_some (sym (command_is_read c fs h) ∙ command_is_r
     one_some : {X : Type 0} {x y : X} → Some x ≡ Some y → x ≡ y
     one_some e = cc
 
--- fields are those of one command
+-- Fields are at most one command.
 one_command : (c d : Command) (fs : List (List ℕ)) → IsCommand c fs → IsCommand d fs → c ≡ d
 one_command Nothing Nothing fs h k = refl
 one_command Nothing (Entity d) fs h k = absurd (nothing_or_entity d fs h k)
@@ -79,9 +79,9 @@ one_command (Policy c) Nothing fs h k = absurd (nothing_or_policy c fs k h)
 one_command (Policy c) (Entity d) fs h k = absurd (both d c fs k h)
 one_command (Policy c) (Policy d) fs h k = ap Policy (same_policy c d fs h k)
 
--- ---- a command gives one answer
+-- ---- A command has one result
 
--- what two kinds of lines leave is one state
+-- Two states with the same store and the same policy sets are equal.
 joined : (t t' : State) (out out' : List ℕ) → t.entities ≡ t'.entities → t.policy_sets ≡ t'.policy_sets → out ≡ out'
     → (t ≡ t') × (out ≡ out')
 joined t t' out out' e b o = (λ i. record { entities = e i; policy_sets = b i }, o)

@@ -1,4 +1,8 @@
--- What the program writes for an input.
+-- The output of the program for an input.
+--
+-- Input and output are lists of bytes. The program runs the lines of the input one after another, each in the state
+-- that the line before it left. Its output is the output of all lines in order. `IsOutput` states this, and
+-- `HasOneOutput` states that each input has exactly one output.
 use Rattle.std.specs.Prelude.{◌≡◌, ◌⊎◌, ℕ, ◌+◌, List, [], ◌∷◌, ◌++◌, codes, ◌==◌}
 use Rattle.std.specs.List.{slice_split}
 use Rattle.std.specs.Fmt.{decimal}
@@ -8,36 +12,41 @@ use Rattle.cedar_policy_lines.specs.TwoSets.{TwoSets, no_sets}
 use Rattle.cedar_policy_lines.specs.PolicyOutput.{PolicyGives}
 use Rattle.cedar_store.specs.Command.{Command, Nothing, Entity, Policy, IsLine}
 
--- what waits for a call on the store, with the world that the store holds, and the two policy sets
+-- The state between two lines: the queued entities with the input store that the program's store is computed from, and
+-- the two policy sets.
 pub record State : Type 0 where
   pub entities : EntityState
   pub policy_sets : TwoSets
 
--- nothing waits, the store is empty, and so are both policy sets
+-- The state before the first line. The queue, the store and both policy sets are empty.
 abbrev pub start : State
 start = record { entities = no_entity; policy_sets = no_sets }
 
--- the state that a command leaves, and what it writes
+-- Whether a command in the state `s` leads to the state `t` and writes `out`. `Nothing` changes and writes nothing. A
+-- command on the store leaves the policy sets unchanged, and a command on policy sets leaves the store unchanged.
 abbrev pub Gives : State → Command → State → List ℕ → Type 0
 Gives s Nothing t out = (t ≡ s) × (out ≡ [])
 Gives s (Entity c) t out = EntityGives c s.entities t.entities out × (t.policy_sets ≡ s.policy_sets)
 Gives s (Policy c) t out = (t.entities ≡ s.entities) × PolicyGives c s.policy_sets t.policy_sets out
 
--- what is written in all, and the status
+-- The output of a run: all bytes that it writes, and its status.
 pub record Written : Type 0 where
   pub bytes : List ℕ
   pub status : ℕ
 
--- with bytes before it
+-- An output with more bytes before it.
 abbrev pub after : List ℕ → Written → Written
 after out w = record { bytes = out ++ w.bytes; status = w.status }
 
--- that line n is no command
+-- The message for line `n`, which is not a command. Example: `line 3: not a command` and a line feed.
 abbrev pub not_command : ℕ → List ℕ
 not_command n = written_line (codes "line " ++ (decimal n ++ codes ": not a command"))
 
--- the lines from number n on, in the state s: each is taken as the command that it is, and the first
--- that is no command ends the run with status 2
+-- Whether `w` is the output of some lines. The first line has the number `n`, and `s` is the state before it:
+--
+-- - There is no line: the output is empty, with status 0.
+-- - The first line is a command: its output comes first. The output of the other lines, in the next state, follows.
+-- - The first line is not a command: the output is its message, with status 2. The other lines are ignored.
 unfoldable pub IsOutputFrom : ℕ → State → List (List ℕ) → Written → Type 0
 IsOutputFrom n s [] w = w ≡ record { bytes = []; status = 0 }
 IsOutputFrom n s (l ∷ ls) w =
@@ -45,11 +54,11 @@ IsOutputFrom n s (l ∷ ls) w =
     × IsLine c l × Gives s c t out × IsOutputFrom (n + 1) t ls v × (w ≡ after out v))
     ⊎ (((c : Command) → IsLine c l → ⊥) × (w ≡ record { bytes = not_command n; status = 2 }))
 
--- the lines of the input, parted by line feeds and counted from 1. The bytes after the last line feed are
--- a line too; where there are none, it is an empty one
+-- Whether `w` is the output of this input. The lines are separated by line feeds, and their numbers start with 1. The
+-- bytes after the last line feed are a line too. If there are no such bytes, this last line is empty.
 abbrev pub IsOutput : List ℕ → Written → Type 0
 IsOutput input w = IsOutputFrom 1 start (slice_split (λ b. b == 10) input) w
 
--- every input has one output, and no other
+-- Every input has exactly one output.
 abbrev pub HasOneOutput : Type 0
 HasOneOutput = (input : List ℕ) → (w : Written) × IsOutput input w × ((v : Written) → IsOutput input v → v ≡ w)

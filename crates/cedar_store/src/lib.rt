@@ -1,19 +1,16 @@
-//! The store layer of the Cedar authorization language: one crate with the public names of the layers below it, and the
-//! program over them.
+//! The store layer of the Cedar authorization language. This crate has the public names of the crates below it, and the
+//! program that uses them.
 //!
-//! The names stand at the original's module paths: [`ast`] has ids, values, expressions, entities, templates, policies
-//! and their sets, [`entities`] the store, [`transitive_closure`] the closure calls. Beside them are this project's
-//! own: [`replay_entities`] makes a list of calls on a store and [`replay_policies`] one on a policy set, and their
-//! contracts say what that leaves; [`run`] reads lines and writes their answers, and its contract says that what is
-//! written is the output of what was read, by `specs/Output.antt`, and that each input has exactly one; a [`Session`]
-//! takes such lines one by one.
+//! Most names have the module paths of cedar-policy-core. [`ast`] has ids, values, expressions, entities, templates,
+//! policies and policy sets. [`entities`] has the store, and [`transitive_closure`] the closure functions.
 //!
-//! What the layers below are made with, and none of these names needs, stays below: of `cedar_entity_maps` the steps of
-//! an edit over the map of a store (`Row`, `Loss`, `Lost`, `Index` and the calls beside them), of `cedar_policy_maps`
-//! and `cedar_policy_merge` the maps of a policy set and their merging (`PolicyMaps`, `Found`, `Parted`, `is_link`,
-//! `has_no_slots`, `merge_maps`), of `cedar_policy` that a policy shares an equal template (`share_template`), of
-//! `cedar_children` the index of children (`Children`), and of `cedar_ids` the test of a text that is its own escape
-//! (`is_own_escape`).
+//! The other names have no counterpart in cedar-policy-core:
+//!
+//! - [`replay_entities`] applies a list of calls to a store, and [`replay_policies`] to a policy set.
+//! - [`run`] reads lines and writes their results. A [`Session`] runs the lines one at a time.
+//!
+//! The contracts of the replay functions state the result of the calls. The contract of [`run`] states that it writes
+//! the output of its input, defined in `specs/Output.antt`. It also states that each input has exactly one output.
 #![tactic(auto, using(cedar_ids::specs::laws::UidOfLaws::same_uid_decides))]
 
 mod program;
@@ -112,6 +109,9 @@ pub use cedar_terms::Value;
 pub use cedar_terms::ValueKind;
 pub use cedar_terms::Var;
 pub use cedar_terms::is_reserved_key;
+pub use cedar_trial_edits::are_bare;
+pub use cedar_trial_edits::would_add;
+pub use cedar_trial_edits::would_upsert;
 pub use cedar_uid_sets::Union;
 pub use program::RunError;
 pub use program::run;
@@ -121,29 +121,28 @@ pub use program::run_with;
 pub use session::Session;
 pub use session::push_not_command;
 
-/// What is done with bindings, and the texts of refusals.
+/// Bindings of slots, and the functions and errors on them.
 pub mod bindings {
     pub use cedar_action::action::JoinedUids;
     pub use cedar_binding::err::ArityText;
     pub use cedar_binding::{
-        JoinedBindings, bound_to, check_bindings, copy_of_bindings, fitted_bindings, no_bindings,
-        same_bindings,
+        JoinedBindings, bound_to, check_bindings, copy_of_bindings, no_bindings, same_bindings,
     };
 }
 
-/// What each number reaches, by strong components.
+/// Reachability in a graph of numbers, computed by strongly connected components.
 pub mod components {
     pub use cedar_components::{Reached, reach};
 }
 
-/// The iterators of the types that constraints name.
+/// Iterators over the entity types and uids that constraints contain.
 pub mod iters {
     pub use cedar_action::iters::ActionTypeNames;
     pub use cedar_scope::iters::ConstraintTypeNames;
 }
 
-/// What lines share: their fields, a field that is a uid, the types that such fields name, texts in the room of others, and
-/// lines that are written.
+/// Functions on input lines: their fields, uids as fields, cached entity types, texts in reused buffers, and output
+/// lines.
 pub mod lines {
     pub use cedar_lines::field::uid_field;
     pub use cedar_lines::known_types::{KnownTypes, uid_in, uid_of_text};
@@ -152,20 +151,19 @@ pub mod lines {
     pub use cedar_lines::writing::push_line;
 }
 
-/// The lines on the store: reading them, and the store that they change, with the entities that wait for it.
+/// Commands on the store: reading them, and the store with its queued entities that they change.
 pub mod entity_lines {
     pub use cedar_entity_lines::{EntityCommand, KnownUids, LineStore, read_entity_command};
 }
 
-/// The lines on policy sets: reading them, and the two sets that they change.
+/// Commands on policy sets: reading them, and the two sets that they change.
 pub mod policy_lines {
     pub use cedar_lines::field::uid_field;
     pub use cedar_lines::known_types::KnownTypes;
     pub use cedar_policy_lines::{PolicyCommand, PolicySets, TemplateSlots, read_policy_command};
 }
 
-/// Ids, names, uids, values, expressions, entities, scope constraints, templates, policies and policy sets, at the
-/// original's path.
+/// Ids, names, uids, values, expressions, entities, scope constraints, templates, policies and policy sets.
 pub mod ast {
     pub use cedar_action::{ActionConstraint, ActionTypesError, EntityIterator};
     pub use cedar_annotation::{Annotation, Annotations};
@@ -183,43 +181,44 @@ pub mod ast {
         PolicySetTemplateRemovalError, PolicySetUnlinkError, PolicySetValidationError,
     };
     pub use cedar_scope::{
-        EntityReference, PrincipalConstraint, PrincipalOrResource, PrincipalOrResourceConstraint,
-        ResourceConstraint, ScopeVariable, VariableConstraint,
+        EntityReference, Principal, PrincipalConstraint, PrincipalOrResource,
+        PrincipalOrResourceConstraint, Resource, ResourceConstraint, ScopeVariable,
+        VariableConstraint,
     };
     pub use cedar_terms::{
         Expr, ExprNode, ExprValidationError, ExtensionValue, Literal, PartialValue, Slot, SlotId,
         StaticType, StaticallyTyped, Unknown, Value, ValueKind, Var, is_reserved_key,
     };
 
-    /// Annotations and their iterators, at the original's path: these two have the names of the store's.
+    /// Annotations and their iterators. The iterators have the same names as the store's.
     pub mod annotation {
         pub use cedar_annotation::annotation::{Annotation, Annotations, IntoIter, Iter};
     }
 }
 
-/// The store of entities, at the original's path.
+/// The store of entities.
 pub mod entities {
     pub use cedar_entities::{
         Dereference, Entities, EntitiesError, IntoIter, Iter, SharedEntity, TCComputation,
     };
 
-    /// The refusals of entities and of their store, at the original's path.
+    /// The errors of entities and of the store.
     pub mod err {
         pub use cedar_entities::EntitiesError;
     }
 }
 
-/// Locations and the refusals of reading, at the original's path.
+/// Source locations and parse errors.
 pub mod parser {
     pub use cedar_ids::Loc;
 
-    /// The refusals of reading.
+    /// Parse errors.
     pub mod err {
         pub use cedar_ids::ParseErrors;
     }
 }
 
-/// Nodes with edges and the closure calls, at the original's path.
+/// Graph nodes, and the functions that compute and check transitive closures.
 pub mod transitive_closure {
     pub use cedar_graph::{
         HasCycle, MissingTcEdge, Result, TCNode, TcError, Work, close_dag, compute_tc,

@@ -1,4 +1,4 @@
-//! The program's work, from bytes to bytes.
+//! The program: reads its input, runs the lines, and writes the output.
 ghost use Rattle.std.specs.Prelude.{◌≡◌, ◌≢◌, ◌<◌, ◌≤◌, ◌==◌, ◌∷◌, List, ℕ, length, take, IfOk, OnOk, IfSome, IfErr};
 ghost use Rattle.std.specs.Option.{option_copied};
 ghost use Rattle.std.specs.List.{slice_split};
@@ -17,22 +17,22 @@ use std::io::{ErrorKind, Read, Write};
 use std::{io, mem};
 use thiserror::Error;
 
-/// Why a run ended early.
+/// The reason why a run ended early.
 #[derive(Debug, Drop, Error)]
 pub enum RunError {
     /// A read failed. Nothing was written.
     #[error("read fault")]
     Read,
-    /// A write failed, or the flush after it. How much was written is not said.
+    /// A write or the flush after it failed. A part of the output may be written.
     #[error("write fault")]
     Write,
-    /// A growth was refused. Nothing was written.
+    /// An allocation failed, and nothing was written.
     #[error("out of memory")]
     Memory,
 }
 
-// The bytes that come next, at the front of the buffer, and how many these are: none at the end. A read that was
-// interrupted is made again, and so is never what failed.
+// Reads the next bytes into the front of the buffer, and returns their number, or 0 at the end of the input. Repeats an
+// interrupted read, so the error is never `Interrupted`.
 fn read_some<R: Read>(reader: &mut R, buffer: &mut [u8]) -> io::Result<usize>
     requires { 0 < length buffer.old }
     ensures bound { IfOk result (λ n. n ≤ length buffer.new) }
@@ -53,7 +53,7 @@ fn read_some<R: Read>(reader: &mut R, buffer: &mut [u8]) -> io::Result<usize>
     Err(io::Error::from(ErrorKind::Other))
 }
 
-// All bytes that a reader has left.
+// Reads a reader to its end.
 fn read_all<R: Read>(alloc: Global, reader: &mut R) -> Result<Vec<u8>, RunError>
     ensures bytes { IfOk result (λ v. IfSome (R.remaining reader.old) (λ xs. v.items ≡ xs)) }
     ensures end { OnOk result (IsAtEnd (R.remaining reader.new)) }
@@ -72,7 +72,7 @@ fn read_all<R: Read>(alloc: Global, reader: &mut R) -> Result<Vec<u8>, RunError>
     Err(RunError::Read)
 }
 
-// What stands before the first line feed, and what stands behind it, if there is one.
+// Splits at the first line feed. Returns the bytes before it, and the bytes after it if there is a line feed.
 fn first_line(input: &[u8]) -> (&[u8], Option<&[u8]>)
     ensures lines { slice_split (λ b. b == 10) input.now ≡ result.0.now ∷ lines_left (option_copied result.1) }
     ensures shorter { IfSome result.1 (λ rest. length rest.now < length input.now) }
@@ -89,8 +89,8 @@ fn first_line(input: &[u8]) -> (&[u8], Option<&[u8]>)
     }
 }
 
-// What is written for an input, the status, and the session as it stands then. Nothing is kept of a line that was
-// taken but what the session and the output have of it.
+// Runs all lines of the input. Returns the output, the status, and the session in its final state. All lines share one
+// buffer of fields.
 fn answer<S: BuildHasher + Copy>(
     alloc: Global,
     hasher: S,
@@ -115,7 +115,7 @@ fn answer<S: BuildHasher + Copy>(
     Ok((out, 0, session))
 }
 
-// Writes all of these bytes, and flushes.
+// Writes all of the bytes, and flushes.
 fn send<W: Write>(writer: &mut W, bytes: &[u8]) -> Result<(), RunError>
     ensures sent { OnOk result (Appends (W.contents writer.old) (W.contents writer.new) bytes.now) }
     ensures err { IfErr result (λ e. Leaves e (writer.new ≡ writer.old)) }
@@ -124,7 +124,7 @@ fn send<W: Write>(writer: &mut W, bytes: &[u8]) -> Result<(), RunError>
     writer.flush().map_err(|_| RunError::Write)
 }
 
-// Reads the input to its end, writes its output, and answers the status and the session as it stands then.
+// Reads the input to its end and writes its output. Returns the status and the session in its final state.
 fn run_by<S: BuildHasher + Copy, R: Read, W: Write>(
     alloc: Global,
     hasher: S,
@@ -143,19 +143,33 @@ fn run_by<S: BuildHasher + Copy, R: Read, W: Write>(
     Ok((status, session))
 }
 
-/// Reads the input to its end, and writes its output: what each line that is a command writes, up to the
-/// first line that is none. The status is 0, or 2 after a line that is no command.
+/// Runs the commands of an input. Reads the input to its end, and writes the output of each line. Stops at the first
+/// line that is not a command. Returns 0, or 2 after a line that is not a command.
 ///
-/// `Read` comes where a read failed and `Memory` where a growth was refused, and then nothing was written;
-/// `Write` comes where the write or the flush failed.
+/// The maps hash ids with a fixed seed. If untrusted parties choose the ids, use [`run_with`] with a randomly keyed
+/// builder.
 ///
-/// Takes memory. Reading and writing take time linear in the input and the output. Besides, `build` closes the
-/// whole store; `add`, `upsert` and `remove` walk over the store and close what they touch; `anc` sorts the
-/// ancestors that it writes; and a line on policy sets costs what the call on the set does. The program is this
-/// project's own.
+/// # Errors
 ///
-/// Its maps hash by a fixed seed, so that whoever picks the ids of an input can make it slow: where strangers do,
-/// [`run_with`] takes a builder of hashers that has a random key.
+/// - `Read`: a read failed. Nothing was written.
+/// - `Write`: a write or the flush failed. A part of the output may be written.
+/// - `Memory`: an allocation failed, and nothing was written.
+///
+/// # Complexity
+///
+/// O(n) for reading and writing, where n is the size of the input and the output. The commands cost more:
+///
+/// - `build` computes the closure of the whole store.
+/// - `add`, `upsert` and `remove` find the affected entities as `Entities` describes, and recompute their ancestors.
+/// - `slice` costs as much as [`slice`](crate::slice).
+/// - `anc` sorts the ancestors that it writes.
+/// - A command on a policy set costs as much as the call on the set.
+///
+/// Allocates the whole input and output, the store and the policy sets.
+///
+/// # Differences from cedar-policy-core
+///
+/// The original has no such function.
 pub fn run<R: Read, W: Write>(alloc: Global, reader: &mut R, writer: &mut W) -> Result<u8, RunError>
     ensures { IsRun R.remaining W.contents result reader.old reader.new writer.old writer.new }
 {
@@ -163,7 +177,13 @@ pub fn run<R: Read, W: Write>(alloc: Global, reader: &mut R, writer: &mut W) -> 
     run_with(alloc, hasher, reader, writer)
 }
 
-/// Does what [`run`] does, by maps that hash by what `hasher` builds, which no answer shows.
+/// Runs the commands of an input as [`run`] does, with maps that use this builder of hashers. The choice of hasher
+/// never changes the output.
+///
+/// # Errors
+///
+/// - `Read`, `Write`: in the same cases as [`run`].
+/// - `Memory`: an allocation failed, and nothing was written.
 pub fn run_with<S: BuildHasher + Copy, R: Read, W: Write>(
     alloc: Global,
     hasher: S,
@@ -177,9 +197,20 @@ pub fn run_with<S: BuildHasher + Copy, R: Read, W: Write>(
     Ok(status)
 }
 
-/// Does what [`run`] does, and leaves the entities and policies that the input made where they are: their memory is not
-/// given back. So it is for a program that ends then, whose memory goes with it, and saves the time of letting go of
-/// each. Where it is refused all is given back. It is this project's own.
+/// Runs the commands of an input as [`run`] does, and leaks the entities and policies that the input created. A program
+/// that exits afterwards saves the time to drop them. After an error nothing is leaked.
+///
+/// The maps hash ids with a fixed seed. If untrusted parties choose the ids, use [`run_and_leave_with`] with a randomly
+/// keyed builder.
+///
+/// # Errors
+///
+/// - `Read`, `Write`: in the same cases as [`run`].
+/// - `Memory`: an allocation failed, and nothing was written.
+///
+/// # Differences from cedar-policy-core
+///
+/// The original has no such function.
 pub fn run_and_leave<R: Read, W: Write>(
     alloc: Global,
     reader: &mut R,
@@ -191,7 +222,13 @@ pub fn run_and_leave<R: Read, W: Write>(
     run_and_leave_with(alloc, hasher, reader, writer)
 }
 
-/// Does what [`run_and_leave`] does, by maps that hash by what `hasher` builds, which no answer shows.
+/// Runs the commands of an input as [`run_and_leave`] does, with maps that use this builder of hashers. The choice of
+/// hasher never changes the output.
+///
+/// # Errors
+///
+/// - `Read`, `Write`: in the same cases as [`run`].
+/// - `Memory`: an allocation failed, and nothing was written.
 pub fn run_and_leave_with<S: BuildHasher + Copy, R: Read, W: Write>(
     alloc: Global,
     hasher: S,

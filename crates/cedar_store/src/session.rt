@@ -1,8 +1,8 @@
-//! A session: what takes the lines of the program one by one, and answers each.
+//! A session, which runs the lines of the program one at a time.
 ghost use Rattle.std.specs.Prelude.{◌≡◌, ◌++◌, IfOk, OnOk, OnErr, IsErr, map};
 ghost use Rattle.cedar_store.specs.Command.{Entity, Policy};
 ghost use Rattle.cedar_store.specs.Sessions.{StandsAt, IsLost, Takes};
-ghost use Rattle.cedar_store.specs.laws.Sessions.{TakesKind};
+ghost use Rattle.cedar_store.specs.laws.Sessions.{TakesKind, begins_with_ent};
 ghost use Rattle.cedar_store.specs.Output.{State, start, not_command};
 
 use cedar_entity_lines::{KnownUids, LineStore, read_entity_command};
@@ -13,13 +13,19 @@ use std::alloc::{AllocError, Global};
 use std::hash::{BuildHasher, BuildHasherDefault, FoldHasher};
 use std::marker::Model;
 
-/// What takes the lines of the program and answers each: the store with the entities that wait for it, and the two
-/// policy sets. Contracts see what these hold; the session hashes by what `S` builds, which they do not see.
-/// [`run`](crate::run) goes over its input with one. It is this project's own.
+/// The state of the program between two lines: the store with its queued entities, and the two policy sets. A session
+/// runs lines and appends their output to a buffer. [`run`](crate::run) uses one for its input.
 ///
-/// A session to which memory was refused is lost: nothing is said of its store and of its sets then, and so it answers
-/// no further line.
-// The types and parents that are known by their texts say nothing of the state.
+/// After an allocation failure the session is lost: the state of its store and sets is unspecified, and each further
+/// line returns an error.
+///
+/// Contracts see the store, the queue, the policy sets and whether the session is lost, but not the builder of hashers.
+///
+/// # Differences from cedar-policy-core
+///
+/// The original has no such type.
+// `known` caches the entity types and parents of earlier lines. The cache is not a part of the state that contracts
+// see.
 #[derive(Drop)]
 pub struct Session<S: BuildHasher = BuildHasherDefault<FoldHasher>> {
     entities: LineStore<S>,
@@ -39,8 +45,16 @@ impl<S: BuildHasher> Model for Session<S> {
     ghost view = { λ s. record { entities = s.entities; policy_sets = s.sets; is_lost = s.is_lost } };
 }
 
-/// Adds to `out` that the line of this number is no command, as the program writes it: `line N: not a command` and a
-/// line feed. Where memory is refused nothing is said of what was added. Takes memory. It is this project's own.
+/// Appends to `out` the program's message for a line that is not a command: `line N: not a command` and a line feed,
+/// where `N` is the number of the line.
+///
+/// # Errors
+///
+/// Returns `AllocError` if an allocation fails. The bytes appended to `out` are then unspecified.
+///
+/// # Differences from cedar-policy-core
+///
+/// The original has no such function.
 pub fn push_not_command(alloc: Global, out: &mut Vec<u8>, number: usize) -> Result<(), AllocError>
     ensures { OnOk result (out.new.items ≡ out.old.items ++ not_command number) }
 {
@@ -48,11 +62,25 @@ pub fn push_not_command(alloc: Global, out: &mut Vec<u8>, number: usize) -> Resu
     push_line(out, text.as_str())
 }
 
+// Checks whether the first field is `ent`.
+fn begins_with_ent(fields: &[&str]) -> bool
+    ensures { result ≡ begins_with_ent (map (λ f. f.now) fields.now) }
+{
+    let Some((word, _rest)) = fields.split_first() else {
+        return false;
+    };
+    *word == "ent"
+}
+
 impl Session {
-    /// A session before its first line: nothing waits, the store is empty, and so are both policy sets. It hashes by a
-    /// fixed seed, so that whoever picks the ids of its lines can make it slow: where strangers do,
-    /// [`Session::with_hasher`] takes a builder of hashers that has a random key. Takes no memory. It is this
-    /// project's own.
+    /// Creates a session with an empty store, an empty queue and two empty policy sets. Does not allocate.
+    ///
+    /// The maps hash ids with a fixed seed. If untrusted parties choose the ids, use [`Session::with_hasher`] with a
+    /// randomly keyed builder.
+    ///
+    /// # Differences from cedar-policy-core
+    ///
+    /// The original has no such function.
     pub fn new(alloc: Global) -> Session
         ensures { StandsAt result start }
     {
@@ -61,7 +89,8 @@ impl Session {
 }
 
 impl<S: BuildHasher + Copy> Session<S> {
-    /// Does what [`Session::new`] does, for a session that hashes by what `hasher` builds.
+    /// Creates a session as [`Session::new`] does, with maps that use this builder of hashers. The choice of hasher
+    /// never changes the output.
     pub fn with_hasher(alloc: Global, hasher: S) -> Session<S>
         ensures { StandsAt result start }
     {
@@ -73,7 +102,7 @@ impl<S: BuildHasher + Copy> Session<S> {
         }
     }
 
-    // Takes the fields of a line on the store, and says whether they are those of one.
+    // Runs the fields of a line if they are a command on the store, and returns whether they are.
     fn take_on_store(
         &mut self,
         alloc: Global,
@@ -92,7 +121,7 @@ impl<S: BuildHasher + Copy> Session<S> {
         }
     }
 
-    // Takes the fields of a line on policy sets, and says whether they are those of one.
+    // Runs the fields of a line if they are a command on policy sets, and returns whether they are.
     fn take_on_sets(
         &mut self,
         alloc: Global,
@@ -106,11 +135,13 @@ impl<S: BuildHasher + Copy> Session<S> {
             .take_fields(alloc, self.known.types(), fields, out)
     }
 
-    // Takes a line, and says whether it is a command. What the fields are before and after says nothing: those of a
-    // line that is not empty are put there. An empty line is a command that does nothing, and is told before its fields
-    // are read. Lines of entities are the most of the others, so the store is asked for these first. Those on policy
-    // sets cost less than its commands, so that to ask for them next costs less of what a line does. A command goes from
-    // where it is read straight to what it is for.
+    // Runs a line if it is a command, and returns whether it is. `fields` is a buffer that callers reuse: its old
+    // content is ignored, and a line that is not empty overwrites it.
+    //
+    // The checks are in the order that is fastest for typical input. An empty line is recognized before its fields are
+    // read. Lines `ent` come first, since most lines declare entities. Lines on policy sets are checked next, because
+    // they are cheaper than the other commands on the store. A command is passed directly from its reader to the store
+    // or the sets.
     pub(crate) fn take_fields_of<'a>(
         &mut self,
         alloc: Global,
@@ -136,6 +167,10 @@ impl<S: BuildHasher + Copy> Session<S> {
         if on_sets {
             return Ok(true);
         }
+        // A line `ent` that was not queued is not a command, and is not read a second time.
+        if begins_with_ent(fields) {
+            return Ok(false);
+        }
         let on_store = self.take_on_store(alloc, fields, out)?;
         if on_store {
             return Ok(true);
@@ -143,30 +178,40 @@ impl<S: BuildHasher + Copy> Session<S> {
         Ok(false)
     }
 
-    /// Takes a line, given without its line feed, and says whether it is a command. One that is has its answer added
-    /// to `out`, which for some commands is empty; one that is none changes neither the session nor `out`, and what is
-    /// written of it is up to the caller: [`push_not_command`] writes what the program does. The lines are those of
-    /// `docs/PROGRAM.md`, and a line may be any bytes; an empty one is a command that does nothing.
+    /// Runs a line, given without its line feed, and returns whether it is a command. A line may contain any bytes. An
+    /// empty line is a command that does nothing. See `docs/PROGRAM.md` for the commands.
     ///
-    /// Want of memory is answered where a growth was refused. The session is lost then: nothing is said of what it
-    /// holds and of what was added to `out`, and each further line is answered so too, with nothing added.
+    /// A command appends its output to `out`, which can be empty. A line that is not a command changes neither the
+    /// session nor `out`. The caller can report it with [`push_not_command`], as the program does.
     ///
-    /// Takes memory. Reading the line takes time linear in it; besides, a line costs what its command does, as
-    /// [`run`](crate::run) says. It is this project's own.
+    /// # Errors
+    ///
+    /// Returns `AllocError` if an allocation fails. The session is lost then. The state of its store and sets and the
+    /// bytes appended to `out` are unspecified. In a lost session each further line returns `AllocError`, and appends
+    /// nothing.
+    ///
+    /// # Complexity
+    ///
+    /// O(n), where n is the length of the line, and the cost of the command (see [`run`](crate::run)). Allocates as the
+    /// command does.
+    ///
+    /// # Differences from cedar-policy-core
+    ///
+    /// The original has no such function.
     pub fn take_line(
         &mut self,
         alloc: Global,
         line: &[u8],
         out: &mut Vec<u8>,
     ) -> Result<bool, AllocError>
-        // In whatever state the session stands, it takes the line in that state.
+        // If the session is in a state, it runs the line in that state.
         ensures takes { IfOk result (λ known. (s : State) → StandsAt self.old s →
             Takes known line.now s self.new out.old.items out.new.items) }
 
-        // Where memory was refused the session is lost.
+        // After an allocation failure the session is lost.
         ensures lost { OnErr result (IsLost self.new) }
 
-        // A lost session stays so, and adds nothing.
+        // A lost session stays lost, and appends nothing.
         ensures stays { IsLost self.old → IsErr result × (out.new ≡ out.old) }
     {
         if self.is_lost {

@@ -1,4 +1,4 @@
-//! The program: the lines of standard input in, their answers to standard output.
+//! The program: it reads lines from standard input and writes the outputs for them to standard output.
 #![tactic(auto)]
 
 use cedar_keyed_hash::KeyedState;

@@ -1,5 +1,4 @@
-//! The tests of `cedar_store`: the program on the worked inputs and on
-//! readers and writers that fail.
+//! The tests of `cedar_store`: the program on worked inputs, and on readers and writers that fail.
 #![tactic(auto, using(cedar_ids::specs::laws::UidOfLaws::same_uid_decides))]
 
 #[cfg(test)]

@@ -1,4 +1,4 @@
-// The tests of lines and runs, and the ways to run that they try.
+// The tests of lines and runs, and the variants of a run that they use.
 mod edits;
 mod known_lines;
 mod line_by_line;
@@ -15,7 +15,7 @@ use std::io::{ErrorKind, Read, Write};
 use std::process::Abort;
 use std::test::Fail;
 
-// Two builders of hashers with keys.
+// Returns two hasher builders with keys.
 fn keys() -> (KeyedState, KeyedState) {
     (
         KeyedState::with_keys(1, 2),
@@ -23,14 +23,14 @@ fn keys() -> (KeyedState, KeyedState) {
     )
 }
 
-// A way to run: by the default builder of hashers or under a key, and giving the memory back or leaving it.
+// A variant of a run: with the default hasher builder or with a key, and freeing or leaking its memory.
 #[derive(Clone, Copy, Drop)]
 struct Way {
     key: Option<KeyedState>,
     leaves: bool,
 }
 
-// The three ways that leave the memory, or that give it back: by the default builder of hashers and under two keys.
+// Returns the three variants that leak memory, or that free it: with the default hasher builder and with two keys.
 fn ways(leaves: bool) -> [Way; 3] {
     let (one, other) = keys();
     [
@@ -46,7 +46,7 @@ fn ways(leaves: bool) -> [Way; 3] {
     ]
 }
 
-// What a run answers.
+// Runs a variant and returns its result.
 fn ran<R: Read, W: Write>(
     alloc: Global,
     way: Way,
@@ -61,7 +61,7 @@ fn ran<R: Read, W: Write>(
     }
 }
 
-// Whether a run in a way writes this, and ends with this status.
+// Checks whether a run of a variant has this output and this status.
 fn is_answered_by(alloc: Global, way: Way, input: &[u8], output: &[u8], status: u8) -> bool {
     let mut reader = input;
     let mut out = Vec::new(alloc);
@@ -71,7 +71,7 @@ fn is_answered_by(alloc: Global, way: Way, input: &[u8], output: &[u8], status: 
     told
 }
 
-// Whether a run by the default builder of hashers or under a key writes this, and ends with this status.
+// Checks whether a run with the default hasher builder, or with a key, has this output and this status.
 fn is_answered_under(
     alloc: Global,
     key: Option<KeyedState>,
@@ -83,20 +83,20 @@ fn is_answered_under(
     is_answered_by(alloc, way, input, output, status)
 }
 
-// Whether runs under two keys write this, and end with this status.
+// Checks whether runs with two keys have this output and this status.
 fn are_answered(alloc: Global, input: &[u8], output: &[u8], status: u8) -> bool {
     let (one, other) = keys();
     is_answered_under(alloc, Some(one), input, output, status)
         && is_answered_under(alloc, Some(other), input, output, status)
 }
 
-// Whether a run writes this, and ends with this status, and so do runs under two keys.
+// Checks whether a run with the default hasher builder, and runs with two keys, have this output and this status.
 fn is_answered(alloc: Global, input: &[u8], output: &[u8], status: u8) -> bool {
     is_answered_under(alloc, None, input, output, status)
         && are_answered(alloc, input, output, status)
 }
 
-// Each input, with what is written and the status that are due.
+// Checks each input, with its expected output and status.
 fn shows(rt: &impl Abort, alloc: Global, cases: &[(&[u8], &[u8], u8)]) -> Result<(), Fail> {
     for (input, output, status) in cases {
         assert!(rt; is_answered(alloc, input, output, *status), "{input:?}");
@@ -115,7 +115,7 @@ fn ancestors_are_found_over_parents(rt: HostRuntime) -> Result<(), Fail> {
                 b"ok 2\nanc\tA::\"b\"\tA::\"c\"\nno entity\n",
                 0,
             ),
-            // A chain given from its end, and one that forks and joins.
+            // A chain in reverse order, and a graph that forks and joins.
             (
                 b"ent\tA::\"d\"\nent\tA::\"c\"\tA::\"d\"\nent\tA::\"b\"\tA::\"c\"\nent\tA::\"a\"\tA::\"b\"\nbuild\nanc\tA::\"a\"\n",
                 b"ok 4\nanc\tA::\"b\"\tA::\"c\"\tA::\"d\"\n",
@@ -172,13 +172,13 @@ fn a_differing_duplicate_is_refused_and_an_equal_one_is_not(rt: HostRuntime) -> 
                 b"ok 1\nanc\tA::\"b\"\n",
                 0,
             ),
-            // Fewer and more parents differ; the first place that differs is named.
+            // Fewer and more parents are differences. The error names the first entity that differs.
             (
                 b"ent\tA::\"a\"\tA::\"b\"\nent\tA::\"c\"\nent\tA::\"c\"\tA::\"d\"\nent\tA::\"a\"\nbuild\n",
                 b"refused: duplicate A::\"c\"\n",
                 0,
             ),
-            // Before a cycle, wherever that stands in the list.
+            // A duplicate is reported before a cycle, wherever the cycle is in the list.
             (
                 b"ent\tA::\"x\"\tA::\"x\"\nent\tA::\"a\"\nent\tA::\"a\"\tA::\"b\"\nbuild\n",
                 b"refused: duplicate A::\"a\"\n",
@@ -200,7 +200,7 @@ fn a_cycle_is_refused(rt: HostRuntime) -> Result<(), Fail> {
                 b"refused: cycle\nno entity\n",
                 0,
             ),
-            // A cycle that the first entity only leads to.
+            // A cycle that does not contain the first entity.
             (
                 b"ent\tA::\"z\"\tA::\"a\"\nent\tA::\"a\"\tA::\"b\"\nent\tA::\"b\"\tA::\"a\"\nbuild\n",
                 b"refused: cycle\n",
@@ -226,13 +226,13 @@ fn each_build_starts_anew_and_empties_what_waits(rt: HostRuntime) -> Result<(), 
                 b"ok 1\nok 1\nno entity\nanc\n",
                 0,
             ),
-            // A refused build leaves an empty store and nothing that waits.
+            // A failed build leaves an empty store and an empty queue.
             (
                 b"ent\tA::\"a\"\nbuild\nent\tA::\"b\"\tA::\"b\"\nbuild\nanc\tA::\"a\"\nbuild\n",
                 b"ok 1\nrefused: cycle\nno entity\nok 0\n",
                 0,
             ),
-            // An entity that waits is not in the store yet.
+            // A queued entity is not in the store yet.
             (
                 b"ent\tA::\"a\"\nanc\tA::\"a\"\nbuild\nanc\tA::\"a\"\n",
                 b"no entity\nok 1\nanc\n",
@@ -332,7 +332,7 @@ fn escaped_eids_are_read_and_written_alike(rt: HostRuntime) -> Result<(), Fail> 
     )
 }
 
-// A reader that gives at most so many bytes at a time, and fails at one of its reads.
+// A reader that returns at most `most` bytes at a time, and fails after `good` reads.
 #[derive(Drop)]
 struct Failing<'a> {
     left: &'a [u8],
@@ -353,16 +353,16 @@ impl Read for Failing<'_> {
     }
 }
 
-// How many bytes the input has that is read in parts.
+// The number of bytes of the input.
 const READ: usize = 28;
 
-// Whether a run whose reader gives at most so many bytes at a time, and fails after so many good reads, writes nothing
-// and is refused for it, and one that needs no more writes all.
+// Checks a run whose reader returns at most `most` bytes at a time and fails after `good` reads. If the run needs more
+// reads, it must fail and write nothing, and otherwise it must write everything.
 fn is_read_whole(alloc: Global, way: Way, most: usize, good: usize) -> bool {
     let left = b"ent\tA::\"a\"\nbuild\nanc\tA::\"a\"\n".as_slice();
     let mut out = Vec::new(alloc);
     let answer = ran(alloc, way, &mut Failing { left, most, good }, &mut out);
-    // The last read tells that the input is at its end.
+    // The last read reports the end of the input.
     let is_enough = good.saturating_sub(1).saturating_mul(most) >= READ;
     let told = match answer {
         Ok(status) => status == 0 && out.as_slice() == b"ok 1\nanc\n".as_slice() && is_enough,
@@ -373,7 +373,7 @@ fn is_read_whole(alloc: Global, way: Way, most: usize, good: usize) -> bool {
     told
 }
 
-// Whether that is so after any number of good reads.
+// Checks this for any number of good reads.
 fn is_refused_for_reads(alloc: Global, way: Way, most: usize) -> bool {
     for good in 0..32 {
         if !is_read_whole(alloc, way, most, good) {
@@ -383,7 +383,7 @@ fn is_refused_for_reads(alloc: Global, way: Way, most: usize) -> bool {
     true
 }
 
-// Whether that is so of the ways that leave the memory, or that give it back.
+// Checks this for the variants that leak memory, or that free it.
 fn are_refused_for_reads(alloc: Global, leaves: bool, most: usize) -> bool {
     for way in ways(leaves) {
         if !is_refused_for_reads(alloc, way, most) {
@@ -402,7 +402,7 @@ fn a_failed_read_writes_nothing(rt: HostRuntime) {
     }
 }
 
-// A writer that takes at most so many bytes at a time, and fails at one of its writes or at the flush.
+// A writer that accepts at most `most` bytes at a time, and fails after `good` writes or at the flush.
 #[derive(Drop)]
 struct Full {
     taken: usize,
@@ -431,8 +431,8 @@ impl Write for Full {
     }
 }
 
-// Whether a run whose writer takes so many bytes at a time and so many good writes, and flushes or not, is refused for
-// it where it needs more.
+// Checks a run whose writer accepts `most` bytes at a time and `good` writes, and flushes or not. The run must fail if
+// it needs more.
 fn is_written_whole(alloc: Global, way: Way, most: usize, good: usize, flushes: bool) -> bool {
     let mut reader = b"ent\tA::\"a\"\nbuild\nanc\tA::\"a\"\n".as_slice();
     let mut writer = Full {
@@ -442,7 +442,7 @@ fn is_written_whole(alloc: Global, way: Way, most: usize, good: usize, flushes: 
         flushes,
     };
     let answer = ran(alloc, way, &mut reader, &mut writer);
-    // Nine bytes are written.
+    // The output has nine bytes.
     if good.saturating_mul(most) >= 9 && flushes {
         matches!(answer, Ok(0)) && writer.taken == 9
     } else {
@@ -450,7 +450,7 @@ fn is_written_whole(alloc: Global, way: Way, most: usize, good: usize, flushes: 
     }
 }
 
-// Whether that is so after any number of good writes.
+// Checks this for any number of good writes.
 fn is_refused_for_writes(alloc: Global, way: Way, most: usize) -> bool {
     for good in 0..11 {
         let flushed = is_written_whole(alloc, way, most, good, true);
@@ -461,7 +461,7 @@ fn is_refused_for_writes(alloc: Global, way: Way, most: usize) -> bool {
     true
 }
 
-// Whether that is so of the ways that leave the memory, or that give it back.
+// Checks this for the variants that leak memory, or that free it.
 fn are_refused_for_writes(alloc: Global, leaves: bool, most: usize) -> bool {
     for way in ways(leaves) {
         if !is_refused_for_writes(alloc, way, most) {
@@ -480,7 +480,7 @@ fn a_failed_write_or_flush_is_a_write_fault(rt: HostRuntime) {
     }
 }
 
-// Whether a fault has this text.
+// Checks whether an error has the expected text.
 fn says(alloc: Global, fault: RunError, want: &str) -> Result<bool, Fail> {
     let text = fault.to_string(alloc)?;
     let told = text.as_str() == want;

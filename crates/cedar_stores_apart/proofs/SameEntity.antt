@@ -1,4 +1,4 @@
--- Entities without ancestors get parents, and further ancestors but for these; so a copy is what it is a copy of.
+-- Entities without ancestors to which parents and indirect ancestors are added. A copy is equal to its source.
 use Rattle.std.specs.Prelude.{◌≡◌, Bool, true, false, not, ◌||◌, ◌&&◌, List, [], ◌∷◌, ◌++◌}
 use Rattle.std.proofs.Common.{ap, sym, refl, subst, ◌∙◌, cond, inl, inr}
 use Rattle.std.proofs.lemmas.Bool.{false≢true, or_cases}
@@ -20,7 +20,7 @@ and_false : (b : Bool) → (b && false) ≡ false
 and_false true = refl
 and_false false = refl
 
--- what has nothing has nothing when a uid is taken out
+-- An empty set stays empty after the removal of a uid.
 removed_none : (u : EntityUID) → set.remove (set.empty {R = uid_order}) u ≡ set.empty
 removed_none u = same_members (set.remove set.empty u) set.empty (λ q.
     set.contains-remove uid_order_total set.empty u q
@@ -28,7 +28,7 @@ removed_none u = same_members (set.remove set.empty u) set.empty (λ q.
     ∙ and_false (not (eq_by_cmp uid_order q u))
     ∙ sym (set.contains-empty uid_order q))
 
--- an entity without ancestors has the parents that came so far, and the next
+-- Adding the next parent to an entity extends the list of its parents by that uid.
 pub parents_next : (first old new : EntityView) (ys : List EntityUID) (p : EntityUID) → first.indirect ≡ set.empty
     → old ≡ record first { parents = set.from_list ys } → new ≡ record old {
       parents = set.insert old.parents p;
@@ -46,18 +46,18 @@ parents_next first old new ys p none so step =
       indirect = (ap (λ (s : UidValues). set.remove s p) none ∙ removed_none p ∙ sym none) i;
     }
 
--- where there is no parent, there is none yet
+-- An entity without parents has the parents of the empty list.
 pub no_parents : (e : EntityView) → e.parents ≡ set.empty → e ≡ record e { parents = set.from_list [] }
 no_parents e none = λ i. record e { parents = none i }
 
--- the parents are those of the list that was sorted
+-- The parents are the uids of the list before it was sorted.
 pub all_parents : (first new : EntityView) (ys ps : List EntityUID) (s : UidValues) → set.from_list ys ≡ s
     → s ≡ set.from_list ps → new ≡ record first { parents = set.from_list ys }
     → new ≡ record first { parents = set.from_list ps }
 all_parents first new ys ps s sorted same so =
     so ∙ ap (λ (t : UidValues). record first { parents = t }) (sorted ∙ same)
 
--- an entity without indirect ancestors has those that came, but for its parents
+-- The indirect ancestors are the added uids without the parents.
 pub above_added : (old new : EntityView) (ks : List EntityUID) → old.indirect ≡ set.empty
     → new ≡ record old {
       indirect = set.union old.indirect (set.difference (set.from_list ks) old.parents);
@@ -71,7 +71,7 @@ above_added old new ks none so =
     (ap (λ (s : UidValues). set.contains s q) none ∙ set.contains-empty uid_order q)) in
     so ∙ λ i. record old { indirect = alone i }
 
--- a set whose uids are those of two lists is the set of the second
+-- If a set has the members of us, and ks has the same members, the set of the list ks is that set.
 pub listed_as : (s : UidValues) (us ks : List EntityUID) → Lists s us
     → ((q : EntityUID) → is_member same_uid ks q ≡ is_member same_uid us q) → set.from_list ks ≡ s
 listed_as s us ks lists same =
@@ -90,7 +90,7 @@ or_last true false = refl
 or_last false true = refl
 or_last false false = refl
 
--- a set that has one uid more has those of the list with one more
+-- A set extended by a uid contains the uids of the list extended by that uid.
 pub put_next : (old new : Bool) (ys : List EntityUID) (k q : EntityUID) → old ≡ is_member same_uid ys q
     → new ≡ cond (same_uid k q) true old → new ≡ is_member same_uid (ys ++ k ∷ []) q
 put_next old new ys k q so step =
@@ -98,7 +98,7 @@ put_next old new ys k q so step =
     ∙ sym (list_any-append (same_uid q) ys (k ∷ [])
     ∙ ap (λ b. is_member same_uid ys q || b) (or_off (same_uid q k) ∙ sym (same_uid_equiv.symm k q)))
 
--- what holds of each of a list holds of a uid that it has
+-- A property of each uid of a list is true of any uid in the list.
 pub holds_of : (P : EntityUID → Type 0) (us : List EntityUID) (x : EntityUID) → AllByRecursion P us
     → is_member same_uid us x ≡ true → P x
 holds_of P [] x all m = absurd (false≢true m)
@@ -107,20 +107,20 @@ holds_of P (u ∷ us) x all m = elim (or_cases (same_uid x u) (is_member same_ui
   | inr r ↦ holds_of P us x all.1 r
 ]
 
--- whether a uid of one set is none of another, where none is in both
+-- If two sets are disjoint, a uid of one is not in the other.
 but_others : (p i : Bool) → (p ≡ true → i ≡ false) → (i && not p) ≡ i
 but_others true i h = and_false i ∙ sym (h refl)
 but_others false true h = refl
 but_others false false h = refl
 
--- a set without the uids of another of which it has none is as it was
+-- Removing the uids of a disjoint set leaves a set unchanged.
 nothing_less : (s t : UidValues) → ((q : EntityUID) → set.contains t q ≡ true → set.contains s q ≡ false)
     → set.difference s t ≡ s
 nothing_less s t none = same_members (set.difference s t) s (λ q.
     set.contains-difference uid_order_total s t q
     ∙ but_others (set.contains t q) (set.contains s q) (none q))
 
--- with its uid, its fields, its parents and its other ancestors the copy of an entity is that entity
+-- A copy with the same uid, fields, parents and indirect ancestors is equal to the entity.
 pub same_entity : (e a b c : EntityView) (ps us : List EntityUID) → IsApart e → Lists e.parents ps → Lists e.indirect us
     → a.uid ≡ e.uid → a.attrs ≡ e.attrs → a.tags ≡ e.tags → b ≡ record a { parents = set.from_list ps }
     → c ≡ record b { indirect = set.difference (set.from_list us) b.parents } → c ≡ e

@@ -1,4 +1,4 @@
--- Fields with ascending keys that hold the same at each key are the same, and so are those that are made of them.
+-- Fields with ascending keys are equal if they have the same value at each key.
 use Rattle.std.proofs.Common.{◌≡◌, ◌∙◌, ap, sym, refl, ℕ, List, [], ◌∷◌, Option, Some, None, Bool, true, false, cond}
 use Rattle.std.proofs.lemmas.Cmp.{nat_list_cmp_total}
 use Rattle.std.proofs.lemmas.Map.Lookups.{exact_bytes}
@@ -18,7 +18,7 @@ use Rattle.cedar_entity.specs.Fields.{AreFieldsOf, Fields, KeysAscend, field_at,
 unequal_keys : (k key : List ℕ) → slice_cmp nat_cmp key k ≡ Less → bytes_eq k key ≡ false
 unequal_keys k key h = nat_list_eq_equiv.symm k key ∙ sym (is_eq-slice_cmp key k) ∙ ap is_eq h
 
--- nothing stands at a key below all others
+-- There is no value at a key that is less than all keys.
 none_below : (key : List ℕ) (fs : Fields) → AllByRecursion (λ y. slice_cmp nat_cmp key y ≡ Less) (field_keys fs)
     → field_at key fs ≡ None
 none_below key [] h = refl
@@ -61,7 +61,7 @@ same_rest key f g fs gs false q e a b h =
     sym (ap (λ t. cond t (Some f.1) (field_at key fs)) q) ∙ h
     ∙ ap (λ t. cond t (Some g.1) (field_at key gs)) (ap (λ x. bytes_eq x key) (sym e) ∙ q)
 
--- fields whose keys ascend and that hold the same at each key are the same
+-- Fields with ascending keys and with the same value at each key are equal.
 same_fields : (fs gs : Fields) → IsStrictlySortedBy (slice_cmp nat_cmp) (field_keys fs)
     → IsStrictlySortedBy (slice_cmp nat_cmp) (field_keys gs)
     → ((key : List ℕ) → field_at key fs ≡ field_at key gs) → fs ≡ gs
@@ -93,7 +93,7 @@ last_by key f fs last false q a h =
     ap (λ t. cond t (Some f.1) (field_at key fs)) q ∙ h ∙ or_none last
     ∙ ap (λ t. option_or last (cond t (Some f.1) None)) (sym q)
 
--- where keys ascend, the first with a key is the last
+-- If keys are ascending, the first field with a key is also the last.
 first_is_last : (key : List ℕ) (fs : Fields) → IsStrictlySortedBy (slice_cmp nat_cmp) (field_keys fs)
     → field_at key fs ≡ last_at key fs
 unfolding IsStrictlySortedBy
@@ -101,7 +101,7 @@ first_is_last key [] s = refl
 first_is_last key (f ∷ fs) s =
     last_by key f fs (last_at key fs) (bytes_eq f.0 key) refl (none_below f.0 fs s.0) (first_is_last key fs s.1)
 
--- what is made of fields with ascending keys is these fields
+-- Fields that are made from fields with ascending keys are equal to them.
 pub made_same : (given fields copies : Fields) → KeysAscend fields → copies ≡ fields → AreFieldsOf copies given
     → given ≡ fields
 made_same given fields copies ascending same made =

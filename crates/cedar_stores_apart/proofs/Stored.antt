@@ -1,4 +1,4 @@
--- What a store made of the entities of another holds.
+-- The contents of a store that is made from the entities of another store.
 use Rattle.std.specs.Prelude.{◌≡◌, List, [], map, false}
 use Rattle.std.proofs.Common.{ap, sym, ◌∙◌}
 use Rattle.std.specs.FinMap as finmap
@@ -13,7 +13,7 @@ use Rattle.cedar_entities.specs.Present.{first_entity, with_first}
 use Rattle.cedar_entity_maps.specs.Plain.{keyed}
 use Rattle.cedar_entity_maps.specs.laws.Worlds.{get_joined}
 
--- where nothing is held, what is held then is the list alone
+-- If the entity map is empty, adding a list gives the entity map of the list.
 first_alone : (L : List EntityView) → with_first no_entities L ≡ finmap.from_entries (map keyed L)
 first_alone L =
     finmap.same_map uid_order_total one_equal (with_first no_entities L) (finmap.from_entries (map keyed L)) (λ q.
@@ -21,14 +21,14 @@ first_alone L =
     ∙ ap (λ o. option_or o (first_entity L q)) (sym (finmap.get-entries no_entities q) ∙ finmap.get-empty uid_order q)
     ∙ sym (get_joined [] (map keyed L) q))
 
--- so a store of all that is held holds that
+-- A store made from all entities of an entity map has that entity map.
 pub holds_all : (D : Held) (es copies : List EntityView) (s : StoreView) → ListsHeld D es → copies ≡ es
     → s.partial ≡ false → s.held ≡ with_first no_entities copies → s ≡ record { held = D; partial = false }
 holds_all D es copies s lists same flag held =
     let is : s.held ≡ D = held ∙ ap (with_first no_entities) same ∙ first_alone es ∙ lists.held in
     λ i. record { held = is i; partial = flag i }
 
--- with the flag of the other it is the other
+-- With the same partial flag, it is equal to the other store.
 pub as_partial : (whole held copy : StoreView) → held ≡ record { held = whole.held; partial = false }
     → copy ≡ record { held = held.held; partial = whole.partial } → copy ≡ whole
 as_partial whole held copy is flagged =

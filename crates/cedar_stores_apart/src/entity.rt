@@ -1,4 +1,4 @@
-//! Copies of entities.
+//! Deep copies of entities.
 ghost use Rattle.std.specs.Prelude.{◌≡◌, IfOk, OnOk, false};
 ghost use Rattle.std.specs.FinSet as set;
 ghost use Rattle.cedar_entity_maps.specs.Plain.{IsApart};
@@ -12,7 +12,7 @@ use std::alloc::{AllocError, Global};
 use std::collections::HashSet;
 use std::hash::BuildHasher;
 
-// Whether a parent is an indirect ancestor too.
+// Returns whether a parent is also an indirect ancestor.
 fn has_overlap(entity: &Entity) -> bool
     ensures { result ≡ false → IsApart entity.now }
 {
@@ -24,7 +24,7 @@ fn has_overlap(entity: &Entity) -> bool
     false
 }
 
-// An entity with a uid and copies of the attributes and tags of an entity, and without ancestors.
+// Creates an entity with a uid and with copies of the attributes and tags of `entity`, without ancestors.
 fn with_fields_of(alloc: Global, uid: EntityUID, entity: &Entity) -> Result<Entity, AllocError>
     ensures uid { IfOk result (λ e. e.uid ≡ uid) }
     ensures attrs { IfOk result (λ e. e.attrs ≡ entity.now.attrs) }
@@ -40,7 +40,7 @@ fn with_fields_of(alloc: Global, uid: EntityUID, entity: &Entity) -> Result<Enti
     Ok(made)
 }
 
-// An entity without ancestors gets parents, which stay shared. They are put in ascending, each behind the one before.
+// Adds shared parents to an entity without ancestors. Adds them in ascending order, so each is appended.
 fn add_parents(entity: &mut Entity, parents: Vec<SharedUid>) -> Result<(), AllocError>
     requires parents { entity.old.parents ≡ set.empty }
     requires indirect { entity.old.indirect ≡ set.empty }
@@ -53,7 +53,7 @@ fn add_parents(entity: &mut Entity, parents: Vec<SharedUid>) -> Result<(), Alloc
     Ok(())
 }
 
-// An entity without indirect ancestors gets these, which stay shared, but for its parents.
+// Adds shared indirect ancestors to an entity without indirect ancestors. Parents are skipped.
 fn add_above(entity: &mut Entity, above: Vec<SharedUid>) -> Result<(), AllocError>
     requires { entity.old.indirect ≡ set.empty }
     ensures { OnOk result (entity.new ≡ record entity.old {
@@ -64,7 +64,7 @@ fn add_above(entity: &mut Entity, above: Vec<SharedUid>) -> Result<(), AllocErro
     Ok(())
 }
 
-// A copy of an entity none of whose parents is an indirect ancestor too. Its uids are shared within the copy.
+// Copies an entity if no parent is also an indirect ancestor. The uids are shared within the copy.
 fn entity_of_shared<S: BuildHasher + Clone>(
     alloc: Global,
     own: &mut OwnUids<S>,
@@ -82,12 +82,16 @@ fn entity_of_shared<S: BuildHasher + Clone>(
     Ok(copy)
 }
 
-/// A copy of an entity, which shares nothing with it, and has no locations. Its uids are those of the copy that it is to
-/// be a part of.
+/// Creates a deep copy of an entity, which shares nothing with it and has no locations. The uids of the copy come from
+/// `own`, which is the table of the uids of a larger copy.
 ///
-/// It takes memory, and is refused where that is, and where the copy of an attribute or a tag is, as
-/// [`cedar_apart::partial_apart`] says. Where a parent is an indirect ancestor too, which validation refuses, the uids
-/// of its ancestors are its own; else they are shared within the copy.
+/// If a parent is also an indirect ancestor, the copy has uids of its own for its ancestors. Validation returns an
+/// error for such an entity. Otherwise the ancestors are shared within the larger copy.
+///
+/// # Errors
+///
+/// Returns `AllocError` if an allocation fails, or if the copy of an attribute or a tag fails as
+/// [`cedar_apart::partial_apart`] describes.
 pub fn entity_apart<S: BuildHasher + Clone>(
     alloc: Global,
     own: &mut OwnUids<S>,

@@ -1,7 +1,8 @@
-//! Copies of entities and of stores that share nothing with what they are copies of, so that they may go to another
-//! thread.
+//! Deep copies of entities and stores. A copy shares nothing with its source, so it can be sent to another thread.
 //!
-//! Proved: each copy is equal to its source, and a copy of a store that is known to be plain is known to be plain.
+//! Each copy is equal to its source, and the copy of a plain store of an input store is a plain store of that input
+//! store. Both facts are proved. No contract describes whether the copy knows that it is plain. That fact affects only
+//! the cost of edits of the copy.
 #![tactic(auto, using(cedar_ids::specs::laws::UidOfLaws::same_uid_decides))]
 
 pub mod entity;

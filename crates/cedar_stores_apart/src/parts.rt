@@ -1,4 +1,4 @@
-//! Copies of what entities have: attributes or tags, and uids.
+//! Deep copies of the parts of entities: attributes, tags and uids.
 ghost use Rattle.std.specs.Prelude.{◌≡◌, IfOk};
 ghost use Rattle.cedar_entity.specs.Fields.{fields_of};
 
@@ -8,7 +8,7 @@ use cedar_terms::PartialValue;
 use std::alloc::{AllocError, Global};
 use std::hash::BuildHasher;
 
-// Copies of attributes or tags.
+// Copies attributes or tags.
 pub(crate) fn fields_apart(
     alloc: Global,
     fields: Pairs<'_>,
@@ -24,7 +24,7 @@ pub(crate) fn fields_apart(
     Ok(copies)
 }
 
-// The uids of a copy that are equal to some uids, shared.
+// Returns the shared uids in `own` that are equal to the given uids.
 pub(crate) fn uids_apart<S: BuildHasher + Clone>(
     alloc: Global,
     own: &mut OwnUids<S>,

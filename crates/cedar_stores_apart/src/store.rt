@@ -1,8 +1,9 @@
-//! Copies of stores.
+//! Deep copies of stores.
 ghost use Rattle.std.specs.Prelude.{◌≡◌, IfOk, false};
 ghost use Rattle.std.specs.Option.{IfSome};
 ghost use Rattle.cedar_entities.specs.Answers.{ListsHeld};
-ghost use Rattle.cedar_entity_maps.specs.Plain.{StoreView};
+ghost use Rattle.cedar_entity_maps.specs.Plain.{IsPlainStore, StoreView};
+ghost use Rattle.cedar_entity_maps.specs.World.{World};
 
 use crate::entity::entity_apart;
 use cedar_apart::OwnUids;
@@ -10,7 +11,7 @@ use cedar_entities::{Entities, Entity, Iter, TCComputation};
 use std::alloc::{AllocError, Global};
 use std::hash::BuildHasher;
 
-// Copies of entities, with the uids of one copy.
+// Copies entities. The copies use the uids in `own`.
 fn all_apart<S: BuildHasher + Clone>(
     alloc: Global,
     own: &mut OwnUids<S>,
@@ -25,7 +26,7 @@ fn all_apart<S: BuildHasher + Clone>(
     Ok(copies)
 }
 
-// A store of copies of the entities of a store. It is not partial, and not known to be plain.
+// Creates a store of copies of the entities of a store. The result is not partial, and does not know that it is plain.
 fn held_apart<S: BuildHasher + Clone>(
     alloc: Global,
     store: &Entities<S>,
@@ -42,7 +43,7 @@ fn held_apart<S: BuildHasher + Clone>(
     }
 }
 
-// The store with the same entities, partial or not as another is.
+// Returns the store with the same entities, partial exactly if `other` is.
 fn partial_as<S: BuildHasher + Clone>(store: Entities<S>, other: &Entities<S>) -> Entities<S>
     requires { store.partial ≡ false }
     ensures { result ≡ record { held = store.held; partial = other.now.partial } }
@@ -54,17 +55,25 @@ fn partial_as<S: BuildHasher + Clone>(store: Entities<S>, other: &Entities<S>) -
     }
 }
 
-/// A copy of a store, which shares nothing with it, and has no locations: its entities, partial or not as it is. It
-/// hashes uids as the store does. What the copy holds in several places is shared within it, as in the store.
+/// Creates a deep copy of a store, which shares nothing with it and has no locations. The copy is partial exactly if
+/// the store is, and uses the same hasher builder. Uids that occur in several places are shared within the copy, as in
+/// the store.
 ///
-/// It takes memory, and is refused where that is, and where the copy of an entity is, as [`entity_apart`] says. It walks
-/// all entities, and writes and reads each attribute and each tag; no ancestor is computed. Where the store knows that
-/// its ancestors are what the parents imply, the copy knows it too: edits of it cost what edits of the store do.
+/// If the store knows that it is plain, so does the copy. Edits of the copy then cost the same as edits of the store.
+///
+/// # Errors
+///
+/// Returns `AllocError` if an allocation fails, or if the copy of an entity fails as [`entity_apart`] describes.
+///
+/// # Complexity
+///
+/// Copies every entity. Encodes and decodes each attribute and each tag. Computes no ancestors.
 pub fn entities_apart<S: BuildHasher + Clone>(
     alloc: Global,
     store: &Entities<S>,
 ) -> Result<Entities<S>, AllocError>
-    ensures { IfOk result (λ s. s ≡ store.now) }
+    ensures value { IfOk result (λ s. s ≡ store.now) }
+    ensures plain { IfOk result (λ s. (W : World) → IsPlainStore W store.now → IsPlainStore W s) }
 {
     let held = held_apart(alloc, store)?;
     let copy = partial_as(held, store);

@@ -1,4 +1,4 @@
-//! Copies of entities a parent of which is an indirect ancestor too.
+//! Deep copies of entities in which a parent is also an indirect ancestor.
 ghost use Rattle.std.specs.Prelude.{◌≡◌, IfOk};
 ghost use Rattle.std.specs.HashSet.{contains};
 ghost use Rattle.std.specs.Set.{is_member};
@@ -13,7 +13,7 @@ use std::alloc::{AllocError, Global};
 use std::collections::HashSet;
 use std::hash::BuildHasher;
 
-// Copies of some uids, as a hash set.
+// Copies uids into a hash set.
 fn set_apart<S: BuildHasher + Clone>(
     alloc: Global,
     own: &mut OwnUids<S>,
@@ -29,7 +29,7 @@ fn set_apart<S: BuildHasher + Clone>(
     Ok(set)
 }
 
-// A copy of an entity, whatever its ancestors, with sets of uids of its own.
+// Copies an entity with any ancestors. The copy has its own sets of uids.
 pub(crate) fn entity_of_own_sets<S: BuildHasher + Clone>(
     alloc: Global,
     own: &mut OwnUids<S>,

@@ -1,4 +1,4 @@
--- The answers to lines, one after another, and what they make of a run's output.
+-- The outputs for lines, one after another, as the output of a run.
 use Rattle.std.proofs.Common.{◌≡◌, ℕ, ◌+◌, ◌==◌, List, [], ◌∷◌, ◌++◌, length, refl, sym, ap, subst, ◌∙◌, append_assoc}
 use Rattle.std.proofs.Common.{append-nil, inl, inr, arith}
 use Rattle.std.specs.List.{slice_split}
@@ -10,7 +10,7 @@ use Rattle.cedar_talk.specs.declared.manner.Manner.{Manner}
 use Rattle.cedar_talk.specs.declared.manner.Manner.TheVariants.{Strict}
 use Rattle.cedar_talk.proofs.Parting.{heard_parts}
 
--- a line more is answered last
+-- One more line is processed at the end.
 pub answers_more : (m : Manner) (n k : ℕ) (s t u : State) (lines : List (List ℕ)) (line out said : List ℕ)
     → k ≡ n + length lines
     → AnswersFrom m n s lines t out → Answers m k t line u said → AnswersFrom m n s (lines ++ line ∷ []) u (out ++ said)
@@ -36,7 +36,7 @@ answers_more m n k s t u (l ∷ lines) line out said e h a = (
 after_after : (a b : List ℕ) (w : Written) → after a (after b w) ≡ after (a ++ b) w
 after_after a b w = λ i. record { bytes = sym (append_assoc a b w.bytes) i; status = w.status }
 
--- what is answered strictly begins a run's output
+-- A strict output is the beginning of the output of a run.
 pub begins_output : (n k : ℕ) (s t : State) (lines rest : List (List ℕ)) (out : List ℕ) (w : Written)
     → k ≡ n + length lines
     → AnswersFrom Strict n s lines t out → IsOutputFrom k t rest w → IsOutputFrom n s (lines ++ rest) (after out w)
@@ -59,7 +59,7 @@ begins_output n k s t (l ∷ lines) rest out w e h r = elim h.3 [
   | inr c ↦ absurd c.0
 ]
 
--- an empty line at the end writes nothing
+-- An empty line at the end has no output.
 nothing_more : (n : ℕ) (s : State) → IsOutputFrom n s ([] ∷ []) (record { bytes = []; status = 0 })
 unfolding IsOutputFrom
 nothing_more n s = inl (Nothing, s, [], record { bytes = []; status = 0 }, (refl, refl), (refl, refl), refl, refl)
@@ -82,7 +82,7 @@ all_is_output lines (b ∷ bs) out t a =
     (begins_output 1 (1 + length all) start t all [] out (record { bytes = []; status = 0 }) refl a
     (no_more (1 + length all) t)))
 
--- the answers to all lines of an input are a run's output
+-- The outputs for all lines of an input are the output of a run.
 pub strict_output : (input out : List ℕ) → AnswersAll Strict input out
     → IsOutput input (record { bytes = out; status = 0 })
 strict_output input out a =
@@ -94,7 +94,7 @@ refused_last : (n : ℕ) (s : State) (line : List ℕ) (rest : List (List ℕ)) 
 unfolding IsOutputFrom
 refused_last n s line rest none = inr (none, refl)
 
--- a line that is no command ends a run's output
+-- An invalid line ends the output of a run.
 pub ends_output : (input : List ℕ) (lines rest : List (List ℕ)) (line out : List ℕ) (n : ℕ) (t : State)
     → slice_split (λ b. b == 10) input ≡ lines ++ line ∷ rest
     → n ≡ 1 + length lines → AnswersFrom Strict 1 start lines t out → ((c : Command) → IsLine c line → ⊥)

@@ -1,4 +1,4 @@
--- A conversation, one byte further and at the end of its input.
+-- A conversation after one more byte, and at the end of its input.
 use Rattle.std.proofs.Common.{◌≡◌, ℕ, ◌+◌, ◌==◌, List, [], ◌∷◌, ◌++◌, length, Bool, true, false, refl, sym, ap, subst}
 use Rattle.std.proofs.Common.{◌∙◌, append_assoc, append-nil, inl, inr, arith}
 use Rattle.std.specs.Prelude.{◌≢◌, ◌<◌}
@@ -15,7 +15,7 @@ use Rattle.cedar_talk.specs.declared.manner.Manner.TheVariants.{Strict}
 use Rattle.cedar_talk.proofs.Parting.{byte_heard, feed_heard, last_line, heard_parts, parts_go_on}
 use Rattle.cedar_talk.proofs.Answering.{answers_more, ends_output}
 
--- nothing has been heard
+-- Nothing was received.
 pub begins : {S H : Type 0} (k : Conversation S H) → StandsAt k.session start → k.part.items ≡ [] → k.ended ≡ 0
     → Has k [] []
 unfolding AnswersFrom
@@ -29,14 +29,14 @@ begins k stands part count = record {
   answers = (refl, refl);
 }
 
--- ---- a line
+-- ---- A line
 
--- a command
+-- A command.
 pub taken_answers : (m : Manner) (n : ℕ) (s : State) (line : List ℕ) (v : SessionView) (old new : List ℕ)
     → Takes true line s v old new → IsAnswered true m n s line v old new
 taken_answers m n s line v old new h = (h.1, h.2, inl (h.0, h.3, h.4), h.5, h.6)
 
--- a line that is no command
+-- A line that is not a command.
 pub refused_answers : (on : Bool) (m : Manner) (n : ℕ) (s : State) (line : List ℕ) (v : SessionView)
     (old mid new : List ℕ) → Takes false line s v old mid → IsRefused on m n line mid new
     → IsAnswered on m n s line v old new
@@ -49,9 +49,9 @@ refused_answers true m n s line v old mid new h r = (
 )
 refused_answers false m n s line v old mid new h r = (r.0, h.0, r.1 ∙ ap (λ z. z ++ not_command n) h.2)
 
--- ---- a byte
+-- ---- A byte
 
--- a byte that is no line feed
+-- A byte that is not a line feed.
 pub byte_comes : {S H : Type 0} (old new : Conversation S H) (b : ℕ) (xs out : List ℕ) → b ≢ 10
     → new.session ≡ old.session → new.manner ≡ old.manner → new.ended ≡ old.ended
     → new.part.items ≡ old.part.items ++ b ∷ [] → Has old xs out → Has new (xs ++ b ∷ []) out
@@ -65,7 +65,7 @@ byte_comes old new b xs out n session manner count part h = record {
   answers = subst (λ m. AnswersFrom m 1 start h.heard.lines h.state out) (sym manner) h.answers;
 }
 
--- a line feed, where the line is answered and the conversation goes on
+-- A line feed, after which the conversation continues.
 line_comes : {S H : Type 0} (old new : Conversation S H) (xs out before after : List ℕ)
     → ((s : State) → StandsAt old.session s
     → IsAnswered true old.manner new.ended s old.part.items new.session before after)
@@ -94,7 +94,7 @@ line_comes old new xs out before after answered manner count part h =
     grown [] l = refl
     grown (k ∷ ls) l = omega (arith, grown ls l)
 
--- a line that ends the conversation, wherever the input goes on
+-- A line that ends the conversation, whatever input follows.
 line_ends : {S H : Type 0} (k : Conversation S H) (v : SessionView) (n : ℕ) (xs input was out before after : List ℕ)
     (rest : List (List ℕ))
     → ((s : State) → StandsAt k.session s → IsAnswered false k.manner n s k.part.items v before after) → n ≡ k.ended + 1
@@ -112,7 +112,7 @@ line_ends k v n xs input was out before after rest answered count same h parts =
           (subst (λ l. (c : Command) → IsLine c l → ⊥) h.part a.1)),
     )
 
--- a line feed
+-- A line feed.
 pub feed_comes : {S H : Type 0} (on : Bool) (old new : Conversation S H) (b : ℕ) (before after : List ℕ) → b ≡ 10
     → ((s : State) → StandsAt old.session s
     → IsAnswered on old.manner new.ended s old.part.items new.session before after)
@@ -127,9 +127,9 @@ feed_comes false old new b before after is answered manner count part =
     (slice_split (λ c. c == 10) rest) answered count refl h
     (ap (λ c. slice_split (λ d. d == 10) ((xs ++ c ∷ []) ++ rest)) is ∙ parts_go_on xs h.heard rest h.is_heard)
 
--- ---- one step after another
+-- ---- Steps in sequence
 
--- no byte
+-- No byte.
 pub hears_none : {S H : Type 0} (k : Conversation S H) (before : List ℕ) → Hears true k [] k before before
 hears_none k before = (refl, λ xs out h. subst (λ ys. Has k ys (out ++ before)) (sym (append-nil xs)) h)
 
@@ -140,7 +140,7 @@ hears_then old mid new bs cs b m a f g = (
   λ xs out h. subst (λ ys. Has new ys (out ++ a)) (append_assoc xs bs cs) (g.1 (xs ++ bs) out (f.1 xs out h)),
 )
 
--- the conversation ends before all of the bytes are heard
+-- The conversation ends before all of the bytes are received.
 pub ends_then : {S H : Type 0} (old mid new : Conversation S H) (bs cs ds b m a : List ℕ) → Hears true old bs mid b m
     → Hears false mid cs new m a → Hears false old ((bs ++ cs) ++ ds) new b a
 ends_then old mid new bs cs ds b m a f g = λ xs out rest h. (
@@ -154,9 +154,9 @@ ends_then old mid new bs cs ds b m a f g = λ xs out rest h. (
       ∙ ap (λ z. xs ++ z) (sym (append_assoc (bs ++ cs) ds rest))
       ∙ sym (append_assoc xs ((bs ++ cs) ++ ds) rest)
 
--- ---- the end of the input
+-- ---- The end of the input
 
--- a last line that is not empty
+-- A last line that is not empty.
 last_comes : {S H : Type 0} (k : Conversation S H) (v : SessionView) (n : ℕ) (xs out after : List ℕ)
     → ((s : State) → StandsAt k.session s → IsAnswered true k.manner n s k.part.items v [] after) → n ≡ k.ended + 1
     → 0 < length k.part.items
@@ -176,7 +176,7 @@ last_comes k v n xs out after answered count some h =
       ),
     )
 
--- a last line
+-- A last line.
 pub last_closes : {S H : Type 0} (on : Bool) (k : Conversation S H) (v : SessionView) (n : ℕ) (after : List ℕ)
     → ((s : State) → StandsAt k.session s → IsAnswered on k.manner n s k.part.items v [] after) → n ≡ k.ended + 1
     → 0 < length k.part.items → Closes on k after
@@ -185,12 +185,11 @@ last_closes false k v n after answered count some =
     λ xs out h. line_ends k v n xs xs out out [] after [] answered count (sym (append-nil out)) h
     (heard_parts xs h.heard h.is_heard)
 
--- no byte is there
 pub none_there : (xs : List ℕ) → length xs ≡ 0 → xs ≡ []
 none_there [] e = refl
 none_there (x ∷ xs) e = absurd (omega (arith, e))
 
--- no last line
+-- No last line.
 pub none_comes : {S H : Type 0} (k : Conversation S H) (xs out after : List ℕ) → k.part.items ≡ [] → after ≡ []
     → Has k xs out → AnswersAll k.manner xs (out ++ after)
 none_comes k xs out after none e h = (

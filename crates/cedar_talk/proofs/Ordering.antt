@@ -30,11 +30,11 @@ unfolding passed AreInTurn
 turns_then m p [] ds a b = b
 turns_then m p (c ∷ cs) ds a b = (a.0, turns_then m (passed_by p c) cs ds a.1 b)
 
--- these bytes have come, and these were written and flushed
+-- The state after these bytes were received, and these were written and flushed.
 abbrev stand : List ℕ → List ℕ → Passed
 stand bytes out = record { came = bytes; written = out; flushed = out }
 
--- so it stands behind calls that were each in its turn
+-- The state after a list of allowed calls.
 abbrev pub StandsBehind : Manner → Option (List Call) → Option (List Call) → List ℕ → List ℕ → Type 0
 StandsBehind m c c' bytes out = (cs : List Call) × Notes c c' cs × AreInTurn m nothing cs
     × (passed nothing cs ≡ stand bytes out)
@@ -43,7 +43,7 @@ pub nothing_called : (m : Manner) (c : Option (List Call)) → StandsBehind m c 
 unfolding passed AreInTurn
 nothing_called m c = ([], notes_none c, tt, refl)
 
--- further calls
+-- Further calls.
 go_on : (m : Manner) (c c' c'' : Option (List Call)) (bytes out : List ℕ) (ds : List Call)
     → StandsBehind m c c' bytes out → AreInTurn m (stand bytes out) ds → Notes c' c'' ds
     → (cs : List Call) × Notes c c'' cs × AreInTurn m nothing cs × (passed nothing cs ≡ passed (stand bytes out) ds)
@@ -54,16 +54,16 @@ go_on m c c' c'' bytes out ds s turns notes = (
   passed_then nothing s.0 ds ∙ ap (λ p. passed p ds) s.3,
 )
 
--- ---- a read, and what was called behind it
+-- ---- A read, and the calls after it
 
--- a read in its turn
+-- An allowed read.
 pub record IsRead (m : Manner) (c c' c'' : Option (List Call)) (bytes out piece : List ℕ) : Type 0 where
   pub before : StandsBehind m c c' bytes out
   pub answered : AnswersEnded m bytes out
   pub bound : length piece ≤ 4096
   pub call : Notes c' c'' (Reads piece ∷ [])
 
--- what was heard so far was answered, so a read is in its turn
+-- The outputs for all received lines were written, so a read is allowed.
 pub read_in_turn : {S H : Type 0} (m : Manner) (c c' c'' : Option (List Call)) (r r' w w' : Option (List ℕ))
     (k : Conversation S H) (piece : List ℕ) → k.manner ≡ m → (s : SoFar r r' w w' k) → StandsBehind m c c' s.0 s.1
     → length piece ≤ 4096 → Notes c' c'' (Reads piece ∷ []) → IsRead m c c' c'' s.0 s.1 piece
@@ -84,7 +84,7 @@ then_called m c c' c'' c''' bytes out piece ds r turns notes =
     go_on m c c' c''' bytes out (Reads piece ∷ ds) r.before ((r.answered, refl, r.bound), turns)
     (notes_then c' c'' c''' (Reads piece ∷ []) ds r.call notes)
 
--- the answers were sent behind it
+-- The outputs were written after the read.
 pub more_called : (m : Manner) (c c' c'' c''' : Option (List Call)) (bytes out piece more : List ℕ)
     → IsRead m c c' c'' bytes out piece → Sends c'' c''' more
     → StandsBehind m c c''' (bytes ++ piece) (out ++ more)
@@ -92,26 +92,26 @@ unfolding passed AreInTurn
 more_called m c c' c'' c''' bytes out piece more r sends =
     then_called m c c' c'' c''' bytes out piece (Writes more ∷ Flushes ∷ []) r (tt, (tt, tt)) sends
 
--- ---- the end
+-- ---- The end
 
--- all was sent
+-- Everything was written and flushed.
 pub all_sent : (m : Manner) (x : ℕ) (c c' : Option (List Call)) (bytes out : List ℕ)
     → StandsBehind m c c' bytes out → IsInOrder m (Ok x) c c'
 all_sent m x c c' bytes out s = (s.0, s.1, s.2, ap (λ p. p.flushed) s.3 ∙ ap (λ p. p.written) (sym s.3))
 
--- a fault before a read
+-- An error before a read.
 pub fault_before : (m : Manner) (e : TalkError) (c c' : Option (List Call)) (bytes out : List ℕ)
     → StandsBehind m c c' bytes out → IsInOrder m (Err e) c c'
 fault_before m e c c' bytes out s = (s.0, s.1, s.2, tt)
 
--- a fault behind a read
+-- An error after a read.
 pub fault_behind : (m : Manner) (e : TalkError) (c c' c'' : Option (List Call)) (bytes out piece : List ℕ)
     → IsRead m c c' c'' bytes out piece → IsInOrder m (Err e) c c''
 unfolding passed AreInTurn
 fault_behind m e c c' c'' bytes out piece r =
     let a = then_called m c c' c'' c'' bytes out piece [] r tt (notes_none c'') in (a.0, a.1, a.2, tt)
 
--- a fault while the answers were sent
+-- An error while the outputs were written.
 pub fault_sending : (m : Manner) (e : TalkError) (c c' c'' c''' : Option (List Call)) (bytes out piece : List ℕ)
     → IsRead m c c' c'' bytes out piece → SendsAtMost c'' c''' → IsInOrder m (Err e) c c'''
 unfolding passed AreInTurn
@@ -120,7 +120,7 @@ fault_sending m e c c' c'' c''' bytes out piece r (inl none) =
 fault_sending m e c c' c'' c''' bytes out piece r (inr some) =
     let a = then_called m c c' c'' c''' bytes out piece (Writes some.0 ∷ []) r (tt, tt) some.1 in (a.0, a.1, a.2, tt)
 
--- the answer to the last line was sent, or that failed
+-- The output for the last line was written, or that failed.
 pub finishes : (m : Manner) (result : Result ℕ TalkError) (c c' c'' c''' : Option (List Call))
     (bytes out piece : List ℕ) → IsRead m c c' c'' bytes out piece
     → OnOk result ((more : List ℕ) × Sends c'' c''' more) → OnErr result (SendsAtMost c'' c''')

@@ -7,13 +7,13 @@ use Rattle.std.proofs.lemmas.List.{flat_map_more}
 use Rattle.std.proofs.lemmas.List.Splits.{slice_split-cons_yes, slice_split-cons_no}
 use Rattle.cedar_talk.specs.Heard.{Heard, IsHeard, IsUnbroken, ended, all_lines}
 
--- what holds of each and of one more holds of all
+-- A property of each element and of one more.
 all_then : {X : Type 0} (P : X → Type 0) (xs : List X) (x : X) → AllByRecursion P xs → P x
     → AllByRecursion P (xs ++ x ∷ [])
 all_then P [] x a p = (p, tt)
 all_then P (y ∷ xs) x a p = (a.0, all_then P xs x a.1 p)
 
--- a byte that is no line feed comes to the part
+-- A byte that is not a line feed is appended to the incomplete line.
 pub byte_heard : (xs : List ℕ) (h : Heard) (b : ℕ) → b ≢ 10 → IsHeard xs h
     → IsHeard (xs ++ b ∷ []) (record { lines = h.lines; part = h.part ++ b ∷ [] })
 byte_heard xs h b n is = record {
@@ -22,7 +22,7 @@ byte_heard xs h b n is = record {
   rest = all_then (λ c. c ≢ 10) h.part b is.rest n;
 }
 
--- a line feed ends the part
+-- A line feed completes the line.
 pub feed_heard : (xs : List ℕ) (h : Heard) → IsHeard xs h
     → IsHeard (xs ++ 10 ∷ []) (record { lines = h.lines ++ h.part ∷ []; part = [] })
 feed_heard xs h is = record {
@@ -32,7 +32,7 @@ feed_heard xs h is = record {
   rest = tt;
 }
 
--- a part that is not empty is a last line
+-- An incomplete line that is not empty is the last line.
 pub last_line : (h : Heard) → 0 < length h.part → all_lines h ≡ h.lines ++ h.part ∷ []
 last_line h k = there h.lines h.part k where
   there : (lines : List (List ℕ)) (part : List ℕ) → 0 < length part
@@ -40,7 +40,7 @@ last_line h k = there h.lines h.part k where
   there lines [] k = absurd (omega (arith, k))
   there lines (b ∷ bs) k = refl
 
--- ---- the parts between line feeds
+-- ---- The parts between line feeds
 
 part_ends : (line rest : List ℕ) → IsUnbroken line
     → slice_split (λ b. b == 10) (line ++ 10 ∷ rest) ≡ line ∷ slice_split (λ b. b == 10) rest
@@ -53,7 +53,7 @@ part_stays [] a = refl
 part_stays (b ∷ line) a = slice_split-cons_no (λ b. b == 10) b line (ne_eqb b 10 a.0)
     ∙ ap (onto_first b) (part_stays line a.1)
 
--- lines that have ended are the first parts
+-- Completed lines are the first parts.
 lines_end : (lines : List (List ℕ)) (rest : List ℕ) → AllByRecursion IsUnbroken lines
     → slice_split (λ b. b == 10) (flat_map ended lines ++ rest) ≡ lines ++ slice_split (λ b. b == 10) rest
 lines_end [] rest a = refl
@@ -62,13 +62,13 @@ lines_end (line ∷ lines) rest a =
     ∙ append_assoc line (10 ∷ []) (flat_map ended lines ++ rest))
     ∙ part_ends line (flat_map ended lines ++ rest) a.0 ∙ ap (λ ps. line ∷ ps) (lines_end lines rest a.1)
 
--- the parts of what was heard are the lines and the last part
+-- The parts of the received bytes are the lines and the incomplete line.
 pub heard_parts : (xs : List ℕ) (h : Heard) → IsHeard xs h → slice_split (λ b. b == 10) xs ≡ h.lines ++ h.part ∷ []
 heard_parts xs h is =
     ap (slice_split (λ b. b == 10)) is.whole ∙ lines_end h.lines h.part is.each
     ∙ ap (λ ps. h.lines ++ ps) (part_stays h.part is.rest)
 
--- where a line feed comes then, they go on behind that part
+-- After a line feed, further parts follow.
 pub parts_go_on : (xs : List ℕ) (h : Heard) (rest : List ℕ) → IsHeard xs h
     → slice_split (λ b. b == 10) ((xs ++ 10 ∷ []) ++ rest) ≡ h.lines ++ h.part ∷ slice_split (λ b. b == 10) rest
 parts_go_on xs h rest is =

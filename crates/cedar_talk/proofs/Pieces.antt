@@ -1,4 +1,4 @@
--- A conversation over a reader and a writer, one read further and at its end.
+-- A conversation over a reader and a writer, after one more read and at its end.
 use Rattle.std.proofs.Common.{◌≡◌, ◌≤◌, ℕ, List, [], ◌++◌, Option, Some, None, Result, Ok, Err, IfSome, IfOk}
 use Rattle.std.proofs.Common.{IfErr, refl, sym, ap, subst, ◌∙◌, append_assoc, append-nil, inl, inr, true, false}
 use Rattle.std.proofs.Common.{length, arith}
@@ -14,7 +14,7 @@ use Rattle.cedar_talk.specs.declared.talking.TalkError.{TalkError}
 use Rattle.cedar_talk.specs.declared.talking.TalkError.TheVariants.{Read, Write, Memory}
 use Rattle.cedar_talk.proofs.Answering.{strict_output}
 
--- ---- bytes that a reader gives and a writer takes, one piece after another
+-- ---- The bytes that a reader returns and a writer receives, piece by piece
 
 pub reads_then : (r s t : Option (List ℕ)) (xs ys : List ℕ) → Consumes r s xs → Consumes s t ys
     → Consumes r t (xs ++ ys)
@@ -27,7 +27,7 @@ pub reads_none : (r : Option (List ℕ)) → Consumes r r []
 reads_none None = tt
 reads_none (Some a) = refl
 
--- where a read fails nothing was consumed
+-- A failed read consumes nothing.
 reads_kept : (r s t : Option (List ℕ)) (xs : List ℕ) → Consumes r s xs → Keeps s t → Consumes r t xs
 reads_kept None s t xs f g = tt
 reads_kept (Some a) None t xs f g = absurd f
@@ -44,7 +44,7 @@ pub writes_none : (r : Option (List ℕ)) → Appends r r []
 writes_none None = tt
 writes_none (Some a) = sym (append-nil a)
 
--- ---- what was read and written so far
+-- ---- The bytes read and written so far
 
 abbrev pub SoFar : {S H : Type 0} → Option (List ℕ) → Option (List ℕ) → Option (List ℕ) → Option (List ℕ)
     → Conversation S H → Type 0
@@ -53,12 +53,12 @@ SoFar r r' w w' k = (bytes : List ℕ) × (out : List ℕ) × Consumes r r' byte
 unfoldable pub nothing_yet : {S H : Type 0} (r w : Option (List ℕ)) (k : Conversation S H) → Has k [] [] → SoFar r r w w k
 nothing_yet r w k h = ([], [], reads_none r, h, writes_none w)
 
--- what was answered so far
+-- The outputs so far.
 pub answered : {S H : Type 0} (k : Conversation S H) (bytes out : List ℕ) → Has k bytes out
     → AnswersEnded k.manner bytes out
 answered k bytes out h = (h.heard, h.is_heard, (h.state, h.answers))
 
--- a piece more was read, and its answers written
+-- One more piece was read, and its outputs were written.
 unfoldable pub one_more : {S H : Type 0} (r r' r'' w w' w'' : Option (List ℕ)) (k l : Conversation S H) (piece out : List ℕ)
     → SoFar r r' w w' k → Consumes r' r'' piece → Hears true k piece l [] out → Appends w' w'' out → SoFar r r'' w w'' l
 one_more r r' r'' w w' w'' k l piece out s read hears sent = (
@@ -69,7 +69,7 @@ one_more r r' r'' w w' w'' k l piece out s read hears sent = (
   writes_then w w' w'' s.1 out s.4 sent,
 )
 
--- a read fails
+-- A read fails.
 pub read_fails : {S H : Type 0} (m : Manner) (e : TalkError) (r r' r'' w w' : Option (List ℕ)) (k : Conversation S H)
     → IsReadFault e → k.manner ≡ m
     → SoFar r r' w w' k → Keeps r' r'' → Leaves m e r r'' w w'
@@ -83,12 +83,12 @@ read_fails m Read r r' r'' w w' k f is s kept = (
 read_fails m Write r r' r'' w w' k f is s kept = absurd f
 read_fails m Memory r r' r'' w w' k f is s kept = absurd f
 
--- no further read is made
+-- No further read is made.
 pub reads_end : {S H : Type 0} (m : Manner) (r r' w w' : Option (List ℕ)) (k : Conversation S H) → k.manner ≡ m
     → SoFar r r' w w' k → Leaves m Read r r' w w'
 reads_end m r r' w w' k is s = (s.0, s.1, s.2, subst (λ n. AnswersEnded n s.0 s.1) is (answered k s.0 s.1 s.3), s.4)
 
--- memory is refused for what came last
+-- An allocation for the last piece fails.
 pub memory_fails : {S H : Type 0} (m : Manner) (e : TalkError) (r r' r'' w w' : Option (List ℕ)) (k : Conversation S H)
     (piece : List ℕ) → e ≡ Memory → k.manner ≡ m
     → SoFar r r' w w' k → Consumes r' r'' piece → length piece ≤ 4096 → Leaves m e r r'' w w'
@@ -103,13 +103,13 @@ memory_fails m e r r' r'' w w' k piece f is s read most =
       s.4,
     )
 
--- a write fails
+-- A write fails.
 pub write_fails : (m : Manner) (e : TalkError) (r r' w w' : Option (List ℕ)) → IsWriteFault e → Leaves m e r r' w w'
 write_fails m Read r r' w w' f = absurd f
 write_fails m Write r r' w w' f = tt
 write_fails m Memory r r' w w' f = absurd f
 
--- at the end of the input memory is refused before anything is written, or a write fails
+-- At the end of the input an allocation fails before anything is written, or a write fails.
 pub memory_finishes : {S H : Type 0} (e : TalkError) (k : Conversation S H) (w w' : Option (List ℕ)) → e ≡ Memory
     → w' ≡ w → Finishes (Err e) k w w'
 memory_finishes e k w w' f same = subst (λ d. Finishes (Err d) k w w') (sym f) same
@@ -120,21 +120,21 @@ write_finishes Read k w w' f = absurd f
 write_finishes Write k w w' f = tt
 write_finishes Memory k w w' f = absurd f
 
--- what holds of what was read and whatever a reader has left holds of all that it had
+-- A property of the read bytes with any continuation is a property of the whole input.
 of_all : (Q : List ℕ → Type 0) (r r' : Option (List ℕ)) (bytes : List ℕ) → Consumes r r' bytes
     → ((rest : List ℕ) → Q (bytes ++ rest)) → IfSome r Q
 of_all Q None r' bytes c q = tt
 of_all Q (Some a) None bytes c q = absurd c
 of_all Q (Some a) (Some b) bytes c q = subst Q (sym c) (q b)
 
--- and at the end, what holds of what was read
+-- At the end, a property of the read bytes is a property of the whole input.
 pub of_whole : (Q : List ℕ → Type 0) (r r' : Option (List ℕ)) (bytes : List ℕ) → Consumes r r' bytes → IsAtEnd r'
     → Q bytes → IfSome r Q
 of_whole Q None r' bytes c end q = tt
 of_whole Q (Some a) None bytes c end q = absurd c
 of_whole Q (Some a) (Some b) bytes c end q = subst Q (sym (c ∙ ap (λ z. bytes ++ z) end ∙ append-nil bytes)) q
 
--- a line ends the conversation
+-- A line ends the conversation.
 pub line_stops : {S H : Type 0} (m : Manner) (r r' r'' w w' w'' : Option (List ℕ)) (k l : Conversation S H)
     (piece out : List ℕ) → k.manner ≡ m
     → SoFar r r' w w' k → Consumes r' r'' piece → Hears false k piece l [] out → Appends w' w'' out
@@ -161,7 +161,7 @@ line_stops m r r' r'' w w' w'' k l piece out e s read hears sent most = (
   ),
 )
 
--- the input ends
+-- The input ends.
 pub input_ends : {S H : Type 0} (m : Manner) (r r' r'' w w' w'' : Option (List ℕ)) (k : Conversation S H)
     (result : Result ℕ TalkError) → k.manner ≡ m
     → SoFar r r' w w' k → Consumes r' r'' [] → IsAtEnd r'' → Finishes result k w' w'' → Converses m result r r'' w w''
@@ -194,7 +194,7 @@ input_ends m r r' r'' w w' w'' k (Err Write) e s read end f = tt
 input_ends m r r' r'' w w' w'' k (Err Memory) e s read end f =
     memory_fails m Memory r r' r'' w w'' k [] refl e (subst (λ v. SoFar r r' w v k) (sym f) s) read (omega arith)
 
--- ---- the clauses of `talk`
+-- ---- The clauses of `talk`
 
 with_output : (q w w' : Option (List ℕ)) (out : List ℕ) (n : ℕ)
     → IfSome q (λ input. IsOutput input (record { bytes = out; status = 2 })) → n ≡ 2 → Appends w w' out

@@ -1,18 +1,18 @@
--- What a line that asks for help is answered by.
+-- The output for a line that asks for help.
 use Rattle.std.specs.Prelude.{◌≡◌, ◌≢◌, ◌⊎◌, ℕ, List, ◌++◌, codes}
 use Rattle.cedar_talk.specs.declared.help.TheConstants.{FIELD_HELP, POLICY_HELP, STORE_HELP}
 
--- the text is the help on the topic that a line names
+-- Holds if the text is the help on the topic of the line.
 abbrev pub IsHelpOn : List ℕ → List ℕ → Type 0
 IsHelpOn line text =
     ((line ≡ codes "help store") × (text ≡ STORE_HELP.now))
     ⊎ (((line ≡ codes "help policies") × (text ≡ POLICY_HELP.now))
     ⊎ ((line ≡ codes "help fields") × (text ≡ FIELD_HELP.now)))
 
--- the line names no topic of the help
+-- Holds if the line does not name a help topic.
 abbrev pub IsNoTopic : List ℕ → Type 0
 IsNoTopic line = (line ≢ codes "help store") × (line ≢ codes "help policies") × (line ≢ codes "help fields")
 
--- all of the help
+-- The whole help text.
 abbrev pub whole_help : List ℕ
 whole_help = STORE_HELP.now ++ (POLICY_HELP.now ++ FIELD_HELP.now)

@@ -1,4 +1,4 @@
-//! A conversation: the bytes of an input in, the answers to the lines that they end out.
+//! A conversation: it receives the bytes of an input and returns the outputs for the lines that they complete.
 ghost use Rattle.std.specs.Prelude.{◌≡◌, ◌++◌, ◌+◌, ◌^◌, ◌<◌, ◌≤◌, ◌∷◌, [], List, ℕ, IfOk, OnOk, length};
 ghost use Rattle.cedar_store.specs.Output.{State};
 ghost use Rattle.cedar_store.specs.Sessions.{StandsAt};
@@ -12,8 +12,8 @@ use cedar_store::{Session, push_not_command};
 use std::alloc::{AllocError, Global};
 use std::hash::BuildHasher;
 
-// What has been heard of an input: the session that took the lines that have ended, how many these are, and what has
-// come of the next one.
+// The state of a conversation: the session that ran the completed lines, their number, and the bytes of the incomplete
+// line.
 #[derive(Drop)]
 pub(crate) struct Conversation<S: BuildHasher> {
     session: Session<S>,
@@ -22,7 +22,7 @@ pub(crate) struct Conversation<S: BuildHasher> {
     ended: usize,
 }
 
-// Adds all of the help.
+// Appends the whole help text.
 fn push_help(out: &mut Vec<u8>) -> Result<(), AllocError>
     ensures { OnOk result (out.new.items ≡ out.old.items ++ whole_help) }
 {
@@ -33,7 +33,7 @@ fn push_help(out: &mut Vec<u8>) -> Result<(), AllocError>
     Ok(())
 }
 
-// Adds what is said of a line that is no command, where the conversation goes on.
+// Appends the output for a line that is not a command, if the conversation continues.
 fn say(alloc: Global, number: usize, line: &[u8], out: &mut Vec<u8>) -> Result<(), AllocError>
     ensures { OnOk result ((said : List ℕ) × Says number line.now said × (out.new.items ≡ out.old.items ++ said)) }
 {
@@ -46,7 +46,7 @@ fn say(alloc: Global, number: usize, line: &[u8], out: &mut Vec<u8>) -> Result<(
     }
 }
 
-// Adds the answer to a line that is no command, and says whether the conversation goes on.
+// Appends the output for a line that is not a command. Returns whether the conversation continues.
 fn refuse(
     alloc: Global,
     manner: Manner,
@@ -68,7 +68,7 @@ fn refuse(
     }
 }
 
-// Adds the answer to a line, and says whether the conversation goes on.
+// Appends the output for a line. Returns whether the conversation continues.
 fn answer<S: BuildHasher + Copy>(
     alloc: Global,
     session: &mut Session<S>,
@@ -87,7 +87,7 @@ fn answer<S: BuildHasher + Copy>(
 }
 
 impl<S: BuildHasher + Copy> Conversation<S> {
-    // Nothing has been heard.
+    // Creates a conversation that has not received anything.
     pub(crate) fn new(alloc: Global, hasher: S, manner: Manner) -> Conversation<S>
         ensures manner { result.manner ≡ manner }
         ensures count { result.ended ≡ 0 }
@@ -101,8 +101,8 @@ impl<S: BuildHasher + Copy> Conversation<S> {
         }
     }
 
-    // Hears a byte, adds the answer to the line that it ends, if it ends one, and says whether the conversation goes
-    // on.
+    // Receives a byte. If it completes a line, appends the output for the line. Returns whether the conversation
+    // continues.
     fn hear(&mut self, alloc: Global, byte: u8, out: &mut Vec<u8>) -> Result<bool, AllocError>
         requires { self.old.ended + 1 < 2 ^ 64 }
         ensures count { OnOk result (self.new.ended ≤ self.old.ended + 1) }
@@ -125,7 +125,7 @@ impl<S: BuildHasher + Copy> Conversation<S> {
         Ok(on)
     }
 
-    // Hears bytes: the answers to the lines that they end, and whether the conversation goes on.
+    // Receives bytes. Returns the outputs for the lines that they complete, and whether the conversation continues.
     pub(crate) fn hear_all(
         &mut self,
         alloc: Global,
@@ -144,7 +144,8 @@ impl<S: BuildHasher + Copy> Conversation<S> {
         Ok((out, true))
     }
 
-    // The input ends: the answer to what has come of a last line, unless that is empty, and whether it is a command.
+    // Receives the end of the input. Returns the output for an incomplete last line that is not empty, and whether it
+    // is a command.
     pub(crate) fn close(&mut self, alloc: Global) -> Result<(Vec<u8>, bool), AllocError>
         requires { self.old.ended + 1 < 2 ^ 64 }
         ensures { IfOk result (λ r. Closes r.1 self.old r.0.items) }

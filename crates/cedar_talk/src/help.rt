@@ -1,9 +1,9 @@
-//! The lines of the program, told to who asks.
+//! The help texts of the program.
 ghost use Rattle.std.specs.Prelude.{◌≡◌};
 ghost use Rattle.std.specs.Option.{MatchOption};
 ghost use Rattle.cedar_talk.specs.Help.{IsHelpOn, IsNoTopic};
 
-/// The lines on a store of entities, as the line `help store` tells them.
+/// The commands on a store of entities: the output for the line `help store`.
 pub const STORE_HELP: &str = "\
 ent UID UID..         the entity of the first uid waits, with the others as its parents
 build                 the entities that wait become the store
@@ -14,7 +14,7 @@ slice UID..           the store becomes its slice at these uids
 anc UID               asks for the ancestors of an entity
 ";
 
-/// The lines on policy sets, as the line `help policies` tells them.
+/// The commands on policy sets: the output for the line `help policies`.
 pub const POLICY_HELP: &str = "\
 static ID EFFECT      a static policy joins the current set; EFFECT is permit or forbid
 template ID SLOTS     a template joins; SLOTS is none, principal, action, resource, both or all
@@ -26,15 +26,19 @@ merge HOW             the set aside is merged into the current one; HOW is keep 
 ids                   asks for the ids of the current set
 ";
 
-/// How a line is written, as the line `help fields` tells it.
+/// The format of a line: the output for the line `help fields`.
 pub const FIELD_HELP: &str = "\
 Fields are parted by one tab each. UID is a uid as A::\"a\", and ID any text without a tab.
 An empty line does nothing.
 A line help store, help policies or help fields tells a part of this, and help all of it.
 ";
 
-/// The three texts of the help, one after another what the line `help` is answered by and the program's `--help` tells.
-/// Takes no memory. It is this project's own.
+/// Returns the three texts of the help. One after another they are the output for the line `help`, and of the program's
+/// `--help`. Does not allocate.
+///
+/// # Differences from cedar-policy-core
+///
+/// The original has no such function.
 pub fn help_texts() -> (&'static str, &'static str, &'static str)
     ensures store { result.0.now ≡ STORE_HELP.now }
     ensures policies { result.1.now ≡ POLICY_HELP.now }
@@ -43,7 +47,7 @@ pub fn help_texts() -> (&'static str, &'static str, &'static str)
     (STORE_HELP, POLICY_HELP, FIELD_HELP)
 }
 
-// The text that a line asks for, if it asks for help on one topic. Takes no memory.
+// Returns the help text for a line that asks for help on a topic.
 pub(crate) fn help_on(line: &[u8]) -> Option<&'static str>
     ensures { MatchOption result (IsNoTopic line.now) (λ text. IsHelpOn line.now text.now) }
 {

@@ -1,10 +1,11 @@
-//! A conversation over the program's lines: each line is answered when it has ended, before more is read.
+//! A conversation over the program's input lines. The output for each line is written before more input is read.
 //!
-//! [`talk`] takes the lines of [`run`](cedar_store::run), over any reader and any writer. Its contract says what was
-//! written where a read fails: the answers to all lines that had been read to their line feed. A reader may fail at any
-//! of its reads, so that was written before each of them. The library has no word for a flush; so the function that
-//! holds the conversation makes its calls through a trait that notes them, and its contract says of these that before
-//! each read the answers to all lines that had ended were written and flushed (`specs/Order.antt`).
+//! [`talk`] accepts the lines of [`run`](cedar_store::run), from any reader and to any writer.
+//!
+//! A read can fail. The contract of `talk` states the output in that case: the outputs for all completed lines. Any
+//! read can fail, so these outputs were written before each read. The contract does not mention a flush. Internally,
+//! the conversation calls its reader and writer through a trait that records the calls. Proved of the recorded calls:
+//! before each read, the outputs for all completed lines are written and flushed (`specs/Order.antt`).
 #![tactic(auto)]
 
 mod conversation;

@@ -1,11 +1,13 @@
-//! How a conversation takes what is no command.
+//! The treatment of an invalid line in a conversation.
 
-/// What a line that is no command does to a conversation.
+/// The treatment of a line that is not a command.
 #[derive(Clone, Copy, Debug, PartialEq, Eq)]
 pub enum Manner {
-    /// It is answered and changes nothing, and the conversation goes on. The line `help` is answered by the lines of
-    /// the program, `help store`, `help policies` and `help fields` by a part of these, and any other by its number.
+    /// An invalid line has an output and no other effect, and the conversation continues. The output for `help` is the
+    /// help text. The outputs for `help store`, `help policies` and `help fields` are its parts. The output for any
+    /// other invalid line names its number.
     Lenient,
-    /// It ends the conversation with status 2, as it ends a run; the line `help` too, since it is no command of a run.
+    /// An invalid line ends the conversation with status 2, as it ends a run. The line `help` does so too, because it
+    /// is not a command of a run.
     Strict,
 }

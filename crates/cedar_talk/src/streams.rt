@@ -1,4 +1,4 @@
-//! What a conversation calls of a reader and a writer.
+//! The calls of a conversation on a reader and a writer.
 ghost use Rattle.std.specs.Prelude.{◌≡◌, ◌≢◌, ◌<◌, ◌≤◌, ◌∷◌, List, ℕ, [], IfOk, OnOk, OnErr, IfErr, Option, None};
 ghost use Rattle.std.specs.Prelude.{take, length};
 ghost use Rattle.std.specs.Io.KnownBytes.{IsAtEnd, Appends, Consumes, Keeps};
@@ -8,19 +8,19 @@ ghost use Rattle.cedar_talk.specs.Order.{Call, Reads, Writes, Flushes, Notes};
 use std::io;
 use std::io::{ErrorKind, Read, Write};
 
-// The calls of a conversation on a reader and a writer, which it sees by these alone: each is noted behind those before
-// it. So what is proved of the calls of a conversation, whoever notes them, holds of its body.
+// The calls of a conversation on a reader and a writer. The conversation is generic over this trait. An implementation
+// can record the calls in order, so a proof about recorded calls is a proof about the same code without recording.
 pub(crate) trait Streams<R, W> {
-    // The bytes that the reader will give, and those that the writer holds, where they are known.
+    // The bytes that the reader will return, and the bytes that the writer contains, if they are known.
     ghost remaining: { R → Option (List ℕ) } = { λ _. None };
 
     ghost contents: { W → Option (List ℕ) } = { λ _. None };
 
-    // The calls so far, where they are noted.
+    // The calls so far, if they are recorded.
     ghost calls: { Self → Option (List Call) } = { λ _. None };
 
-    // The bytes that come next, at the front of the buffer, and how many these are: none at the end. A read that was
-    // interrupted is made again.
+    // Reads the next bytes into the beginning of the buffer. Returns their number, which is 0 at the end. Repeats an
+    // interrupted read.
     fn read(&mut self, reader: &mut R, buffer: &mut [u8]) -> io::Result<usize>
         requires { 0 < length buffer.old }
         ensures bound { IfOk result (λ n. n ≤ length buffer.new) }
@@ -31,20 +31,20 @@ pub(crate) trait Streams<R, W> {
         ensures call { IfOk result (λ n. Notes (calls self.old) (calls self.new) (Reads (take n buffer.new) ∷ [])) }
         ensures failed { OnErr result (Notes (calls self.old) (calls self.new) (Reads [] ∷ [])) };
 
-    // Writes all of these bytes.
+    // Writes all of the bytes.
     fn write_all(&mut self, writer: &mut W, bytes: &[u8]) -> io::Result<()>
         ensures bytes { OnOk result (Appends (contents writer.old) (contents writer.new) bytes.now) }
         ensures call { OnOk result (Notes (calls self.old) (calls self.new) (Writes bytes.now ∷ [])) }
         ensures failed { OnErr result (Notes (calls self.old) (calls self.new) []) };
 
-    // Flushes.
+    // Flushes the writer.
     fn flush(&mut self, writer: &mut W) -> io::Result<()>
         ensures bytes { Keeps (contents writer.old) (contents writer.new) }
         ensures call { OnOk result (Notes (calls self.old) (calls self.new) (Flushes ∷ [])) }
         ensures failed { OnErr result (Notes (calls self.old) (calls self.new) []) };
 }
 
-// Reads, and again where that was interrupted, and so is never refused for it.
+// Reads, and repeats an interrupted read.
 fn read_again<R: Read>(reader: &mut R, buffer: &mut [u8]) -> io::Result<usize>
     requires { 0 < length buffer.old }
     ensures bound { IfOk result (λ n. n ≤ length buffer.new) }
@@ -66,7 +66,7 @@ fn read_again<R: Read>(reader: &mut R, buffer: &mut [u8]) -> io::Result<usize>
     Err(io::Error::from(ErrorKind::Other))
 }
 
-// The calls themselves, which nobody notes.
+// The calls without recording.
 #[derive(Clone, Copy)]
 pub(crate) struct Direct;
 

@@ -18,16 +18,16 @@ use std::hash::BuildHasher;
 use std::io::{Read, Write};
 use thiserror::Error;
 
-/// Why a conversation ended early.
+/// The reason why a conversation ended early.
 #[derive(Debug, Drop, Error)]
 pub enum TalkError {
-    /// A read failed. What was written is the answers to all lines that had been read to their line feed.
+    /// A read failed. The output consists of the outputs for all lines that were completed before.
     #[error("read fault")]
     Read,
-    /// A write failed, or the flush after it. How much was written is not said.
+    /// A write or a flush failed. The amount of output is unspecified.
     #[error("write fault")]
     Write,
-    /// A growth was refused. What was written is the answers to all lines that had been read before the last read.
+    /// An allocation failed. The output consists of the outputs for all lines that were completed before the last read.
     #[error("out of memory")]
     Memory,
 }
@@ -40,13 +40,14 @@ impl From<AllocError> for TalkError {
     }
 }
 
-// So many bytes are asked for at a read.
+// The number of bytes requested by a read.
 const ROOM: usize = 4096;
 
-// After so many reads a conversation ends, so that lines can be counted in 64 bits: no input has so many.
+// A conversation ends after this many reads, so that a 64-bit counter can count the lines. No real input needs that
+// many.
 const READS: usize = 1 << 51;
 
-// Writes all of these bytes, and flushes.
+// Writes all of the bytes, and flushes.
 fn send<R, W, T: Streams<R, W>>(
     streams: &mut T,
     writer: &mut W,
@@ -63,7 +64,7 @@ fn send<R, W, T: Streams<R, W>>(
     }
 }
 
-// The bytes that come next, at the front of the buffer, and how many these are: none at the end.
+// Reads the next bytes into the beginning of the buffer. Returns their number, which is 0 at the end.
 fn read_some<R, W, T: Streams<R, W>>(
     streams: &mut T,
     reader: &mut R,
@@ -82,7 +83,7 @@ fn read_some<R, W, T: Streams<R, W>>(
     streams.read(reader, buffer).map_err(|_| TalkError::Read)
 }
 
-// The input ends: writes the answer to what has come of a last line, and answers the status.
+// Finishes at the end of the input: writes the output for an incomplete last line, and returns the status.
 fn finish<S: BuildHasher + Copy, R, W, T: Streams<R, W>>(
     alloc: Global,
     conversation: &mut Conversation<S>,
@@ -102,7 +103,7 @@ fn finish<S: BuildHasher + Copy, R, W, T: Streams<R, W>>(
     if on { Ok(0) } else { Ok(2) }
 }
 
-// Answers what is read until the input ends, or until a line ends the conversation. The status is that of `talk`.
+// Processes the input until it ends or a line ends the conversation. Returns the status of `talk`.
 fn converse<S: BuildHasher + Copy, R, W, T: Streams<R, W>>(
     alloc: Global,
     conversation: &mut Conversation<S>,
@@ -112,12 +113,12 @@ fn converse<S: BuildHasher + Copy, R, W, T: Streams<R, W>>(
 ) -> Result<u8, TalkError>
     requires { conversation.old.ended ≡ 0 }
 
-    // What was written is what a conversation over what was read comes to.
+    // The output is the output of a conversation over the bytes that were read.
     ensures told { Has conversation.old [] [] → Converses conversation.old.manner result
         (T.remaining reader.old) (T.remaining reader.new) (T.contents writer.old) (T.contents writer.new) }
 
-    // Before each read the answers to all lines that had come were written and flushed, and in the end all that was
-    // written.
+    // Before each read, the outputs for all completed lines are written and flushed. At the end, the whole output is
+    // flushed.
     ensures order { Has conversation.old [] [] → IsInOrder conversation.old.manner result
         (T.calls streams.old) (T.calls streams.new) }
 {
@@ -142,24 +143,37 @@ fn converse<S: BuildHasher + Copy, R, W, T: Streams<R, W>>(
     Err(TalkError::Read)
 }
 
-/// Holds a conversation over the lines of [`run`](cedar_store::run): each line that has been read to its line feed is
-/// answered, and its answer is written and flushed, before more is read. What stands after the last line feed is
-/// answered at the end of the input, unless it is empty. Maps hash by what `hasher` builds, which no answer shows. A
-/// read that was interrupted is made again.
+/// Holds a conversation over the lines of [`run`](cedar_store::run). The output for each completed line is written and
+/// flushed before more input is read. An incomplete last line is processed at the end of the input, unless it is empty.
+/// An interrupted read is repeated.
 ///
-/// Leniently a line that is no command is answered by `line N: not a command`, where it is the Nth, changes nothing,
-/// and the conversation goes on; the line `help` is answered by the lines of the program. The status is 0. Strictly
-/// the first line that is no command ends the conversation with status 2, and `help` is none: what was written then,
-/// and the status, are those of `run` for the same input, and the read that brought that line's line feed was the last.
+/// - [`Manner::Lenient`]: the output for a line that is not a command is `line N: not a command`, where N is its
+///   number. The line has no other effect, and the conversation continues. The output for the line `help` is the help
+///   text. The status is 0.
+/// - [`Manner::Strict`]: the first line that is not a command ends the conversation with status 2. The line `help` is
+///   not a command here. `run` has the same output and status for the same input. No input is read after the read that
+///   completed this line.
 ///
-/// `Read` comes where a read failed: what was written is the answers to all lines that had been read to their line
-/// feed. `Memory` comes where a growth was refused: what was written is the answers to all lines that had been read
-/// before the last read. `Write` comes where a write or a flush failed, and how much was written is not said. A reader
-/// that answers 2^51 reads without coming to its end makes it answer `Read`.
+/// The maps hash with hashers of `hasher`, which has no effect on the output.
 ///
-/// Takes memory, for the session, for a line that has not ended and for the answers of one read. It reads up to 4,096
-/// bytes at a time by [`Read::read`], which is to give what is there, so that at a pipe or a terminal nothing waits;
-/// each read costs one write and one flush, and each line what it costs `run`. It is this project's own.
+/// # Errors
+///
+/// - `Read`: a read failed, or 2^51 reads did not reach the end. The output consists of the outputs for all lines that
+///   were completed before.
+/// - `Write`: a write or a flush failed. The amount of output is unspecified.
+/// - `Memory`: an allocation failed. The output consists of the outputs for all lines that were completed before the
+///   last read.
+///
+/// # Complexity
+///
+/// Reads up to 4,096 bytes at a time by [`Read::read`]. The reader should return the available bytes, so that a pipe or
+/// a terminal does not block. Each read causes one write and one flush. Each line costs as much as in `run`.
+///
+/// Allocates the session, the incomplete line, and the outputs for the lines of one read.
+///
+/// # Differences from cedar-policy-core
+///
+/// The original has no such function.
 pub fn talk<S: BuildHasher + Copy, R: Read, W: Write>(
     alloc: Global,
     hasher: S,
@@ -167,27 +181,27 @@ pub fn talk<S: BuildHasher + Copy, R: Read, W: Write>(
     reader: &mut R,
     writer: &mut W,
 ) -> Result<u8, TalkError>
-    // Strictly, where the reader and the writer tell their bytes, what was written and the status are the output of a
-    // run over what the reader had.
+    // In strict mode, a run over the input of the reader has the same output and status. The bytes of reader and writer
+    // must be known.
     ensures strict { manner ≡ Strict → IfOk result (λ status. IfSome (R.remaining reader.old) (λ input.
         (bytes : List ℕ) × IsOutput input (record { bytes = bytes; status = status })
         × Appends (W.contents writer.old) (W.contents writer.new) bytes)) }
 
-    // Leniently, what was written is the answers to all lines of what the reader had, and the status is 0.
+    // In lenient mode the output consists of the outputs for all lines of the input, and the status is 0.
     ensures lenient { manner ≡ Lenient → IfOk result (λ status. (status ≡ 0) × IfSome (R.remaining reader.old) (λ input.
         (bytes : List ℕ) × AnswersAll Lenient input bytes
         × Appends (W.contents writer.old) (W.contents writer.new) bytes)) }
 
-    // With status 0 the input was read to its end.
+    // With status 0, the input was read to its end.
     ensures end { IfOk result (λ status. status ≡ 0 → IsAtEnd (R.remaining reader.new)) }
 
-    // Where a line ended it, all that had ended in what was read, but for its last 4,096 bytes at the most, were
-    // commands.
+    // If a line ended the conversation, all earlier completed lines are commands, except in the last 4,096 bytes that
+    // were read.
     ensures near { IfOk result (λ status.
         status ≡ 2 → StopsNear manner (R.remaining reader.old) (R.remaining reader.new)) }
 
-    // Where a read failed, what was written is the answers to all lines that had been read to their line feed; where
-    // memory was refused, to all that had been but for the last 4,096 bytes at the most.
+    // If a read failed, the output consists of the outputs for all lines completed before. If an allocation failed, the
+    // lines completed by the last read, of at most 4,096 bytes, are excluded.
     ensures err { IfErr result (λ e. Leaves manner e (R.remaining reader.old) (R.remaining reader.new)
         (W.contents writer.old) (W.contents writer.new)) }
 {

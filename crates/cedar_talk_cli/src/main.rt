@@ -1,5 +1,5 @@
-//! The program that answers each line of standard input as it comes. With `--strict` the first line that is no command
-//! ends it, as it ends a run; with `--help` it writes the lines that there are.
+//! The program that processes standard input line by line, with the output for each line at once. With `--strict` the
+//! first line that is not a command ends the program, as it ends a run. With `--help` the program writes the help text.
 #![tactic(auto)]
 
 use cedar_keyed_hash::KeyedState;
@@ -8,7 +8,7 @@ use std::env::{Env, FillError};
 use std::io;
 use std::process::ExitCode;
 
-// What a start of the program asks for.
+// The action that the arguments of the program ask for.
 #[derive(Clone, Copy)]
 enum Asked {
     Talk(Manner),
@@ -16,7 +16,7 @@ enum Asked {
     Unknown,
 }
 
-// What an argument asks for: one that is no text is unknown as any other.
+// Returns the action of an argument. An argument that is not UTF-8 is unknown, like any other.
 fn named(argument: &[u8]) -> Asked {
     if argument == b"--strict".as_slice() {
         Asked::Talk(Manner::Strict)
@@ -27,7 +27,7 @@ fn named(argument: &[u8]) -> Asked {
     }
 }
 
-// What the argument at this place asks for, if there is one: it is unknown where it has no room in 16 bytes.
+// Returns the action of the argument at a position, if there is one. An argument of more than 16 bytes is unknown.
 fn argument(rt: &HostRuntime, place: usize) -> Option<Asked> {
     let mut room = [0u8; 16];
     match rt.arg(place, &mut room) {
@@ -37,7 +37,8 @@ fn argument(rt: &HostRuntime, place: usize) -> Option<Asked> {
     }
 }
 
-// What the arguments ask for, of which there is one at the most behind the name of the program. Takes no memory.
+// Returns the action of the arguments. At most one argument is allowed after the name of the program. Does not
+// allocate.
 fn read_arguments(rt: &HostRuntime) -> Asked {
     match (argument(rt, 1), argument(rt, 2)) {
         (None, _) => Asked::Talk(Manner::Lenient),
@@ -46,7 +47,7 @@ fn read_arguments(rt: &HostRuntime) -> Asked {
     }
 }
 
-// Says that a fault ended the program.
+// Reports that an error ended the program.
 fn fault(rt: &HostRuntime, text: &str) -> ExitCode {
     let _ = eprintln!(rt; "{text}");
     ExitCode::FAILURE
@@ -73,12 +74,12 @@ fn held(rt: &HostRuntime, manner: Manner) -> ExitCode {
     }
 }
 
-// Writes a text, and says whether that went well.
+// Writes a text, and returns whether that succeeded.
 fn is_written(rt: &HostRuntime, text: &str) -> bool {
     print!(rt; "{}", text).is_ok()
 }
 
-// Writes the lines of the program.
+// Writes the help text.
 fn helped(rt: &HostRuntime) -> ExitCode {
     let (store, policies, fields) = help_texts();
     if is_written(rt, store) && is_written(rt, policies) && is_written(rt, fields) {

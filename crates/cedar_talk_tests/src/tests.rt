@@ -1,4 +1,4 @@
-// The tests of a conversation, and what their rows stand for.
+// The tests of a conversation, and the notation of their test cases.
 mod cut;
 mod told;
 mod turns;
@@ -8,12 +8,12 @@ use cedar_talk::help_texts;
 use std::alloc::{AllocError, Global};
 use std::hash::{BuildHasherDefault, FoldHasher};
 
-// The builder of hashers that a run is given by default.
+// Returns the default hasher builder of a run.
 fn fixed() -> BuildHasherDefault<FoldHasher> {
     BuildHasherDefault::new()
 }
 
-// Two builders of hashers with keys.
+// Returns two hasher builders with keys.
 fn keys() -> (KeyedState, KeyedState) {
     (
         KeyedState::with_keys(1, 2),
@@ -21,10 +21,10 @@ fn keys() -> (KeyedState, KeyedState) {
     )
 }
 
-// In a row stand a line and, behind an arrow, what is due for it: `;` for the end of a line, `>` for a tab, `~` for a
-// carriage return; `HELP` is the text of the lines, and `STORE`, `POLICIES` and `FIELDS` are its three parts.
+// A test case has a line and, after an arrow, the expected output. `;` stands for the end of a line, `>` for a tab, and
+// `~` for a carriage return. `HELP` is the whole help text, and `STORE`, `POLICIES` and `FIELDS` are its three parts.
 
-// The byte that a byte of a row stands for.
+// Returns the byte for a byte of a test case.
 fn byte_of(byte: u8) -> u8 {
     match byte {
         b';' => b'\n',
@@ -34,7 +34,7 @@ fn byte_of(byte: u8) -> u8 {
     }
 }
 
-// Adds the bytes that a text of a row stands for.
+// Appends the bytes for a text of a test case.
 fn push_bytes(bytes: &mut Vec<u8>, text: &str) -> Result<(), AllocError> {
     for byte in text.as_bytes() {
         bytes.push(byte_of(*byte))?;
@@ -42,7 +42,7 @@ fn push_bytes(bytes: &mut Vec<u8>, text: &str) -> Result<(), AllocError> {
     Ok(())
 }
 
-// Adds what is due for a line.
+// Appends the expected output for a line.
 fn push_due(bytes: &mut Vec<u8>, due: &str) -> Result<(), AllocError> {
     let (store, policies, fields) = help_texts();
     match due {
@@ -58,13 +58,13 @@ fn push_due(bytes: &mut Vec<u8>, due: &str) -> Result<(), AllocError> {
     }
 }
 
-// The line of a row, and what is due for it.
+// Returns the line of a test case, and its expected output.
 fn parts_of(row: &str) -> (&str, &str) {
     let (line, due) = row.split_once("=>").unwrap_or((row, ""));
     (line.trim(), due.trim())
 }
 
-// Adds the lines of all rows, each with its line feed.
+// Appends the lines of all test cases, each with its line feed.
 fn push_lines(bytes: &mut Vec<u8>, rows: &str) -> Result<(), AllocError> {
     for row in rows.lines() {
         push_bytes(bytes, parts_of(row).0)?;
@@ -73,7 +73,8 @@ fn push_lines(bytes: &mut Vec<u8>, rows: &str) -> Result<(), AllocError> {
     Ok(())
 }
 
-// Adds what is due for all lines that end in so many bytes, and says how many bytes these lines have.
+// Appends the expected outputs for all lines that are completed in the first `count` bytes. Returns the number of bytes
+// of these lines.
 fn push_all_due(bytes: &mut Vec<u8>, rows: &str, count: usize) -> Result<usize, AllocError> {
     let mut at = 0usize;
     for row in rows.lines() {
@@ -88,7 +89,7 @@ fn push_all_due(bytes: &mut Vec<u8>, rows: &str, count: usize) -> Result<usize, 
     Ok(at)
 }
 
-// The lines of all rows; none where there is no memory.
+// Returns the lines of all test cases, or nothing if an allocation fails.
 fn lines_of(alloc: Global, rows: &str) -> Vec<u8> {
     let mut bytes = Vec::new(alloc);
     if push_lines(&mut bytes, rows).is_err() {
@@ -97,7 +98,8 @@ fn lines_of(alloc: Global, rows: &str) -> Vec<u8> {
     bytes
 }
 
-// What is due for all lines that end in so many bytes; none where there is no memory.
+// Returns the expected outputs for all lines that are completed in the first `count` bytes, or nothing if an allocation
+// fails.
 fn due_of(alloc: Global, rows: &str, count: usize) -> Vec<u8> {
     let mut bytes = Vec::new(alloc);
     if push_all_due(&mut bytes, rows, count).is_err() {

@@ -1,4 +1,4 @@
--- A map with text keys as a record.
+-- A map with text keys, as a record.
 use Rattle.std.proofs.Common.{◌≡◌, ℕ, length, List, [], ◌∷◌, Bool, true, false, cond, refl, sym, ap, ◌∙◌, Option, Some}
 use Rattle.std.proofs.Common.{None, String, string_bytes}
 use Rattle.std.specs.declared.alloc.Global.{Global}
@@ -20,7 +20,7 @@ use Rattle.cedar_terms.specs.ValueViews.{field_trees, named_pairs}
 Entry : Type 0
 Entry = String Global × ValueTree
 
--- a look-up by bytes reads the record of the entries
+-- A lookup in the map gives the same value as a lookup in the record of its entries.
 pub field_at-entries : (key : List ℕ) (es : List (String Global × ValueTree))
     → field_at key (field_trees es) ≡ lookup (is_at (text_cmp key)) es
 field_at-entries key [] = refl
@@ -34,7 +34,7 @@ above : (k : String Global) (es : List (String Global × ValueTree))
 above k [] h = tt
 above k (e ∷ es) h = (h.0, above k es h.1)
 
--- keys that ascend as texts ascend by their bytes
+-- The keys of the record ascend by bytes if the keys of the map ascend.
 pub ascending_entries : (es : List (String Global × ValueTree)) → IsStrictlySortedBy string_cmp (keys_of es)
     → IsStrictlySortedBy (slice_cmp nat_cmp) (field_keys (field_trees es))
 unfolding IsStrictlySortedBy
@@ -47,14 +47,14 @@ pick None true v old = refl
 pick None false v old = refl
 pick (Some x) b v old = refl
 
--- one pair more
+-- The step of the loop for one more pair.
 pub one_pair : (key k : List ℕ) (v : ValueTree) (rest : List (List ℕ × ValueTree)) (old new all : Option ValueTree)
     → new ≡ cond (bytes_eq k key) (Some v) old → option_or (last_at key ((k, v) ∷ rest)) old ≡ all
     → option_or (last_at key rest) new ≡ all
 one_pair key k v rest old new all e h = ap (option_or (last_at key rest)) e
     ∙ pick (last_at key rest) (bytes_eq k key) v old ∙ h
 
--- the record of a map that holds, at each key, what the last pair with it gives
+-- A map is the record of the pairs if it has, at each key, the value of the last pair with that key.
 pub record_made : (pairs : List (List ℕ × ValueTree)) (es : List (String Global × ValueTree)) (v : ValueTree)
     → v ≡ record_value (field_trees es) → IsStrictlySortedBy string_cmp (keys_of es)
     → ((key : List ℕ) → lookup (is_at (text_cmp key)) es ≡ last_at key pairs) → IsRecordOf pairs v
@@ -67,7 +67,7 @@ record_made pairs es v e s h =
           ∙ h key;
     }
 
--- no pair more
+-- The end of the loop, when no pair is left.
 pub no_more : (key : List ℕ) (rest : List (String Global × ValueTree)) → length rest ≡ 0 → (old all : Option ValueTree)
     → option_or (last_at key (named_pairs rest)) old ≡ all → old ≡ all
 no_more key [] l old all h = h

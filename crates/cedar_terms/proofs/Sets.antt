@@ -1,4 +1,4 @@
--- Sorting a list and dropping its repeats makes the set of it.
+-- Sorting a list and removing its repetitions creates the set of its elements.
 use Rattle.std.proofs.Common.{◌≡◌, List, []}
 use Rattle.std.specs.List.Sorted.{IsPermutation, IsSorted}
 use Rattle.std.specs.List.Retain.{IsFiltered, DiffersFromLast}

@@ -1,4 +1,4 @@
--- One more value, field or expression of a list that is written.
+-- Writing one more value, field or expression of a list.
 use Rattle.std.proofs.lemmas.List.{take_more}
 use Rattle.std.proofs.lemmas.Grind.{put_two}
 use Rattle.std.proofs.Math.Seq.{drop-cons}
@@ -17,7 +17,7 @@ use Rattle.cedar_terms.specs.ValueViews.{field_trees}
 use Rattle.cedar_terms.specs.ExprTree.{ExprTree, expr_trees}
 use Rattle.cedar_terms.specs.ExprTexts.{expr_text, exprs_text, more_exprs_text}
 
--- what stands before the next one: nothing before the first
+-- The separator before the next element: empty before the first one.
 abbrev pub mark_after : {A : Type 0} → List A → List ℕ
 mark_after [] = []
 mark_after (x ∷ xs) = codes ", "
@@ -64,7 +64,7 @@ fields-push [] f = append-nil (field f)
 fields-push (g ∷ fs) f = ap (λ z. field g ++ z) (more_fields-push fs f)
     ∙ sym (append_assoc (field g) (more_fields_text (field_trees fs)) (codes ", " ++ field f))
 
--- ---- one turn of a loop that writes a list: what is done, what is left, what was written
+-- ---- One turn of a loop that writes a list: the written elements, the remaining elements, and the text so far
 
 module _ {X W : Type 0} (took : W → List ℕ → W → Type 0) (text : List X → List ℕ) (piece : X → List ℕ)
     (push : (xs : List X) (x : X) → text (xs ++ x ∷ []) ≡ text xs ++ (mark_after xs ++ piece x))
@@ -94,7 +94,7 @@ module _ {X W : Type 0} (took : W → List ℕ → W → Type 0) (text : List X 
       both : A → (one x && ascii rest') ≡ true
       both a = sym (cons x rest') ∙ ap ascii (sym r) ∙ plain a
 
--- at a list by its index
+-- The rest of a list from an index, in terms of the element at the index.
 pub left_at : {X : Type 0} (xs : List X) (i : ℕ) (x : X) → i < length xs → x ≡ get_or xs i x
     → drop i xs ≡ x ∷ drop (i + 1) xs
 left_at xs i x h e =
@@ -104,11 +104,11 @@ pub done_at : {X : Type 0} (xs : List X) (i : ℕ) (x : X) → i < length xs →
     → take (i + 1) xs ≡ take i xs ++ x ∷ []
 done_at xs i x h e = take_more xs i x h ∙ ap (λ z. take i xs ++ z ∷ []) (sym e)
 
--- whether the texts of a field are ASCII
+-- Whether all texts in a field are ASCII.
 abbrev pub is_ascii_field : String Global × ValueTree → Bool
 is_ascii_field f = is_ascii (string_bytes f.0) && is_ascii_value f.1
 
--- a key and the mark after it, and then the value, make a field
+-- Writing a key with its separator, and then the value, writes a field.
 pub field_written : {W : Type 0} (took : W → List ℕ → W → Type 0) (k : List ℕ) (v : ValueTree) (f g h : Formatter W)
     → (is_ascii k ≡ true → IsPlainFormatter f → HasWritten took f (quoted k ++ codes ": ") g)
     → (is_ascii_value v ≡ true → IsPlainFormatter g → HasWritten took g (value_text v) h)

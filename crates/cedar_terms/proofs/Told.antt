@@ -1,4 +1,4 @@
--- When two nodes are told apart.
+-- Equality of two nodes, from the equality of their contents.
 use Rattle.std.proofs.Common.{◌≡◌, false, ◌&&◌, refl, sym, ap, ◌∙◌}
 use Rattle.std.specs.Bool.{one_answer}
 use Rattle.std.specs.Ordering.{is_eq}

@@ -1,4 +1,4 @@
--- The walk with a stack of expressions that are still to be walked.
+-- The traversal of an expression with a stack of pending expressions.
 use Rattle.std.proofs.lemmas.List.{map-append}
 use Rattle.std.specs.Borrow.{Bor}
 use Rattle.std.proofs.Common.{◌≡◌, ℕ, ◌+◌, ◌<◌, length, List, [], ◌∷◌, ◌++◌, map, refl, sym, ap, ◌∙◌, append_assoc}
@@ -10,12 +10,12 @@ use Rattle.cedar_terms.specs.ExprTree.{expr_size, exprs_size}
 use Rattle.cedar_terms.specs.Walk.{walk, walk_back}
 use Rattle.cedar_terms.specs.laws.Children.{children, expr_list}
 
--- the walks of a stack, its top first
+-- The nodes of the expressions on a stack, from the top of the stack.
 unfoldable pub walks : List ExprTree → List ExprTree
 walks [] = []
 walks (e ∷ es) = walks es ++ walk e
 
--- how many nodes a stack has
+-- The number of nodes on a stack.
 unfoldable pub nodes : List ExprTree → ℕ
 nodes [] = 0
 nodes (e ∷ es) = expr_size e + nodes es
@@ -35,7 +35,7 @@ unfolding walks
 walks-list no_exprs = refl
 walks-list (expr_then e es) = ap (λ z. z ++ walk e) (walks-list es)
 
--- a walk is the node, and the walks of its children, the last first
+-- The traversal of an expression is its root node, followed by the traversals of its children, from the last.
 pub walk-children : (e : ExprTree) → walk e ≡ e ∷ walks (children e)
 unfolding walks
 walk-children (val_node l) = refl
@@ -58,7 +58,7 @@ unfolding nodes
 nodes-list no_exprs = refl
 nodes-list (expr_then e es) = ap (λ n. expr_size e + n) (nodes-list es)
 
--- a node is one more than all below its children
+-- The size of an expression is one more than the number of nodes of its children.
 pub nodes-children : (e : ExprTree) → nodes (children e) + 1 ≡ expr_size e
 unfolding nodes
 nodes-children (val_node l) = refl
@@ -79,17 +79,17 @@ pub exprs_listed : (es : List ExprTree) → expr_list (expr_trees es) ≡ es
 exprs_listed [] = refl
 exprs_listed (e ∷ es) = ap (λ z. e ∷ z) (exprs_listed es)
 
--- the contents of a list of references
+-- The contents of a list of references.
 abbrev pub contents : List (Bor ExprTree) → List ExprTree
 contents rs = map (λ r. r.now) rs
 
--- the first step of a walk
+-- The state before the first step of the traversal.
 pub walk_begins : (e : Bor ExprTree) (pending met : List (Bor ExprTree)) → pending ≡ e ∷ [] → met ≡ []
     → contents met ++ walks (contents pending) ≡ walk e.now
 unfolding walks
 walk_begins e pending met p q = rw (p, q) refl
 
--- one node more is met, and its children are put on the stack
+-- The step of the traversal: a node is visited and its children are pushed onto the stack.
 pub walk_goes_on : (e : Bor ExprTree) (met met' pending pending' : List (Bor ExprTree)) (more whole : List ExprTree)
     → pending ≡ pending' ++ e ∷ [] → met' ≡ met ++ e ∷ [] → more ≡ contents pending' ++ children e.now
     → contents met ++ walks (contents pending) ≡ whole → contents met' ++ walks more ≡ whole
@@ -105,7 +105,7 @@ walk_goes_on e met met' pending pending' more whole p q r h =
     ∙ ap (λ z. contents met ++ walks (contents z)) (sym p)
     ∙ h
 
--- and fewer nodes are left
+-- The step reduces the number of pending nodes.
 pub fewer_nodes : (e : Bor ExprTree) (pending pending' : List (Bor ExprTree)) (more : List ExprTree)
     → pending ≡ pending' ++ e ∷ [] → more ≡ contents pending' ++ children e.now → nodes more < nodes (contents pending)
 fewer_nodes e pending pending' more p r =
@@ -116,7 +116,7 @@ fewer_nodes e pending pending' more p r =
     ∙ nodes-append (contents pending') (e.now ∷ []) in
     omega (arith, a, b, nodes-one e.now, nodes-children e.now)
 
--- nothing is left on the stack
+-- The traversal is complete when the stack is empty.
 pub walk_ends : (met pending : List (Bor ExprTree)) (whole : List ExprTree) → pending ≡ []
     → contents met ++ walks (contents pending) ≡ whole → contents met ≡ whole
 unfolding walks

@@ -1,4 +1,4 @@
--- How a proof tells keys, values and expressions apart.
+-- Codes by which a proof distinguishes keys, values and expressions.
 use Rattle.std.specs.Prelude.{◌≡◌}
 use Rattle.std.proofs.Common.{ap}
 use Rattle.std.specs.Coded.{Coded, coded_ℤ}
@@ -10,20 +10,20 @@ use Rattle.cedar_terms.specs.ExprKeys.{expr_key}
 use Rattle.cedar_terms.specs.ExprTree.{ExprTree}
 use Rattle.cedar_terms.specs.laws.ExprKeyLaws.{expr_key-inj}
 
--- a key as the data by which a proof tells it apart
+-- The code of a key.
 abbrev pub key_gv : Key → Gv
 key_gv (tip a) = gcons (gnum 0) (coded_ℤ.code a)
 key_gv (fork a b) = gcons (gnum 1) (gcons (key_gv a) (key_gv b))
 
--- pairs that are the same have the same second part
+-- Equal pairs have equal second parts.
 pub second : (a b c d : Gv) → gcons a b ≡ gcons c d → b ≡ d
 second a b c d e = cc
 
--- and the same first part
+-- Equal pairs have equal first parts.
 pub first : (a b c d : Gv) → gcons a b ≡ gcons c d → a ≡ c
 first a b c d e = cc
 
--- keys with the same data are the same
+-- Keys with equal codes are equal.
 pub key_gv_inj : (x y : Key) → key_gv x ≡ key_gv y → x ≡ y
 key_gv_inj (tip a) (tip b) e = ap tip (coded_ℤ.inj a b (second _ _ _ _ e))
 key_gv_inj (tip a) (fork c d) e = absurd (cc)
@@ -34,14 +34,14 @@ key_gv_inj (fork a b) (fork c d) e =
     let r : b ≡ d = key_gv_inj b d (second _ _ _ _ s) in
     λ i. fork (q i) (r i)
 
--- how a proof tells keys apart
+-- The code of keys.
 abbrev pub key_code : Coded Key
 key_code = record { code = key_gv; inj = key_gv_inj }
 
--- how a proof tells values apart
+-- The code of values: that of their keys.
 abbrev pub value_code : Coded ValueTree
 value_code = coded_via key_code value_key value_key-inj
 
--- how a proof tells expressions apart
+-- The code of expressions: that of their keys.
 abbrev pub expr_code : Coded ExprTree
 expr_code = coded_via key_code expr_key expr_key-inj

@@ -13,20 +13,20 @@ use Rattle.cedar_terms.specs.ExprTree.{set_node, call_node, not_node, binary_nod
 use Rattle.cedar_terms.specs.ExprTree.{expr_then}
 use Rattle.cedar_terms.specs.ExprKeys.{expr_key, exprs_key}
 
--- what `==` answers: the keys are not told apart. Two expressions are equal exactly where they are the same, says the
--- law `same_expr_decides`
+-- The result of `==` on two expressions: whether their keys are equal. By the law `same_expr_decides`, this is true
+-- only of identical expressions.
 abbrev pub same_expr : ExprTree → ExprTree → Bool
 same_expr = on expr_key (eq_by_cmp key_cmp)
 
--- the same for lists of expressions
+-- The result of `==` on two lists of expressions: whether their keys are equal.
 abbrev pub same_exprs : ExprTrees → ExprTrees → Bool
 same_exprs = on exprs_key (eq_by_cmp key_cmp)
 
--- an operator feeds its place
+-- The input that an operator feeds to a hasher: its index.
 abbrev pub operator_hash : Operator → List (List ℕ)
 operator_hash o = fed.u8 (operator_index o)
 
--- what an expression feeds to a hasher: the place of its kind, then what it holds
+-- The input that an expression feeds to a hasher: the index of its kind, then its content.
 abbrev mutual
   pub expr_hash : ExprTree → List (List ℕ)
   expr_hash (val_node l) = fed.u8 0 ++ literal_hash l
@@ -39,7 +39,7 @@ abbrev mutual
   expr_hash (binary_node o x y) = fed.u8 7 ++ (operator_hash o ++ (expr_hash x ++ expr_hash y))
   expr_hash (is_node e t) = fed.u8 8 ++ (expr_hash e ++ name_hash_input t)
 
-  -- its expressions in turn, and a mark after the last
+  -- The input that a list of expressions feeds to a hasher: the expressions in order, then an end mark.
   pub exprs_hash : ExprTrees → List (List ℕ)
   exprs_hash no_exprs = fed.u8 9
   exprs_hash (expr_then e es) = expr_hash e ++ exprs_hash es

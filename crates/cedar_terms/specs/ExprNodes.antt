@@ -1,4 +1,4 @@
--- The expression that a node is which an expression lends.
+-- The expression of a borrowed root node.
 use Rattle.cedar_ids.specs.Views.{type_name}
 use Rattle.cedar_terms.specs.ExprTree.{ExprTree, val_node, var_node, slot_node, unknown_node, set_node, call_node}
 use Rattle.cedar_terms.specs.ExprTree.{not_node, and_node, eq_node, in_node, is_node, expr_trees}
@@ -6,7 +6,7 @@ use Rattle.cedar_terms.specs.Views.{literal_tree}
 use Rattle.cedar_terms.specs.declared.expr_node.ExprNode.{ExprNode}
 use Rattle.cedar_terms.specs.declared.expr_node.ExprNode.TheVariants as nodes
 
--- the expression whose node it is, made of what the node lends
+-- The expression with this root node.
 abbrev pub expr_at : ExprNode → ExprTree
 expr_at (nodes.Val l) = val_node (literal_tree l.now)
 expr_at (nodes.Var v) = var_node v

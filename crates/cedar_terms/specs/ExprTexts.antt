@@ -1,4 +1,4 @@
--- How expressions are written.
+-- The printed texts of expressions.
 use Rattle.std.specs.Prelude.{ℕ, List, [], ◌++◌, Bool, true, false, ◌&&◌, Option, Some, None, if◌then◌else◌, codes}
 use Rattle.cedar_ids.specs.Escape.{escaped, is_ascii}
 use Rattle.cedar_ids.specs.Printed.{printed_name}
@@ -10,7 +10,7 @@ use Rattle.cedar_terms.specs.ExprTree.{Operator, and_operator, eq_operator, in_o
 use Rattle.cedar_terms.specs.ExprTree.{slot_node, unknown_node, set_node, call_node, not_node, binary_node, is_node}
 use Rattle.cedar_terms.specs.ExprTree.{ExprTrees, no_exprs, expr_then}
 
--- whether it stands without parentheses as an operand
+-- Whether an expression is an atom, which is written without parentheses as an operand.
 abbrev pub is_atom : ExprTree → Bool
 is_atom (val_node l) = true
 is_atom (var_node v) = true
@@ -22,25 +22,25 @@ is_atom (not_node e) = false
 is_atom (binary_node o x y) = false
 is_atom (is_node e t) = false
 
--- the text of an operand: that of an atom as it is, any other in parentheses
+-- The text of an operand: an atom unchanged, any other expression in parentheses.
 abbrev pub operand : Bool → List ℕ → List ℕ
 operand atom text = if atom then text else codes "(" ++ (text ++ codes ")")
 
--- an operator, between blanks
+-- The text of an operator, between spaces.
 abbrev pub operator_text : Operator → List ℕ
 operator_text and_operator = codes " && "
 operator_text eq_operator = codes " == "
 operator_text in_operator = codes " in "
 
--- an unknown
+-- The text of an unknown. For example, `unknown("x")`.
 abbrev pub unknown_text : UnknownParts → List ℕ
 unknown_text u = codes "unknown(\"" ++ (escaped u.name ++ codes "\")")
 
--- what is known of the text of any unknown
+-- The specified output of printing an unknown: its text if the name is ASCII, else unspecified.
 abbrev pub unknown_output : UnknownParts → Option (List ℕ)
 unknown_output u = if is_ascii u.name then Some (unknown_text u) else None
 
--- an expression, by its kind
+-- The text of an expression, by its kind.
 abbrev mutual
   pub expr_text : ExprTree → List ℕ
   expr_text (val_node l) = literal_text l
@@ -54,17 +54,17 @@ abbrev mutual
       ++ (operator_text o ++ operand (is_atom y) (expr_text y))
   expr_text (is_node e t) = operand (is_atom e) (expr_text e) ++ (codes " is " ++ printed_name t)
 
-  -- the expressions of a list, joined by a comma and a blank
+  -- The texts of the expressions of a list, separated by a comma and a space.
   pub exprs_text : ExprTrees → List ℕ
   exprs_text no_exprs = []
   exprs_text (expr_then e es) = expr_text e ++ more_exprs_text es
 
-  -- the same after another one, a comma and a blank before each
+  -- The texts of the remaining expressions of a list, with a comma and a space before each.
   pub more_exprs_text : ExprTrees → List ℕ
   more_exprs_text no_exprs = []
   more_exprs_text (expr_then e es) = (codes ", " ++ expr_text e) ++ more_exprs_text es
 
--- whether all texts in it are ASCII
+-- Whether all texts in an expression are ASCII.
 abbrev mutual
   pub is_ascii_expr : ExprTree → Bool
   is_ascii_expr (val_node l) = is_ascii_literal l
@@ -77,11 +77,11 @@ abbrev mutual
   is_ascii_expr (binary_node o x y) = is_ascii_expr x && is_ascii_expr y
   is_ascii_expr (is_node e t) = is_ascii_expr e
 
-  -- whether the text of each of a list has ASCII alone
+  -- Whether all texts in a list of expressions are ASCII.
   pub are_ascii_exprs : ExprTrees → Bool
   are_ascii_exprs no_exprs = true
   are_ascii_exprs (expr_then e es) = is_ascii_expr e && are_ascii_exprs es
 
--- what is known of the text of any expression
+-- The specified output of printing an expression: its text if all texts in it are ASCII, else unspecified.
 abbrev pub expr_output : ExprTree → Option (List ℕ)
 expr_output e = if is_ascii_expr e then Some (expr_text e) else None

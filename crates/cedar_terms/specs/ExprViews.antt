@@ -1,4 +1,4 @@
--- What callers see of what stands in an expression.
+-- The contents of an expression's node as callers see them.
 use Rattle.cedar_ids.specs.Views.{type_name}
 use Rattle.cedar_terms.specs.ExprTree.{Operator, and_operator, eq_operator, in_operator, ExprTree, val_node, var_node}
 use Rattle.cedar_terms.specs.ExprTree.{slot_node, unknown_node, set_node, call_node, not_node, binary_node, is_node}
@@ -9,13 +9,13 @@ use Rattle.cedar_terms.specs.declared.expr.BinaryOp.TheVariants as operators
 use Rattle.cedar_terms.specs.declared.expr.ExprKind.{ExprKind}
 use Rattle.cedar_terms.specs.declared.expr.ExprKind.TheVariants as kinds
 
--- which operator it is
+-- The operator as callers see it.
 abbrev pub operator_of : BinaryOp → Operator
 operator_of operators.And = and_operator
 operator_of operators.Eq = eq_operator
 operator_of operators.In = in_operator
 
--- the expression of a kind
+-- The expression with this kind and content.
 abbrev pub node_tree : ExprKind → ExprTree
 node_tree (kinds.Lit l) = val_node (literal_tree l)
 node_tree (kinds.Var v) = var_node v

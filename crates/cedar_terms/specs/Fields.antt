@@ -1,4 +1,4 @@
--- Records: what stands at a key, and which record a list of pairs makes; sets: which set a list makes.
+-- Lookups in records, and the record and the set that a list creates.
 use Rattle.std.specs.Prelude.{◌≡◌, ℕ, List, [], ◌∷◌, Option, Some, None, if◌then◌else◌, Contains}
 use Rattle.std.specs.Option.{option_or}
 use Rattle.std.specs.Str.{bytes_eq}
@@ -8,29 +8,30 @@ use Rattle.std.specs.List.Sorted.{IsStrictlySortedBy}
 use Rattle.cedar_terms.specs.ValueTree.{ValueTree, set_value, record_value, value_trees, FieldTrees, no_fields}
 use Rattle.cedar_terms.specs.ValueTree.{field_then, value_cmp}
 
--- the value at a key of a record
+-- The value at a key of a record, if there is one.
 abbrev pub field_at : List ℕ → FieldTrees → Option ValueTree
 field_at key no_fields = None
 field_at key (field_then k v fs) = if bytes_eq k key then Some v else field_at key fs
 
--- the keys of a record
+-- The keys of a record, in order.
 abbrev pub field_keys : FieldTrees → List (List ℕ)
 field_keys no_fields = []
 field_keys (field_then k v fs) = k ∷ field_keys fs
 
--- the value of the last pair with a key
+-- The value of the last pair with this key, if there is one.
 abbrev pub last_at : List ℕ → List (List ℕ × ValueTree) → Option ValueTree
 last_at key [] = None
 last_at key (p ∷ ps) = option_or (last_at key ps) (if bytes_eq p.0 key then Some p.1 else None)
 
--- v is the record of the pairs: its keys ascend by bytes, and at each key stands what the last pair with it gives
+-- Whether `v` is the record of the pairs. Its keys ascend by bytes. At each key it has the value of the last pair with
+-- that key.
 pub record IsRecordOf (pairs : List (List ℕ × ValueTree)) (v : ValueTree) : Type 0 where
   pub fields : FieldTrees
   pub is : v ≡ record_value fields
   pub ascending : IsStrictlySortedBy (slice_cmp nat_cmp) (field_keys fields)
   pub last : (key : List ℕ) → field_at key fields ≡ last_at key pairs
 
--- v is the set of the values: its elements ascend, and are those of the values
+-- Whether `v` is the set of the values. Its elements ascend strictly, and are exactly the elements of `values`.
 pub record IsSetOf (values : List ValueTree) (v : ValueTree) : Type 0 where
   pub elements : List ValueTree
   pub is : v ≡ set_value (value_trees elements)

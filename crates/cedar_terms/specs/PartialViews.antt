@@ -1,4 +1,4 @@
--- Partial values: their equality and hash.
+-- The equality and hash of partial values.
 use Rattle.std.specs.Prelude.{ℕ, List, Bool, false, ◌++◌}
 use Rattle.std.specs.Hash as fed
 use Rattle.cedar_terms.specs.ValueTree.{same_value}
@@ -7,13 +7,13 @@ use Rattle.cedar_terms.specs.ExprEquality.{same_expr, expr_hash}
 use Rattle.cedar_terms.specs.declared.partial_value.PartialValue.{PartialValue}
 use Rattle.cedar_terms.specs.declared.partial_value.PartialValue.TheVariants as partials
 
--- what `==` answers: two values, or two expressions, that are equal
+-- The result of `==`: whether both are equal values or both are equal expressions.
 abbrev pub same_partial : PartialValue → PartialValue → Bool
 same_partial (partials.Value v) (partials.Value w) = same_value v w
 same_partial (partials.Residual d) (partials.Residual e) = same_expr d e
 same_partial x y = false
 
--- what a partial value feeds to a hasher
+-- The input that a partial value feeds to a hasher.
 abbrev pub partial_hash : PartialValue → List (List ℕ)
 partial_hash (partials.Value v) = fed.u8 0 ++ value_hash v
 partial_hash (partials.Residual e) = fed.u8 1 ++ expr_hash e

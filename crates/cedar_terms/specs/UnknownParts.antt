@@ -6,28 +6,28 @@ use Rattle.std.specs.Cmp.Lexicographic.{pointwise}
 use Rattle.std.specs.Hash as fed
 use Rattle.cedar_ids.specs.Name.{NameParts, name_eq, name_hash_input}
 
--- the bytes of its name, and the name of the entity type that it is said to have
+-- The parts of an unknown: the bytes of its name, and the name of its entity type, if it is annotated.
 pub record UnknownParts : Type 0 where
   pub name : List ℕ
   pub annotation : Option NameParts
 
--- its name
+-- The name of an unknown.
 abbrev pub unknown_name : UnknownParts → List ℕ
 unknown_name u = u.name
 
--- its annotation
+-- The annotation of an unknown.
 abbrev pub unknown_annotation : UnknownParts → Option NameParts
 unknown_annotation u = u.annotation
 
--- what `==` answers
+-- The result of `==` on two unknowns.
 abbrev pub same_unknown : UnknownParts → UnknownParts → Bool
 same_unknown = eq_of_both (on unknown_name (pointwise nat_eq)) (on unknown_annotation (option_eq name_eq))
 
--- what an annotation feeds to a hasher
+-- The input that an annotation feeds to a hasher.
 abbrev pub annotation_hash : Option NameParts → List (List ℕ)
 annotation_hash None = fed.u8 0
 annotation_hash (Some n) = fed.u8 1 ++ name_hash_input n
 
--- what an unknown feeds to a hasher
+-- The input that an unknown feeds to a hasher.
 abbrev pub unknown_hash : UnknownParts → List (List ℕ)
 unknown_hash u = fed.str u.name ++ annotation_hash u.annotation

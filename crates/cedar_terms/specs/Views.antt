@@ -1,11 +1,11 @@
--- What callers see of literals and values.
+-- Literals as callers see them.
 use Rattle.std.specs.Prelude.{string_bytes}
 use Rattle.cedar_ids.specs.UidOf.{uid_parts}
 use Rattle.cedar_terms.specs.LiteralTree.{LiteralTree, bool_literal, long_literal, string_literal, uid_literal}
 use Rattle.cedar_terms.specs.declared.literal.Literal.{Literal}
 use Rattle.cedar_terms.specs.declared.literal.Literal.TheVariants as literals
 
--- what a literal is
+-- The literal as callers see it.
 abbrev pub literal_tree : Literal → LiteralTree
 literal_tree (literals.Bool b) = bool_literal b
 literal_tree (literals.Long n) = long_literal n

@@ -1,4 +1,4 @@
-//! Why an expression is not valid.
+//! The errors of validating an expression.
 ghost use Rattle.std.specs.Prelude.{◌≡◌};
 ghost use Rattle.cedar_terms.specs.declared.err.ExprValidationError.TheVariants.{Memory};
 
@@ -6,16 +6,20 @@ use cedar_ids::name::Name;
 use std::alloc::{AllocError, AllocFailed};
 use thiserror::Error;
 
-/// Why an expression is not valid. The original has no refusal for memory.
+/// The reason why an expression is invalid.
+///
+/// # Differences from cedar-policy-core
+///
+/// The original has no variant for allocation failures.
 #[derive(Debug, Drop, Error)]
 pub enum ExprValidationError {
-    /// It calls a function that is none of `ip`, `decimal`, `datetime` and `duration`.
+    /// The expression calls a function other than `ip`, `decimal`, `datetime` and `duration`.
     #[error("`{name}` is not a known function")]
     UnknownFunction {
         /// The name of the function.
         name: Name,
     },
-    /// Memory was refused.
+    /// An allocation failed.
     #[error("out of memory")]
     Memory,
 }
@@ -23,7 +27,11 @@ pub enum ExprValidationError {
 impl Clone for ExprValidationError {
     ghost is_clone = { λ x y. y ≡ x };
 
-    /// A copy. It is refused only where memory is.
+    /// Copies the error.
+    ///
+    /// # Errors
+    ///
+    /// Returns `AllocError` if an allocation fails.
     fn clone(&self) -> Result<ExprValidationError, AllocError> {
         match self {
             ExprValidationError::UnknownFunction { name } => {

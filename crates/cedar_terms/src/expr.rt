@@ -1,4 +1,4 @@
-//! Expressions: their eleven kinds of node, and how each is made.
+//! Expressions: the eleven kinds of node, and their constructors.
 ghost use Rattle.std.specs.Prelude.{◌≡◌, IfOk, IsTrue};
 ghost use Rattle.std.specs.Cmp.{partial_equiv_from_equiv};
 
@@ -18,14 +18,16 @@ use std::hash::{Hash, Hasher};
 use std::marker::Model;
 use std::rc::Rc;
 
-/// An expression: a tree of nodes of eleven kinds, each with a location where that is known.
+/// An expression: a tree of nodes of eleven kinds. Each node has an optional location.
 ///
-/// Contracts see an expression as a tree without locations. Equality and hash look at that tree
-/// alone, so never at a location. Its parts are shared, so a copy takes no memory for them.
+/// Equality and hash use only the tree, and ignore locations. Contracts see an expression as a tree without locations.
+/// `clone` shares the parts of the expression.
 ///
-/// It is written with its operands bare where they are literals, variables, slots, unknowns, sets or
-/// calls, and in parentheses otherwise: `(!(2 == 1)) && true`. Comparing, hashing and writing take no
-/// memory and go down the tree by recursion; 10,000 levels are carried with room to spare.
+/// `Display` writes an operand without parentheses if it is a literal, variable, slot, unknown, set or call. It writes
+/// every other operand in parentheses: `(!(2 == 1)) && true`.
+///
+/// Comparing, hashing and writing recurse into the tree and do not allocate. An expression with 10,000 levels does not
+/// exhaust an ordinary stack.
 #[derive(Debug, Drop)]
 #[cycle(expr)]
 pub struct Expr {
@@ -33,7 +35,7 @@ pub struct Expr {
     pub(crate) loc: Option<Loc>,
 }
 
-// The kinds of a node; the constructors of `Expr` say what each is.
+// The kind of a node. The constructors of `Expr` describe each kind.
 #[derive(Debug, Drop)]
 #[cycle(expr)]
 pub(crate) enum ExprKind {
@@ -48,7 +50,7 @@ pub(crate) enum ExprKind {
     Is(Rc<Expr>, EntityType),
 }
 
-// What joins two operands.
+// The operator of a node with two operands.
 #[derive(Clone, Copy, Debug)]
 pub(crate) enum BinaryOp {
     And,
@@ -60,7 +62,7 @@ impl BinaryOp {
     ghost use Rattle.cedar_terms.specs.ExprTree.{operator_index};
     ghost use Rattle.cedar_terms.specs.ExprViews.{operator_of};
 
-    // The place of the operator among the three.
+    // Returns the index of the operator.
     pub(crate) fn index(self) -> u8
         ensures { result ≡ operator_index (operator_of self) }
     {
@@ -100,33 +102,44 @@ impl Expr {
     ghost use Rattle.cedar_terms.specs.ExprTree.{expr_trees};
     ghost use Rattle.cedar_terms.specs.ExprViews.{node_tree, operator_of};
 
-    /// The expression of a literal. A new node has no location.
+    /// Creates the expression of a literal. A new node has no location. Does not allocate.
     ///
-    /// This body takes no memory; it has the allocator and the `Result` that every constructor has, so
-    /// that a node may come to be kept behind a pointer without a change for callers. The other
-    /// constructors take memory, but for those of a variable and a slot, and are refused only where
-    /// that is.
+    /// # Errors
+    ///
+    /// Never returns `AllocError`. The `Result` leaves room for a representation whose allocation can fail.
     pub fn val(_alloc: Global, literal: Literal) -> Result<Expr, AllocError>
         ensures { IfOk result (λ e. e ≡ val_node (literal_tree literal)) }
     {
         Ok(Expr::of(ExprKind::Lit(literal)))
     }
 
-    /// The expression of a variable. Takes no memory, as that of a literal.
+    /// Creates the expression of a variable. Does not allocate.
+    ///
+    /// # Errors
+    ///
+    /// Never returns `AllocError`.
     pub fn var(_alloc: Global, var: Var) -> Result<Expr, AllocError>
         ensures { IfOk result (λ e. e ≡ var_node var) }
     {
         Ok(Expr::of(ExprKind::Var(var)))
     }
 
-    /// The expression of a slot. Takes no memory, as that of a literal.
+    /// Creates the expression of a slot. Does not allocate.
+    ///
+    /// # Errors
+    ///
+    /// Never returns `AllocError`.
     pub fn slot(_alloc: Global, id: SlotId) -> Result<Expr, AllocError>
         ensures { IfOk result (λ e. e ≡ slot_node id) }
     {
         Ok(Expr::of(ExprKind::Slot(id)))
     }
 
-    /// The expression of an unknown. Takes memory, and is refused only where that is.
+    /// Creates the expression of an unknown.
+    ///
+    /// # Errors
+    ///
+    /// Returns `AllocError` if an allocation fails.
     pub fn unknown(alloc: Global, unknown: Unknown) -> Result<Expr, AllocError>
         ensures { IfOk result (λ e. e ≡ unknown_node unknown) }
     {
@@ -134,7 +147,11 @@ impl Expr {
         Ok(Expr::of(ExprKind::Unknown(unknown)))
     }
 
-    /// The set of some expressions, in the order given. Takes memory, and is refused only where that is.
+    /// Creates a set expression, with the elements in the given order.
+    ///
+    /// # Errors
+    ///
+    /// Returns `AllocError` if an allocation fails.
     pub fn set(alloc: Global, exprs: Vec<Expr>) -> Result<Expr, AllocError>
         ensures { IfOk result (λ e. e ≡ set_node (expr_trees exprs.items)) }
     {
@@ -142,8 +159,15 @@ impl Expr {
         Ok(Expr::of(ExprKind::Set(exprs)))
     }
 
-    /// The call of an extension function on some arguments. Takes memory, and is refused only where
-    /// that is. The original calls this `call_extension_fn`.
+    /// Creates a call of an extension function.
+    ///
+    /// # Errors
+    ///
+    /// Returns `AllocError` if an allocation fails.
+    ///
+    /// # Differences from cedar-policy-core
+    ///
+    /// The original calls this `call_extension_fn`.
     pub fn call(alloc: Global, name: Name, args: Vec<Expr>) -> Result<Expr, AllocError>
         ensures { IfOk result (λ e. e ≡ call_node name (expr_trees args.items)) }
     {
@@ -151,7 +175,11 @@ impl Expr {
         Ok(Expr::of(ExprKind::Call(name, args)))
     }
 
-    /// That an expression does not hold. Takes memory, and is refused only where that is.
+    /// Creates the negation of an expression: `!operand`.
+    ///
+    /// # Errors
+    ///
+    /// Returns `AllocError` if an allocation fails.
     pub fn not(alloc: Global, operand: Expr) -> Result<Expr, AllocError>
         ensures { IfOk result (λ e. e ≡ not_node operand) }
     {
@@ -159,29 +187,44 @@ impl Expr {
         Ok(Expr::of(ExprKind::Not(operand)))
     }
 
-    /// That both expressions hold: always a node of its own. Takes memory, and is refused only where
-    /// that is.
+    /// Creates the conjunction of two expressions: `left && right`. It is always a new node.
+    ///
+    /// # Errors
+    ///
+    /// Returns `AllocError` if an allocation fails.
     pub fn and(alloc: Global, left: Expr, right: Expr) -> Result<Expr, AllocError>
         ensures { IfOk result (λ e. e ≡ and_node left right) }
     {
         Expr::binary(alloc, BinaryOp::And, left, right)
     }
 
-    /// That two expressions are equal. Takes memory, and is refused only where that is.
+    /// Creates the equality test `left == right`.
+    ///
+    /// # Errors
+    ///
+    /// Returns `AllocError` if an allocation fails.
     pub fn is_eq(alloc: Global, left: Expr, right: Expr) -> Result<Expr, AllocError>
         ensures { IfOk result (λ e. e ≡ eq_node left right) }
     {
         Expr::binary(alloc, BinaryOp::Eq, left, right)
     }
 
-    /// That the first expression is in the second. Takes memory, and is refused only where that is.
+    /// Creates the hierarchy test `left in right`.
+    ///
+    /// # Errors
+    ///
+    /// Returns `AllocError` if an allocation fails.
     pub fn is_in(alloc: Global, left: Expr, right: Expr) -> Result<Expr, AllocError>
         ensures { IfOk result (λ e. e ≡ in_node left right) }
     {
         Expr::binary(alloc, BinaryOp::In, left, right)
     }
 
-    /// That an expression is of an entity type. Takes memory, and is refused only where that is.
+    /// Creates the type test `operand is ty`.
+    ///
+    /// # Errors
+    ///
+    /// Returns `AllocError` if an allocation fails.
     pub fn is_entity_type(alloc: Global, operand: Expr, ty: EntityType) -> Result<Expr, AllocError>
         ensures { IfOk result (λ e. e ≡ is_node operand (type_name ty)) }
     {
@@ -189,7 +232,7 @@ impl Expr {
         Ok(Expr::of(ExprKind::Is(operand, ty)))
     }
 
-    // Two operands, joined.
+    // Creates a node with two operands.
     fn binary(alloc: Global, op: BinaryOp, left: Expr, right: Expr) -> Result<Expr, AllocError>
         ensures { IfOk result (λ e. e ≡ binary_node (operator_of op) left right) }
     {
@@ -198,14 +241,14 @@ impl Expr {
         Ok(Expr::of(ExprKind::Binary(op, left, right)))
     }
 
-    // A node of this kind, with no location.
+    // Creates a node of this kind, without a location.
     fn of(kind: ExprKind) -> Expr
         ensures { result ≡ node_tree kind }
     {
         Expr { kind, loc: None }
     }
 
-    /// The expression with its own node at this location. It takes no memory.
+    /// Replaces the location of the root node. Does not allocate.
     pub fn with_maybe_source_loc(self, loc: Option<Loc>) -> Expr
         ensures { result ≡ self }
     {
@@ -215,7 +258,7 @@ impl Expr {
         }
     }
 
-    /// The location of its own node, if that is known. It takes no memory.
+    /// Returns the location of the root node, if it has one. Does not allocate.
     pub fn source_loc(&self) -> Option<&Loc> {
         self.loc.as_ref()
     }
@@ -224,8 +267,12 @@ impl Expr {
 impl Clone for Expr {
     ghost is_clone = { λ x y. y ≡ x };
 
-    /// A copy, its location too. What the expression holds is shared but for a text of a literal; it
-    /// is refused only where memory is.
+    /// Copies the expression, with its location. All parts are shared, except that the text of a string literal at the
+    /// root is copied.
+    ///
+    /// # Errors
+    ///
+    /// Returns `AllocError` if an allocation fails.
     fn clone(&self) -> Result<Expr, AllocError> {
         let kind = match &self.kind {
             ExprKind::Lit(literal) => ExprKind::Lit(literal.clone()?),

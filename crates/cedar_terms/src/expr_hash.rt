@@ -1,4 +1,4 @@
-//! What expressions feed to a hasher: the place of the kind, then what the expression holds.
+//! Hashing of expressions: the index of the kind, then the content.
 ghost use Rattle.std.specs.Prelude.{◌≡◌, fold};
 ghost use Rattle.cedar_terms.specs.ExprTree.{expr_trees};
 ghost use Rattle.cedar_terms.specs.ExprEquality.{expr_hash, exprs_hash};
@@ -6,7 +6,7 @@ ghost use Rattle.cedar_terms.specs.ExprEquality.{expr_hash, exprs_hash};
 use crate::expr::{Expr, ExprKind};
 use std::hash::{Hash, Hasher};
 
-// Feeds an expression, its location aside.
+// Feeds an expression to the hasher, without its location.
 #[cycle(feed)]
 pub(crate) fn feed<H: Hasher>(expr: &Expr, state: &mut H)
     ensures { state.new ≡ fold H.write state.old (expr_hash expr.now) }
@@ -55,7 +55,7 @@ pub(crate) fn feed<H: Hasher>(expr: &Expr, state: &mut H)
     }
 }
 
-// Feeds the expressions in turn, and a mark after the last.
+// Feeds the expressions in order, and an end mark.
 #[cycle(feed)]
 fn feed_all<H: Hasher>(exprs: &Vec<Expr>, state: &mut H)
     ensures { state.new ≡ fold H.write state.old (exprs_hash (expr_trees exprs.now.items)) }

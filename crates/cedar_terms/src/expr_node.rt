@@ -1,4 +1,4 @@
-//! What the node of an expression is, for one who goes through expressions.
+//! The public view of an expression's root node, for code that traverses expressions.
 ghost use Rattle.std.specs.Prelude.{◌≡◌};
 ghost use Rattle.cedar_terms.specs.ExprNodes.{expr_at};
 
@@ -10,7 +10,7 @@ use crate::var::Var;
 use cedar_ids::entity::EntityType;
 use cedar_ids::name::Name;
 
-/// The node of an expression, with what it holds and what stands below it lent.
+/// The root node of an expression. It borrows the content and the children of the node.
 #[derive(Debug, Drop)]
 pub enum ExprNode<'a> {
     /// A literal.
@@ -21,27 +21,33 @@ pub enum ExprNode<'a> {
     Slot(SlotId),
     /// A value that is not known yet.
     Unknown(&'a Unknown),
-    /// A set of expressions, in the order given.
+    /// A set of expressions, in the given order.
     Set(&'a [Expr]),
-    /// The call of an extension function on some arguments.
+    /// A call of an extension function: its name and its arguments.
     Call(&'a Name, &'a [Expr]),
-    /// That an expression does not hold.
+    /// A negation: `!e`.
     Not(&'a Expr),
-    /// That both expressions hold.
+    /// A conjunction: `l && r`.
     And(&'a Expr, &'a Expr),
-    /// That two expressions are equal.
+    /// An equality test: `l == r`.
     Eq(&'a Expr, &'a Expr),
-    /// That the first expression is in the second.
+    /// A hierarchy test: `l in r`.
     In(&'a Expr, &'a Expr),
-    /// That an expression is of an entity type.
+    /// A type test: `e is T`.
     Is(&'a Expr, &'a EntityType),
 }
 
 impl Expr {
-    /// What the node of the expression is. It takes no memory, and costs the same for every expression.
+    /// Returns the root node of the expression.
     ///
-    /// The original's `expr_kind` lends its own type, whose variants hold pointers. This is this project's own: how an
-    /// expression is kept stays a matter of this crate.
+    /// # Complexity
+    ///
+    /// O(1). Does not allocate.
+    ///
+    /// # Differences from cedar-policy-core
+    ///
+    /// The original has `expr_kind`, which returns its own type with pointers in the variants. This function hides the
+    /// representation of an expression.
     pub fn node(&self) -> ExprNode<'_>
         ensures { expr_at result ≡ self.now }
     {

@@ -1,11 +1,11 @@
-//! Whether two expressions are equal, wherever they stand.
+//! Equality of expressions, regardless of locations.
 ghost use Rattle.std.specs.Prelude.{◌≡◌};
 ghost use Rattle.cedar_terms.specs.ExprTree.{expr_trees};
 ghost use Rattle.cedar_terms.specs.ExprEquality.{same_expr, same_exprs};
 
 use crate::expr::{Expr, ExprKind};
 
-// Whether two expressions are equal.
+// Returns whether two expressions are equal.
 #[cycle(same)]
 #[tactic(auto, using(crate::proofs::Told::literals_told, crate::proofs::Told::unknowns_told, crate::proofs::Told::calls_told, crate::proofs::Told::types_told,))]
 pub(crate) fn same(a: &Expr, b: &Expr) -> bool
@@ -51,7 +51,7 @@ pub(crate) fn same(a: &Expr, b: &Expr) -> bool
     }
 }
 
-// Whether two lists have equal expressions at equal places.
+// Returns whether two lists have the same length and equal expressions at each index.
 #[cycle(same)]
 fn same_lists(a: &Vec<Expr>, b: &Vec<Expr>) -> bool
     ensures { result ≡ same_exprs (expr_trees a.now.items) (expr_trees b.now.items) }

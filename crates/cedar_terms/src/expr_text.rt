@@ -1,4 +1,4 @@
-//! How expressions are written.
+//! Printing of expressions.
 ghost use Rattle.std.specs.Prelude.{◌≡◌, true};
 ghost use Rattle.std.specs.Fmt.{WritesOnOk};
 ghost use Rattle.cedar_terms.specs.ExprTree.{expr_trees};
@@ -46,7 +46,7 @@ pub(crate) fn show<W: fmt::Write>(expr: &Expr, f: &mut fmt::Formatter<W>) -> fmt
     }
 }
 
-// Writes an operand: an atom as it is, any other in parentheses.
+// Writes an operand, in parentheses if it is not an atom.
 #[cycle(show)]
 fn show_operand<W: fmt::Write>(expr: &Expr, f: &mut fmt::Formatter<W>) -> fmt::Result
     ensures { is_ascii_expr expr.now ≡ true → WritesOnOk W.write_str_gives f.old result
@@ -61,7 +61,7 @@ fn show_operand<W: fmt::Write>(expr: &Expr, f: &mut fmt::Formatter<W>) -> fmt::R
     }
 }
 
-// Writes the expressions of a list, joined by a comma and a blank.
+// Writes the expressions of a list, separated by a comma and a space.
 #[cycle(show)]
 fn show_all<W: fmt::Write>(exprs: &Vec<Expr>, f: &mut fmt::Formatter<W>) -> fmt::Result
     ensures { are_ascii_exprs (expr_trees exprs.now.items) ≡ true
@@ -77,7 +77,7 @@ fn show_all<W: fmt::Write>(exprs: &Vec<Expr>, f: &mut fmt::Formatter<W>) -> fmt:
     Ok(())
 }
 
-// Whether an operand stands without parentheses.
+// Returns whether an operand is an atom, which is written without parentheses.
 fn stands_bare(expr: &Expr) -> bool
     ensures { result ≡ is_atom expr.now }
 {
@@ -88,7 +88,7 @@ fn stands_bare(expr: &Expr) -> bool
     }
 }
 
-// Writes an operator, between blanks.
+// Writes an operator between spaces.
 fn show_operator<W: fmt::Write>(op: BinaryOp, f: &mut fmt::Formatter<W>) -> fmt::Result
     ensures { WritesOnOk W.write_str_gives f.old result (operator_text (operator_of op)) f.new }
 {

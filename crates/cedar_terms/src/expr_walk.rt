@@ -1,5 +1,5 @@
-//! The walk through an expression: a node stands before all that lies below it, and what lies below a
-//! later child before what lies below an earlier one. It goes by a stack of its own.
+//! Traversals of an expression, with an explicit stack. A node comes before its descendants. A later child comes, with
+//! its descendants, before an earlier child.
 ghost use Rattle.std.specs.Prelude.{◌≡◌, ◌++◌, map, IfOk, OnOk};
 ghost use Rattle.cedar_terms.specs.Walk.{walk, slots_of, unknowns_of, first_unknown_function, is_known_function};
 ghost use Rattle.cedar_terms.specs.laws.Children.{children};
@@ -13,12 +13,21 @@ use cedar_ids::name::Name;
 use std::alloc::{AllocError, Global};
 
 impl Expr {
-    /// The nodes of the expression: its own comes before all others, and what a later child holds before
-    /// what an earlier one holds.
+    /// Returns all nodes of the expression. A node comes before its descendants. A later child comes, with its
+    /// descendants, before an earlier child.
     ///
-    /// It takes memory, and is refused only where that is. It goes by a stack of its own, so an
-    /// expression may be as deep as memory holds; it visits each node once. The original gives an
-    /// iterator.
+    /// # Errors
+    ///
+    /// Returns `AllocError` if an allocation fails.
+    ///
+    /// # Complexity
+    ///
+    /// O(n), where n is the number of nodes. Allocates O(n). The traversal uses a stack on the heap, so the depth of
+    /// the expression is not limited by the call stack.
+    ///
+    /// # Differences from cedar-policy-core
+    ///
+    /// The original returns an iterator.
     pub fn subexpressions(&self, alloc: Global) -> Result<Vec<&Expr>, AllocError>
         ensures { IfOk result (λ v. map (λ e. e.now) v.items ≡ walk self.now) }
     {
@@ -32,10 +41,12 @@ impl Expr {
         Ok(met)
     }
 
-    /// The slots that the walk through the nodes meets, as often as it meets them. The location of
-    /// each is its node's.
+    /// Returns the slots of the expression, in the order of [`Expr::subexpressions`] and with repetitions. Each slot
+    /// has the location of its node.
     ///
-    /// It takes memory, and is refused only where that is.
+    /// # Errors
+    ///
+    /// Returns `AllocError` if an allocation fails.
     pub fn slots(&self, alloc: Global) -> Result<Vec<Slot>, AllocError>
         ensures { IfOk result (λ v. v.items ≡ slots_of self.now) }
     {
@@ -52,9 +63,11 @@ impl Expr {
         Ok(slots)
     }
 
-    /// The unknowns that the walk through the nodes meets, as often as it meets them.
+    /// Returns the unknowns of the expression, in the order of [`Expr::subexpressions`] and with repetitions.
     ///
-    /// It takes memory, and is refused only where that is.
+    /// # Errors
+    ///
+    /// Returns `AllocError` if an allocation fails.
     pub fn unknowns(&self, alloc: Global) -> Result<Vec<&Unknown>, AllocError>
         ensures { IfOk result (λ v. map (λ u. u.now) v.items ≡ unknowns_of self.now) }
     {
@@ -68,10 +81,13 @@ impl Expr {
         Ok(unknowns)
     }
 
-    /// Whether each function that it calls is known: `ip`, `decimal`, `datetime` or `duration`.
+    /// Checks that the expression calls only known functions: `ip`, `decimal`, `datetime` and `duration`.
     ///
-    /// `UnknownFunction` names the first other one that the walk through the nodes meets. It takes
-    /// memory, and is refused by `Memory` only where that is.
+    /// # Errors
+    ///
+    /// - `UnknownFunction`: the expression calls another function. The error contains the first such function, in the
+    ///   order of [`Expr::subexpressions`].
+    /// - `Memory`: an allocation failed.
     pub fn try_validate(&self, alloc: Global) -> Result<(), ExprValidationError>
         ensures { Validates result (first_unknown_function self.now) }
     {
@@ -89,7 +105,7 @@ impl Expr {
     }
 }
 
-// Puts the children of a node on the stack, the last on top.
+// Pushes the children of a node onto the stack, in order.
 #[tactic(auto, using(crate::proofs::Walks::exprs_listed))]
 fn push_children<'a>(node: &'a Expr, pending: &mut Vec<&'a Expr>) -> Result<(), AllocError>
     ensures { OnOk result (map (λ e. e.now) pending.new.items
@@ -108,7 +124,7 @@ fn push_children<'a>(node: &'a Expr, pending: &mut Vec<&'a Expr>) -> Result<(), 
     Ok(())
 }
 
-// Puts some expressions on the stack, the last on top.
+// Pushes some expressions onto the stack, in order.
 fn push_all<'a>(exprs: &'a Vec<Expr>, pending: &mut Vec<&'a Expr>) -> Result<(), AllocError>
     ensures { OnOk result (map (λ e. e.now) pending.new.items
         ≡ map (λ e. e.now) pending.old.items ++ exprs.now.items) }
@@ -119,7 +135,7 @@ fn push_all<'a>(exprs: &'a Vec<Expr>, pending: &mut Vec<&'a Expr>) -> Result<(),
     Ok(())
 }
 
-// Whether a function may be called.
+// Returns whether a function is one of the known functions.
 fn is_known(alloc: Global, name: &Name) -> Result<bool, AllocError>
     ensures { IfOk result (λ known. known ≡ is_known_function name.now) }
 {

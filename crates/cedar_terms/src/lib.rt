@@ -1,9 +1,11 @@
-//! Values and expressions: the layer below policies, as far as policies and entities need it.
+//! Values and expressions of Cedar, as far as policies and entities need them.
 //!
-//! Contracts see a value and an expression as trees without locations, so `≡` there is equality:
-//! nothing that compares, orders or hashes looks at a location. What takes memory goes by stacks of its
-//! own, or shares. Comparing, hashing, writing and dropping go down the tree by recursion: on a stack
-//! of 8 MiB some 25,000 levels are carried, and dropping takes the most, about 330 bytes a level.
+//! Comparisons and hashes ignore locations. Contracts see a value and an expression as trees without locations, so `≡`
+//! on them is equality.
+//!
+//! Functions that allocate use explicit stacks or share data. Comparing, hashing, writing and dropping recurse into the
+//! tree. On a stack of 8 MiB they support a depth of about 25,000 levels. Dropping needs the most stack space, about
+//! 330 bytes per level.
 #![tactic(auto)]
 
 pub mod err;

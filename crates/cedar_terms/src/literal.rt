@@ -1,4 +1,4 @@
-//! Literals: truth values, integers, texts and uids.
+//! Literals: Booleans, integers, strings and uids.
 ghost use Rattle.std.specs.Prelude.{◌≡◌, IsTrue};
 ghost use Rattle.std.specs.Ordering.{on};
 ghost use Rattle.std.specs.Cmp.{partial_equiv_from_equiv, on_equiv};
@@ -16,17 +16,17 @@ use std::fmt;
 use std::hash::{Hash, Hasher};
 use std::rc::Rc;
 
-/// A literal: what an expression or a value is made of in the end.
+/// A literal: a leaf of an expression or of a value.
 ///
-/// Contracts see it by `literal_tree`, where a text is its bytes and a uid has no location. Two
-/// literals are equal where these are the same. Comparing and hashing take no memory.
+/// Comparing and hashing use the content, ignore the location of a uid, and do not allocate. Contracts see a literal
+/// through `literal_tree`.
 #[derive(Debug, Drop)]
 pub enum Literal {
-    /// A truth value.
+    /// A Boolean.
     Bool(bool),
-    /// A number of 64 bits.
+    /// A 64-bit integer.
     Long(i64),
-    /// A text.
+    /// A string.
     String(String),
     /// The uid of an entity.
     EntityUID(Rc<EntityUID>),
@@ -35,7 +35,11 @@ pub enum Literal {
 impl Clone for Literal {
     ghost is_clone = { λ x y. literal_tree y ≡ literal_tree x };
 
-    /// A copy. A text is copied, a uid is shared; it is refused only where memory is.
+    /// Copies the literal. A string is copied, and a uid is shared.
+    ///
+    /// # Errors
+    ///
+    /// Returns `AllocError` if an allocation fails.
     fn clone(&self) -> Result<Literal, AllocError> {
         match self {
             Literal::Bool(b) => Ok(Literal::Bool(*b)),
@@ -103,7 +107,7 @@ impl fmt::Display for Literal {
     }
 }
 
-// How two literals stand in the order of values.
+// Compares two literals in the order of values.
 pub(crate) fn compare_literals(a: &Literal, b: &Literal) -> Ordering
     ensures { result ≡ literal_cmp (literal_tree a.now) (literal_tree b.now) }
 {

@@ -1,4 +1,4 @@
-//! Partial values: a value, or an expression that is left to be evaluated.
+//! Partial values: a value, or an expression that is not evaluated yet.
 ghost use Rattle.std.specs.Prelude.{◌≡◌, IsTrue};
 ghost use Rattle.std.specs.Cmp.{partial_equiv_from_equiv};
 ghost use Rattle.cedar_terms.specs.PartialTexts.{partial_output};
@@ -11,21 +11,25 @@ use std::alloc::AllocError;
 use std::fmt;
 use std::hash::{Hash, Hasher};
 
-/// What an expression is where not all is known: a value, or an expression that is left over.
+/// The result of partial evaluation: a value, or an expression that is not evaluated yet.
 ///
-/// Comparing and hashing take no memory, and never look at a location.
+/// Comparing and hashing ignore locations and do not allocate.
 #[derive(Debug, Drop)]
 pub enum PartialValue {
     /// A value.
     Value(Value),
-    /// An expression that is left over.
+    /// An expression that is not evaluated yet.
     Residual(Expr),
 }
 
 impl Clone for PartialValue {
     ghost is_clone = { λ x y. y ≡ x };
 
-    /// A copy, as of the value or the expression. It is refused only where memory is.
+    /// Copies the partial value, as the `clone` of its content does.
+    ///
+    /// # Errors
+    ///
+    /// Returns `AllocError` if an allocation fails.
     fn clone(&self) -> Result<PartialValue, AllocError> {
         match self {
             PartialValue::Value(value) => Ok(PartialValue::Value(value.clone()?)),

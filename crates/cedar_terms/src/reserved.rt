@@ -1,10 +1,9 @@
-//! The keys that no record may have.
+//! The reserved keys of records.
 ghost use Rattle.std.specs.Prelude.{◌≡◌};
 ghost use Rattle.cedar_terms.specs.Reserved.{is_reserved_key};
 
-/// Whether a record may not have this key: it is `__extn`, `__expr` or `__entity`.
-///
-/// It takes no memory.
+/// Returns whether a key is reserved, so that no record may have it: `__extn`, `__expr` or `__entity`. Does not
+/// allocate.
 pub fn is_reserved_key(key: &str) -> bool
     ensures { result ≡ is_reserved_key key.now }
 {

@@ -1,4 +1,4 @@
-//! Slots: their ids, and a slot at its place.
+//! Slots of templates, and their ids.
 ghost use Rattle.std.specs.Prelude.{◌≡◌, Some, IsTrue};
 ghost use Rattle.std.proofs.Common.{refl};
 ghost use Rattle.std.specs.Ordering.{as_partial_cmp};
@@ -14,10 +14,13 @@ use std::fmt;
 use std::hash::{Hash, Hasher};
 use std::marker::Model;
 
-/// The id of a slot of a template: there are three.
+/// The id of a slot of a template. There are three.
 ///
-/// They stand in their order. Copying, comparing, hashing and writing one take no memory. In the
-/// original they are behind a private field, and the action has none.
+/// The variants are in ascending order. Copying, comparing, hashing and writing do not allocate.
+///
+/// # Differences from cedar-policy-core
+///
+/// In the original the ids are behind a private field, and there is no slot for the action.
 #[derive(Clone, Copy, Debug)]
 pub enum SlotId {
     /// Written `?principal`.
@@ -29,31 +32,35 @@ pub enum SlotId {
 }
 
 impl SlotId {
-    /// All slot ids, in their order.
+    /// All slot ids, in ascending order.
     pub const ALL: [SlotId; 3] = [SlotId::Principal, SlotId::Action, SlotId::Resource];
 
-    /// The id of the principal's slot. It takes no memory.
+    /// Returns the id of the principal's slot. Does not allocate.
     pub fn principal() -> SlotId
         ensures { result ≡ SlotId.Principal }
     {
         Self::Principal
     }
 
-    /// The id of the action's slot, which the original has not. It takes no memory.
+    /// Returns the id of the action's slot. Does not allocate.
+    ///
+    /// # Differences from cedar-policy-core
+    ///
+    /// The original has no such slot.
     pub fn action() -> SlotId
         ensures { result ≡ SlotId.Action }
     {
         Self::Action
     }
 
-    /// The id of the resource's slot. It takes no memory.
+    /// Returns the id of the resource's slot. Does not allocate.
     pub fn resource() -> SlotId
         ensures { result ≡ SlotId.Resource }
     {
         Self::Resource
     }
 
-    // The place of the id among all.
+    // Returns the index of the id in `ALL`.
     fn index(self) -> u8
         ensures { result ≡ slot_index self }
     {
@@ -125,14 +132,14 @@ impl fmt::Display for SlotId {
     }
 }
 
-/// A slot that stands in an expression: its id, and where it stands.
+/// A slot in an expression: its id and its optional location.
 ///
-/// Equality and hash look at the id alone, and contracts see a slot as its id.
+/// Equality and hash use only the id. Contracts see a slot as its id.
 #[derive(Debug, Drop)]
 pub struct Slot {
-    /// Which slot it is.
+    /// The id of the slot.
     pub id: SlotId,
-    /// Where it stands, if that is known.
+    /// The location of the slot, if it is known.
     pub loc: Option<Loc>,
 }
 
@@ -147,7 +154,11 @@ impl Model for Slot {
 impl Clone for Slot {
     ghost is_clone = { λ x y. y ≡ x };
 
-    /// A copy of the slot, its location too. It is refused only where memory is.
+    /// Copies the slot, with its location.
+    ///
+    /// # Errors
+    ///
+    /// Returns `AllocError` if an allocation fails.
     fn clone(&self) -> Result<Slot, AllocError> {
         Ok(Slot {
             id: self.id,

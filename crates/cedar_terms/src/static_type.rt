@@ -1,4 +1,4 @@
-//! The static type of a uid and of an entity.
+//! Static types of uids and entities.
 ghost use Rattle.std.specs.Prelude.{◌≡◌, IfOk};
 ghost use Rattle.cedar_ids.specs.Name.{NameParts};
 ghost use Rattle.cedar_ids.specs.UidOf.{uid_parts};
@@ -6,9 +6,9 @@ ghost use Rattle.cedar_ids.specs.UidOf.{uid_parts};
 use cedar_ids::entity::{EntityType, EntityUID};
 use std::alloc::{AllocError, Global};
 
-/// A type that is known without evaluating: that of an entity.
+/// A type that is known without evaluation. Only entity types are supported.
 ///
-/// Comparing and hashing take no memory, and never look at a location.
+/// Comparing and hashing ignore locations and do not allocate.
 #[derive(Clone, Debug, Drop, PartialEq, Eq, Hash)]
 pub enum StaticType {
     /// An entity of this entity type.
@@ -18,14 +18,18 @@ pub enum StaticType {
     },
 }
 
-/// What has a type that is known without evaluating.
+/// Values whose type is known without evaluation.
 pub trait StaticallyTyped {
     ghost use Rattle.cedar_terms.specs.TypeViews.{entity_name};
 
     // The name of the entity type.
     ghost static_name: { Self → NameParts };
 
-    /// The type. It takes memory, and is refused only where that is.
+    /// Returns the type.
+    ///
+    /// # Errors
+    ///
+    /// Returns `AllocError` if an allocation fails.
     fn type_of(&self, alloc: Global) -> Result<StaticType, AllocError>
         ensures { IfOk result (λ t. entity_name t ≡ static_name self.now) };
 }

@@ -1,4 +1,4 @@
-//! Unknowns: what stands for a value that is not known yet.
+//! Unknowns: placeholders for values that are not known yet.
 ghost use Rattle.std.specs.Prelude.{◌≡◌, IsTrue, Some, None, string_bytes};
 ghost use Rattle.std.specs.Cmp.{partial_equiv_from_equiv};
 ghost use Rattle.cedar_terms.specs.UnknownParts.{UnknownParts, same_unknown, unknown_hash};
@@ -11,14 +11,14 @@ use std::fmt;
 use std::hash::{Hash, Hasher};
 use std::marker::Model;
 
-/// A value that is not known yet: its name, and the type that it will have where that is known.
+/// A value that is not known yet: its name and its optional type.
 ///
-/// Comparing and hashing take no memory, and never look at a location.
+/// Comparing and hashing ignore locations and do not allocate.
 #[derive(Debug, Drop)]
 pub struct Unknown {
-    /// The name by which it will be given.
+    /// The name that identifies the unknown.
     pub name: String,
-    /// The type that it will have, if that is known.
+    /// The type of the value, if it is known.
     pub type_annotation: Option<StaticType>,
 }
 
@@ -35,7 +35,7 @@ impl Model for Unknown {
 impl Unknown {
     ghost use Rattle.cedar_terms.specs.TypeViews.{entity_name};
 
-    /// An unknown of this name, of any type. It takes no memory.
+    /// Creates an unknown with this name and without a type. Does not allocate.
     pub fn new_untyped(name: String) -> Unknown
         ensures { result ≡ record { name = string_bytes name; annotation = None } }
     {
@@ -45,7 +45,7 @@ impl Unknown {
         }
     }
 
-    /// An unknown of this name and type. It takes no memory.
+    /// Creates an unknown with this name and type. Does not allocate.
     pub fn new_with_type(name: String, ty: StaticType) -> Unknown
         ensures { result
             ≡ record { name = string_bytes name; annotation = Some (entity_name ty) } }
@@ -60,7 +60,11 @@ impl Unknown {
 impl Clone for Unknown {
     ghost is_clone = { λ x y. y ≡ x };
 
-    /// A copy. It is refused only where memory is.
+    /// Copies the unknown.
+    ///
+    /// # Errors
+    ///
+    /// Returns `AllocError` if an allocation fails.
     fn clone(&self) -> Result<Unknown, AllocError> {
         let type_annotation = match &self.type_annotation {
             None => None,

@@ -22,35 +22,37 @@ use std::hash::{Hash, Hasher};
 use std::marker::Model;
 use std::rc::Rc;
 
-/// What an evaluated expression is: a literal, a set, a record or an extension value.
+/// The result of evaluating an expression: a literal, a set, a record or an extension value.
 ///
-/// Contracts see a value as a tree without locations. Equality, order and hash look at that tree
-/// alone, so never at a location. Literals stand before sets, sets before records and records before
-/// extension values; within a kind the contents decide.
+/// Equality, order and hash use only the content, and ignore locations. The order is: literals, sets, records,
+/// extension values. Values of the same kind are ordered by their contents. Contracts see a value as a tree without
+/// locations.
 ///
-/// It is written as `[V, W]`, `{"k": V}` or `f("text")`. Comparing, hashing and writing take no memory
-/// and go down the tree by recursion; 10,000 levels are carried with room to spare.
+/// `Display` writes `[V, W]`, `{"k": V}` or `f("text")`.
+///
+/// Comparing, hashing and writing recurse into the value and do not allocate. A value with 10,000 levels does not
+/// exhaust an ordinary stack.
 #[derive(Debug, Drop)]
 #[cycle(value)]
 pub struct Value {
-    /// What the value is.
+    /// The kind and content of the value.
     pub value: ValueKind,
-    /// Where it stands in a text, if that is known.
+    /// The location of the value in a text, if it is known.
     pub loc: Option<Loc>,
 }
 
-/// The kinds of a value. Its parts are shared, so a copy takes no memory for them.
+/// The kinds of values. `clone` shares the parts.
 #[derive(Debug, Drop)]
 #[cycle(value)]
 pub enum ValueKind {
     /// A literal.
     Lit(Literal),
-    /// A set: its elements in ascending order, each once, as `Value::set` makes them.
+    /// A set: its elements in ascending order, each once, as `Value::set` creates them.
     ///
-    /// Who fills it by hand sees to that; nothing checks it. Contracts then see the list as it stands:
-    /// two sets of the same elements in other orders differ.
+    /// Code that fills the variant directly must ensure this order, because nothing checks it. Two lists with the same
+    /// elements in different orders are different sets.
     Set(Rc<Vec<Value>>),
-    /// A record, its keys in byte order.
+    /// A record, with its keys in byte order.
     Record(Rc<BTreeMap<String, Value>>),
     /// An extension value.
     ExtensionValue(Rc<ExtensionValue>),
@@ -80,17 +82,23 @@ impl Value {
     ghost use Rattle.cedar_terms.specs.Fields.{IsRecordOf, IsSetOf};
     ghost use Rattle.cedar_terms.specs.ValueViews.{kind_tree, named_pairs};
 
-    /// The value of a kind, at a location. It takes no memory.
+    /// Creates a value with this content and location. Does not allocate.
     pub fn new(value: ValueKind, loc: Option<Loc>) -> Value
         ensures { result ≡ kind_tree value }
     {
         Value { value, loc }
     }
 
-    /// The set of some values: in ascending order, and each once.
+    /// Creates the set of some values: in ascending order, each once. Of equal values, the first one is kept, with its
+    /// location.
     ///
-    /// Of values that are equal the first is kept, with its location. It takes memory, and is refused
-    /// only where that is; it sorts, so it compares some n · log n times.
+    /// # Errors
+    ///
+    /// Returns `AllocError` if an allocation fails.
+    ///
+    /// # Complexity
+    ///
+    /// O(n log n) comparisons, where n is the number of values. Allocates.
     pub fn set(alloc: Global, values: Vec<Value>, loc: Option<Loc>) -> Result<Value, AllocError>
         ensures { IfOk result (IsSetOf values.items) }
     {
@@ -100,9 +108,16 @@ impl Value {
         Ok(Value::new(ValueKind::Set(elements), loc))
     }
 
-    /// The record of some pairs, of which the last with a key counts. Its keys are in byte order.
+    /// Creates the record of some pairs, with its keys in byte order. If a key occurs more than once, its last value is
+    /// kept.
     ///
-    /// It takes memory, and is refused only where that is; it looks a key up for each pair.
+    /// # Errors
+    ///
+    /// Returns `AllocError` if an allocation fails.
+    ///
+    /// # Complexity
+    ///
+    /// One lookup for each pair. Allocates.
     pub fn record(
         alloc: Global,
         pairs: Vec<(String, Value)>,
@@ -119,7 +134,7 @@ impl Value {
     }
 }
 
-// The values, of equal ones that stand side by side the first alone.
+// Returns the values, with only the first of each run of consecutive equal values.
 fn without_repeats(values: Vec<Value>) -> Vec<Value>
     ensures { IsFiltered (DiffersFromLast same_value) [] values.items result.items }
 {
@@ -131,8 +146,12 @@ fn without_repeats(values: Vec<Value>) -> Vec<Value>
 impl Clone for Value {
     ghost is_clone = { λ x y. y ≡ x };
 
-    /// A copy, its location too. What the value holds is shared but for a text; it is refused only
-    /// where memory is.
+    /// Copies the value, with its location. All parts are shared, except that the text of a string literal at the root
+    /// is copied.
+    ///
+    /// # Errors
+    ///
+    /// Returns `AllocError` if an allocation fails.
     fn clone(&self) -> Result<Value, AllocError> {
         Ok(Value {
             value: self.value.clone()?,
@@ -217,7 +236,11 @@ impl Clone for ValueKind {
 
     ghost is_clone = { λ x y. kind_tree y ≡ kind_tree x };
 
-    /// A copy. What the value holds is shared but for a text; it is refused only where memory is.
+    /// Copies the kind and content. All parts are shared, except that the text of a string literal is copied.
+    ///
+    /// # Errors
+    ///
+    /// Returns `AllocError` if an allocation fails.
     fn clone(&self) -> Result<ValueKind, AllocError> {
         match self {
             ValueKind::Lit(literal) => Ok(ValueKind::Lit(literal.clone()?)),
@@ -262,12 +285,12 @@ impl Hash for ValueKind {
     }
 }
 
-/// A call of an extension function on a text, as `ip("10.0.0.1")`. Nothing here looks into it.
+/// A call of an extension function with one text, for example `ip("10.0.0.1")`. This crate does not interpret the text.
 #[derive(Debug, Drop)]
 pub struct ExtensionValue {
     /// The function.
     pub func: Name,
-    /// The text that it is called on.
+    /// The argument.
     pub arg: String,
 }
 
@@ -283,7 +306,11 @@ impl Model for ExtensionValue {
 impl Clone for ExtensionValue {
     ghost is_clone = { λ x y. y ≡ x };
 
-    /// A copy. It is refused only where memory is.
+    /// Copies the extension value.
+    ///
+    /// # Errors
+    ///
+    /// Returns `AllocError` if an allocation fails.
     fn clone(&self) -> Result<ExtensionValue, AllocError> {
         Ok(ExtensionValue {
             func: self.func.clone()?,

@@ -1,4 +1,4 @@
-//! What values feed to a hasher: the place of the kind, then what the value holds.
+//! Hashing of values: the index of the kind, then the content.
 ghost use Rattle.std.specs.Prelude.{◌≡◌, fold};
 ghost use Rattle.cedar_terms.specs.ValueTree.{value_trees};
 ghost use Rattle.cedar_terms.specs.ValueHash.{value_hash, values_hash, fields_hash};
@@ -8,7 +8,7 @@ use crate::value::{Value, ValueKind};
 use std::collections::BTreeMap;
 use std::hash::{Hash, Hasher};
 
-// Feeds a value, its location aside.
+// Feeds a value to the hasher, without its location.
 #[cycle(feed)]
 pub(crate) fn feed<H: Hasher>(value: &Value, state: &mut H)
     ensures { state.new ≡ fold H.write state.old (value_hash value.now) }
@@ -16,7 +16,7 @@ pub(crate) fn feed<H: Hasher>(value: &Value, state: &mut H)
     feed_kind(&value.value, state);
 }
 
-// Feeds what a value is.
+// Feeds the kind and content of a value.
 #[cycle(feed)]
 pub(crate) fn feed_kind<H: Hasher>(kind: &ValueKind, state: &mut H)
     ensures { state.new ≡ fold H.write state.old (value_hash (kind_tree kind.now)) }
@@ -41,7 +41,7 @@ pub(crate) fn feed_kind<H: Hasher>(kind: &ValueKind, state: &mut H)
     }
 }
 
-// Feeds the elements in turn, and a mark after the last.
+// Feeds the elements in order, and an end mark.
 #[cycle(feed)]
 fn feed_elements<H: Hasher>(elements: &Vec<Value>, state: &mut H)
     ensures { state.new ≡ fold H.write state.old (values_hash (value_trees elements.now.items)) }
@@ -52,7 +52,7 @@ fn feed_elements<H: Hasher>(elements: &Vec<Value>, state: &mut H)
     state.write_u8(0);
 }
 
-// Feeds the keys and values in turn, and a mark after the last.
+// Feeds the keys and values in order, and an end mark.
 #[cycle(feed)]
 fn feed_fields<H: Hasher>(fields: &BTreeMap<String, Value>, state: &mut H)
     ensures { state.new ≡ fold H.write state.old (fields_hash (field_trees fields.now.entries)) }

@@ -1,4 +1,4 @@
-//! How values stand in their order: by kind, then by what they hold.
+//! The order of values: by kind, then by content.
 ghost use Rattle.std.specs.Prelude.{◌≡◌};
 ghost use Rattle.cedar_terms.specs.ValueTree.{value_cmp, values_cmp, fields_cmp, value_trees};
 ghost use Rattle.cedar_terms.specs.ValueViews.{kind_tree, field_trees};
@@ -8,7 +8,7 @@ use crate::value::{Value, ValueKind};
 use std::cmp::Ordering;
 use std::collections::BTreeMap;
 
-// How two values stand.
+// Compares two values.
 #[cycle(compare)]
 pub(crate) fn compare(a: &Value, b: &Value) -> Ordering
     ensures { result ≡ value_cmp a.now b.now }
@@ -16,7 +16,7 @@ pub(crate) fn compare(a: &Value, b: &Value) -> Ordering
     compare_kinds(&a.value, &b.value)
 }
 
-// How two values of these kinds stand.
+// Compares two values by their kinds and contents.
 #[cycle(compare)]
 pub(crate) fn compare_kinds(a: &ValueKind, b: &ValueKind) -> Ordering
     ensures { result ≡ value_cmp (kind_tree a.now) (kind_tree b.now) }
@@ -44,7 +44,7 @@ pub(crate) fn compare_kinds(a: &ValueKind, b: &ValueKind) -> Ordering
     }
 }
 
-// The first elements that differ decide, and else the lengths do.
+// Compares two lists. The first pair of different elements decides, else the lengths decide.
 #[cycle(compare)]
 fn compare_elements(a: &Vec<Value>, b: &Vec<Value>) -> Ordering
     ensures { result ≡ values_cmp (value_trees a.now.items) (value_trees b.now.items) }
@@ -66,7 +66,7 @@ fn compare_elements(a: &Vec<Value>, b: &Vec<Value>) -> Ordering
     }
 }
 
-// The first pairs that differ decide, by their keys and then by their values, and else the lengths do.
+// Compares two records as lists of pairs. The first difference decides, keys before values, else the lengths decide.
 #[cycle(compare)]
 fn compare_fields(a: &BTreeMap<String, Value>, b: &BTreeMap<String, Value>) -> Ordering
     ensures { result ≡ fields_cmp (field_trees a.now.entries) (field_trees b.now.entries) }

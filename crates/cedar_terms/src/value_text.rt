@@ -1,4 +1,4 @@
-//! How values are written.
+//! Printing of values.
 ghost use Rattle.std.specs.Prelude.{◌≡◌, ◌++◌, true, codes};
 ghost use Rattle.std.specs.Fmt.{WritesOnOk};
 ghost use Rattle.cedar_ids.specs.Escape.{is_ascii};
@@ -38,7 +38,7 @@ pub(crate) fn show<W: fmt::Write>(value: &Value, f: &mut fmt::Formatter<W>) -> f
     }
 }
 
-// Writes the elements of a set, joined by a comma and a blank.
+// Writes the elements of a set, separated by a comma and a space.
 #[cycle(show)]
 fn show_elements<W: fmt::Write>(elements: &Vec<Value>, f: &mut fmt::Formatter<W>) -> fmt::Result
     ensures { are_ascii_values (value_trees elements.now.items) ≡ true
@@ -54,7 +54,7 @@ fn show_elements<W: fmt::Write>(elements: &Vec<Value>, f: &mut fmt::Formatter<W>
     Ok(())
 }
 
-// Writes the keys and values of a record, joined by a comma and a blank.
+// Writes the keys and values of a record, separated by a comma and a space.
 #[cycle(show)]
 fn show_fields<W: fmt::Write>(
     fields: &BTreeMap<String, Value>,
@@ -74,7 +74,7 @@ fn show_fields<W: fmt::Write>(
     Ok(())
 }
 
-// Writes a key of a record and the mark after it.
+// Writes a quoted key of a record, a colon and a space.
 fn show_key<W: fmt::Write>(key: &str, f: &mut fmt::Formatter<W>) -> fmt::Result
     ensures { is_ascii key.now ≡ true
         → WritesOnOk W.write_str_gives f.old result (quoted key.now ++ codes ": ") f.new }

@@ -1,4 +1,4 @@
-//! The tests of `cedar_terms`: what no clause says, over its public names.
+//! Tests of `cedar_terms` through its public names, for behavior that no contract states.
 #![tactic(auto)]
 
 #[cfg(test)]

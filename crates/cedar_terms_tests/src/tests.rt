@@ -1,6 +1,6 @@
-// What the tests build values and expressions with, and how they look at them. A thing is handed on as it was
-// made, `None` where it could not be; the helpers that ask it let it go, and answer `false` of `None`. So no
-// test holds a value over what may fail.
+// Helpers that build and inspect values and expressions. They pass values as `Option`, where `None` means that the
+// value could not be created. Helpers that inspect a value drop it, and return `false` for `None`. So no test owns a
+// value while another operation may fail.
 mod exprs;
 mod values;
 
@@ -17,7 +17,7 @@ use cedar_test_helpers::made::{
 use std::alloc::Global;
 use std::rc::RcStr;
 
-// A place of one character.
+// Creates a location of one character.
 fn place(alloc: Global, start: usize) -> Option<Loc> {
     match RcStr::from_str(alloc, "a text of some length") {
         Ok(src) => Some(Loc::new(start, start.saturating_add(1), src)),
@@ -51,7 +51,7 @@ fn entity(alloc: Global, ty: &str, eid: &str) -> Option<Value> {
     }
 }
 
-// The set of some values that could be made, at no place.
+// Creates the set of some values, without a location.
 fn set_of(alloc: Global, values: Option<Vec<Value>>) -> Option<Value> {
     match values {
         Some(values) => Value::set(alloc, values, None).ok(),
@@ -59,7 +59,7 @@ fn set_of(alloc: Global, values: Option<Vec<Value>>) -> Option<Value> {
     }
 }
 
-// The record of some pairs that could be made, at no place.
+// Creates the record of some pairs, without a location.
 fn record_of(alloc: Global, pairs: Option<Vec<(String, Value)>>) -> Option<Value> {
     match pairs {
         Some(pairs) => Value::record(alloc, pairs, None).ok(),
@@ -83,7 +83,7 @@ fn record(alloc: Global, pairs: &[(&str, i64)]) -> Option<Value> {
     record_of(alloc, fields)
 }
 
-// A function called on a text.
+// Creates the call of a function with one text.
 fn called(alloc: Global, func: &str, arg: &str) -> Option<ExtensionValue> {
     match both(named(alloc, func), owned(alloc, arg)) {
         Some((func, arg)) => Some(ExtensionValue { func, arg }),
@@ -124,7 +124,7 @@ fn is_eq(alloc: Global, left: Option<Expr>, right: Option<Expr>) -> Option<Expr>
     }
 }
 
-// The slots of an expression that could be made.
+// Returns the slots of an expression.
 fn slots_of(alloc: Global, made: Option<Expr>) -> Option<Vec<Slot>> {
     match made {
         Some(expr) => {
@@ -136,7 +136,7 @@ fn slots_of(alloc: Global, made: Option<Expr>) -> Option<Vec<Slot>> {
     }
 }
 
-// The slots of an expression that could be made are these.
+// Returns whether an expression has exactly these slots.
 fn has_slots(alloc: Global, made: Option<Expr>, want: &[SlotId]) -> bool {
     match slots_of(alloc, made) {
         Some(slots) => {

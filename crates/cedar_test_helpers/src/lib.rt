@@ -1,5 +1,5 @@
-//! What several crates of tests make, ask and write things with. A large value that is dropped by a line that nobody
-//! wrote is dear to prove; so each helper here lets go by a written `drop` what it holds, on each path.
+//! Helpers for tests that several crates use. An implicit drop of a large value is expensive to prove. So each helper
+//! drops its arguments explicitly, on each path.
 #![tactic(auto)]
 
 pub mod made;

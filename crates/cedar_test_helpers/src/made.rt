@@ -1,5 +1,5 @@
-//! Things that a test makes and hands on as `Option`: `None` where one could not be made. What asks such a thing lets
-//! it go, and answers `false` of `None`.
+//! Values that a test creates and passes as `Option`. `None` means that the value could not be created. Helpers that
+//! inspect a value drop it, and return `false` for `None`.
 
 use cedar_ids::entity::{Eid, EntityType, EntityUID};
 use cedar_ids::loc::Loc;
@@ -9,7 +9,7 @@ use std::fmt::Display;
 use std::hash::{DefaultHasher, Hash, Hasher};
 use std::rc::Rc;
 
-/// Two things, where both could be made; else they are let go.
+/// Returns a pair if both values exist. Drops them otherwise.
 pub fn both<A: Drop, B: Drop>(first: Option<A>, second: Option<B>) -> Option<(A, B)> {
     match first {
         Some(a) => match second {
@@ -26,7 +26,7 @@ pub fn both<A: Drop, B: Drop>(first: Option<A>, second: Option<B>) -> Option<(A,
     }
 }
 
-/// A list and a further thing last, where both could be made and there is memory.
+/// Appends a value to a list. Returns `None` if one of them is missing or an allocation fails.
 pub fn with_last<T: Drop>(all: Option<Vec<T>>, x: Option<T>) -> Option<Vec<T>> {
     match both(all, x) {
         Some((mut all, x)) => match all.push(x) {
@@ -41,7 +41,7 @@ pub fn with_last<T: Drop>(all: Option<Vec<T>>, x: Option<T>) -> Option<Vec<T>> {
     }
 }
 
-/// A thing behind a count, where it could be made and there is memory.
+/// Moves a value into an `Rc`. Returns `None` if it is missing or an allocation fails.
 pub fn counted<T: Drop>(alloc: Global, made: Option<T>) -> Option<Rc<T>> {
     match made {
         Some(x) => Rc::new(alloc, x).ok(),
@@ -49,17 +49,17 @@ pub fn counted<T: Drop>(alloc: Global, made: Option<T>) -> Option<Rc<T>> {
     }
 }
 
-/// A text of its own, where there is memory.
+/// Returns an owned copy of a text. Returns `None` if an allocation fails.
 pub fn owned(alloc: Global, text: &str) -> Option<String> {
     String::from_str(alloc, text).ok()
 }
 
-/// The name with this text, if it is one.
+/// Returns the name with this text, if it is valid.
 pub fn named(alloc: Global, text: &str) -> Option<Name> {
     Name::from_normalized_str(alloc, text).ok()
 }
 
-/// The entity type with this name, at no place, if it is one.
+/// Returns the entity type with this name and without a location, if the name is valid.
 pub fn typed(alloc: Global, text: &str) -> Option<EntityType> {
     match named(alloc, text) {
         Some(name) => Some(EntityType::EntityType(name)),
@@ -67,7 +67,7 @@ pub fn typed(alloc: Global, text: &str) -> Option<EntityType> {
     }
 }
 
-/// The uid with this type and this eid, at no place.
+/// Returns the uid with this type and this eid, without a location.
 pub fn uid(alloc: Global, ty: &str, eid: &str) -> Option<EntityUID> {
     match both(owned(alloc, eid), typed(alloc, ty)) {
         Some((eid, ty)) => Some(EntityUID::from_components(ty, Eid::new(eid), None)),
@@ -75,19 +75,19 @@ pub fn uid(alloc: Global, ty: &str, eid: &str) -> Option<EntityUID> {
     }
 }
 
-/// Where a place begins.
+/// Returns the start of a location, if there is one.
 pub fn start_of(loc: Option<&Loc>) -> Option<usize> {
     loc.map(|loc| loc.start)
 }
 
-/// The hash of a thing.
+/// Returns the hash of a value.
 pub fn hash_of<T: Hash>(x: &T) -> u64 {
     let mut state = DefaultHasher::new();
     x.hash(&mut state);
     state.finish()
 }
 
-/// Whether a thing that could be made is written so.
+/// Returns whether a value exists and has this printed text.
 pub fn shows<T: Display + Drop>(alloc: Global, made: Option<T>, want: &str) -> bool {
     match made {
         Some(x) => {
@@ -99,7 +99,7 @@ pub fn shows<T: Display + Drop>(alloc: Global, made: Option<T>, want: &str) -> b
     }
 }
 
-/// Whether a thing is written so.
+/// Returns whether a value has this printed text.
 pub fn is_written<T: Display>(alloc: Global, x: &T, want: &str) -> bool {
     match x.to_string(alloc) {
         Ok(text) => text.as_str() == want,
@@ -107,7 +107,7 @@ pub fn is_written<T: Display>(alloc: Global, x: &T, want: &str) -> bool {
     }
 }
 
-/// A copy of a thing that could be made, which is let go.
+/// Returns a copy of a value, and drops the value.
 pub fn copy_of<T: Clone + Drop>(made: Option<T>) -> Option<T> {
     match made {
         Some(x) => {
@@ -119,7 +119,7 @@ pub fn copy_of<T: Clone + Drop>(made: Option<T>) -> Option<T> {
     }
 }
 
-/// Whether a copy of a thing is equal to it, and hashes alike.
+/// Returns whether a copy of a value is equal to it and has the same hash.
 pub fn is_copied<T: Clone + Hash + Drop>(x: &T) -> bool {
     let copy: Result<T, AllocError> = x.clone();
     match copy {
@@ -132,7 +132,7 @@ pub fn is_copied<T: Clone + Hash + Drop>(x: &T) -> bool {
     }
 }
 
-/// Whether a copy of a thing that could be made is equal to it, and hashes alike.
+/// Returns whether a value exists, and a copy is equal to it and has the same hash.
 pub fn copies<T: Clone + Hash + Drop>(made: Option<T>) -> bool {
     match made {
         Some(x) => {
@@ -144,7 +144,7 @@ pub fn copies<T: Clone + Hash + Drop>(made: Option<T>) -> bool {
     }
 }
 
-/// Whether two things that could be made differ.
+/// Returns whether two values exist and differ.
 pub fn differ<T: PartialEq + Drop>(x: Option<T>, y: Option<T>) -> bool {
     match both(x, y) {
         Some((x, y)) => {

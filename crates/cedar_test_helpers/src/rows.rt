@@ -1,15 +1,19 @@
-//! Rows of a test that stand in one text, a line each: what is asked, an arrow ` => `, and what has to be told. A line
-//! that begins with `#` is a heading. `¶` stands for the end of a line.
+//! Test cases in one text, one on each line: the input, an arrow ` => `, and the expected output. A line that begins
+//! with `#` is a heading. `¶` stands for the end of a line.
 
 use std::alloc::Global;
 use std::test::Fail;
 
-/// Whether a text is this one, in which `¶` stands for the end of a line.
+/// Returns whether a text is the expected one, in which `¶` stands for the end of a line.
 pub fn is_spelled(told: &str, want: &str) -> bool {
     told.split('\n').eq(want.split('¶'))
 }
 
-/// The text that is meant by one in which `¶` stands for the end of a line. It fails where there is no memory.
+/// Returns a text with each `¶` replaced by the end of a line.
+///
+/// # Errors
+///
+/// Fails if an allocation fails.
 pub fn meant(alloc: Global, text: &str) -> Result<String, Fail> {
     let mut all = String::new(alloc);
     for sign in text.chars() {
@@ -18,8 +22,11 @@ pub fn meant(alloc: Global, text: &str) -> Result<String, Fail> {
     Ok(all)
 }
 
-/// Fails with a row and what was told of it, where that is not what stands behind the row's arrow. What was told is let
-/// go.
+/// Checks the output of a case. Drops the output.
+///
+/// # Errors
+///
+/// Fails with the case and its output if the output is not the expected one.
 pub fn holds(row: &str, told: Result<String, Fail>, want: &str) -> Result<(), Fail> {
     let told = told?;
     if is_spelled(told.as_str(), want) {
@@ -28,8 +35,12 @@ pub fn holds(row: &str, told: Result<String, Fail>, want: &str) -> Result<(), Fa
     Err(Fail::new(format_args!("{row}: {told}")))
 }
 
-/// Fails with the first row of a text of which another thing is told than stands behind its arrow, or that has none and
-/// is no heading. `tell` says what is told of what stands before the arrow.
+/// Runs all cases of a text. `tell` returns the output for an input.
+///
+/// # Errors
+///
+/// Fails with the first case whose output is not the expected one, or with the first line that is neither a case nor a
+/// heading.
 pub fn all_hold<F: FnMut(Global, &str) -> Result<String, Fail>>(
     alloc: Global,
     rows: &str,

@@ -1,4 +1,4 @@
--- Uids that are asked for, one entity after another.
+-- The uids of one entity after another.
 use Rattle.std.specs.Prelude.{◌≡◌, true, ◌||◌, List, [], ◌∷◌, ◌++◌}
 use Rattle.std.proofs.Common.{◌∙◌}
 use Rattle.std.proofs.lemmas.Bool.{or_left, or_right}
@@ -20,7 +20,7 @@ module _ (U V : List EntityUID) (e : EntityView) (grows : (q : EntityUID) → is
   comes : (q : EntityUID) → (same_uid q e.uid || set.contains e.parents q) ≡ true → is_member same_uid V q ≡ true
   comes q m = grows q ∙ or_right (is_member same_uid U q) (same_uid q e.uid || set.contains e.parents q) m
 
-  -- with the uids of one more entity
+  -- The uids of one more entity are appended.
   pub asked_push : (done : List EntityView) → AreAsked U done → AreAsked V (done ++ e ∷ [])
   asked_push done a = all_push (IsAsked V) done e
       (all_along (IsAsked U) (IsAsked V) (λ x b. (stays x.uid b.0, λ p h. stays p (b.1 p h))) done a) (

@@ -1,4 +1,4 @@
--- Whether a set has a first uid, and what holds of each of a list.
+-- The first uid of a set, and properties of all elements of a list.
 use Rattle.std.specs.Prelude.{◌≡◌, ◌↔◌, Bool, true, false, not, List, [], ◌∷◌, Option, Some, None, MatchOption, map}
 use Rattle.std.proofs.Common.{ℕ, zero, suc, ◌<◌, length, get_or, arith, ap, sym, refl, ◌∙◌, true≢false}
 use Rattle.std.proofs.lemmas.Bool.{false≢true, or_left}
@@ -12,7 +12,7 @@ use Rattle.cedar_ids.specs.laws.UidOfLaws.{same_uid_equiv}
 use Rattle.cedar_ids.specs.declared.entity.EntityUID.{EntityUID}
 use Rattle.cedar_uid_sets.specs.UidSets.{UidValues}
 
--- a set whose list gives no first uid has none, and no other set is without uids
+-- A set is empty if and only if its list has no first uid.
 pub bare_so : (s : UidValues) (us left : List EntityUID) → ((q : EntityUID) → is_member same_uid us q ≡ set.contains s q)
     → (r : Option (Bor EntityUID)) → MatchOption r ((us ≡ []) × (left ≡ [])) (λ x. us ≡ x.now ∷ left)
     → (b : Bool) → is_some r ≡ not b → (b ≡ true) ↔ ((q : EntityUID) → set.contains s q ≡ false)
@@ -25,7 +25,7 @@ bare_so s us left m (Some x) h false e = (
       (same_uid_equiv.refl x.now)) ∙ sym (ap (λ l. is_member same_uid l x.now) h) ∙ m x.now ∙ none x.now)),
 )
 
--- what holds of each holds of the one at a place
+-- A property of all elements is a property of the element at an index.
 pub all_item : {X Y : Type 0} (f : X → Y) (P : Y → Type 0) (xs : List X) (k : ℕ) (d : X) → k < length xs
     → AllByRecursion P (map f xs) → P (f (get_or xs k d))
 all_item f P [] k d h a = absurd (omega arith)

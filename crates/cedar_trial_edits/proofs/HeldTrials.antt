@@ -1,5 +1,5 @@
--- An edit of a part of what a store holds, that has the uids which the edit lists, is refused as the edit of the whole may
--- be, whatever the store.
+-- An edit of a part of an entity map that contains the listed uids fails only with an error of the edit of the whole,
+-- for any store.
 use Rattle.std.specs.Prelude.{◌≡◌, Bool, true, false, cond, not, ◌&&◌, ◌||◌, List, Option, Some, None}
 use Rattle.std.specs.Prelude.{map}
 use Rattle.std.proofs.Common.{ap, sym, refl, subst, ◌∙◌, inl, inr, true≢false}
@@ -77,12 +77,12 @@ module _ (D : Held) (U : List EntityUID) where
   ancestor_kept true o b h = h
   ancestor_kept false o b h = absurd (false≢true h)
 
-  -- an ancestor in the part is one in the whole
+  -- An ancestor in the part is an ancestor in the whole.
   ancestry_out : (a b : EntityUID) → ancestry part a b ≡ true → ancestry D a b ≡ true
   ancestry_out a b h = ancestor_kept (is_wanted D U a) (finmap.get D a) b
       (sym (ap (λ o. is_ancestor_in o b) (get_part a)) ∙ h)
 
-  -- what is touched in the part is touched in the whole
+  -- An entity that is affected in the part is affected in the whole.
   touched_out : (A : List EntityUID) (q : EntityUID) → is_touched part A q ≡ true → is_touched D A q ≡ true
   touched_out A q h = elim (or_cases (is_member same_uid A q) (list_any (ancestry part q) A) h) [
     | inl m ↦ or_left (is_member same_uid A q) (list_any (ancestry D q) A) m
@@ -167,7 +167,7 @@ module _ (D : Held) (U : List EntityUID) where
         (λ u. not (finmap.contains_key part u) ≡ not (finmap.contains_key D u))
         (λ u m. ap (λ o. not (is_some o)) (get_asked u m)) (uids_of L) uids_asked)
 
-    -- adding the list to the part is refused as adding it to the whole may be
+    -- An error of adding the list to the part is an error of adding it to the whole.
     pub add_refusal : (e : EntitiesError) → IsAddRefusal part L e → IsAddRefusal D L e
     add_refusal e h = record {
       agree = tt;
@@ -210,7 +210,7 @@ module _ (D : Held) (U : List EntityUID) where
         none_over (vertex_of e) (vertex_of e) h
     over_out tc.Memory h = h
 
-    -- and so is putting it over
+    -- An error of overwriting the part is an error of overwriting the whole.
     pub upsert_refusal : (e : EntitiesError) → IsUpsertRefusal part L e → IsUpsertRefusal D L e
     upsert_refusal e h = record {
       ok = tt;

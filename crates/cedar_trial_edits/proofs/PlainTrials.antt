@@ -1,5 +1,5 @@
--- An edit of the slice of a world that is acyclic, at what the edit lists and the parents of that, passes or is refused as
--- the edit of the world.
+-- An edit of the slice of an acyclic input store, at the listed uids and their parents, has the result of the edit of
+-- the input store.
 use Rattle.std.specs.Prelude.{◌≡◌, ◌↔◌, Bool, true, false, cond, List, Option, Some, None, map, Result}
 use Rattle.std.specs.Prelude.{Ok, Err}
 use Rattle.std.proofs.Common.{ap, sym, refl, subst, ◌∙◌, inl, inr, true≢false}
@@ -28,15 +28,15 @@ use Rattle.cedar_trial_edits.specs.Trials.{Tries}
 use Rattle.cedar_trial_edits.proofs.Found.{find_holds, all_mapped, all_reversed, all_both, all_before}
 use Rattle.cedar_trial_edits.proofs.Parts.{reach_in, cycle_in, reach_out}
 
--- a uid passes, and so do the parents beside it
+-- Holds if the uid and its parents pass the test.
 abbrev pub PassesWith : (EntityUID → Bool) → EntityUID → Parts → Type 0
 PassesWith test u p = (test u ≡ true) × ((b : EntityUID) → set.contains p.parents b ≡ true → test b ≡ true)
 
--- the uid of each of the list passes, and so do its parents
+-- Holds if the uids of all entities of the list, and their parents, pass the test.
 abbrev pub AreCovered : (EntityUID → Bool) → List Given → Type 0
 AreCovered test L = AllByRecursion (λ g. PassesWith test g.uid g.parts) L
 
--- nothing is found at a uid that does not pass
+-- A uid that does not pass has no entity.
 none_found : (t : Bool) (P : Parts → Type 0) (o : Option Parts) → IfSome o (λ p. (t ≡ true) × P p) → t ≡ false
     → o ≡ None
 none_found t P None h f = refl
@@ -46,7 +46,7 @@ or_none : (o : Option Parts) → option_or o None ≡ o
 or_none None = refl
 or_none (Some p) = refl
 
--- a parent of what one of two has is a parent of the one's or of the other's
+-- A parent in one of two optional entities is a parent of the first or of the second.
 either_parent : (o f : Option Parts) (b : EntityUID) (P : Type 0) → (is_parent_in o b ≡ true → P)
     → (is_parent_in f b ≡ true → P) → is_parent_in (option_or o f) b ≡ true → P
 either_parent None f b P g h k = h k
@@ -68,7 +68,7 @@ module _ (W V : World) (U : List EntityUID) (slice : IsSliceOf W U V) where
   get_none : (q : EntityUID) → slice.test q ≡ false → finmap.get V.entities q ≡ None
   get_none q f = get_part q ∙ ap (λ b. cond b (finmap.get W.entities q) None) f
 
-  -- a parent of what is wanted is wanted
+  -- A parent of a selected uid is selected.
   next_wanted : (a b : EntityUID) → slice.test a ≡ true → graph W a b ≡ true → slice.test b ≡ true
   next_wanted a b h g =
       let w = (slice.passes a).0 h in
@@ -87,7 +87,7 @@ module _ (W V : World) (U : List EntityUID) (slice : IsSliceOf W U V) where
   no_parents : (a b : EntityUID) → slice.test a ≡ false → graph V a b ≡ false
   no_parents a b f = ap (λ o. is_parent_in o b) (get_none a f)
 
-  -- what is wanted reaches in the slice what it reaches in the world
+  -- A selected uid reaches the same uids in the slice as in the input store.
   same_reach : (u : EntityUID) → slice.test u ≡ true → (q : EntityUID) → Reach (graph V) u q ↔ Reach (graph W) u q
   same_reach u t q = (
     reach_out slice.test (graph W) (graph V) same_parents no_parents u q,
@@ -102,20 +102,20 @@ module _ (W V : World) (U : List EntityUID) (slice : IsSliceOf W U V) where
     λ h. (h.0, h.1, λ q. (λ k. (same_reach g.uid t q).1 ((h.2 q).0 k), λ r. (h.2 q).1 ((same_reach g.uid t q).0 r))),
   )
 
-  -- what is wanted agrees with the slice where it agrees with the world
+  -- A selected entity agrees with the slice if and only if it agrees with the input store.
   agree_alike : (M : List Given) (g : Given) → slice.test g.uid ≡ true → Agrees V M g ↔ Agrees W M g
   agree_alike M g t = let both = agree_at M g t (finmap.get W.entities g.uid) in (
     λ h. both.0 (subst (λ o. AgreesWith V M o g) (get_same g.uid t) h),
     λ h. subst (λ o. AgreesWith V M o g) (sym (get_same g.uid t)) (both.1 h),
   )
 
-  -- each of a list does
+  -- The same for each entity of a list.
   all_agree : (M L : List Given) → AreCovered slice.test L → AllByRecursion (Agrees V M) L
       → AllByRecursion (Agrees W M) L
   all_agree M L c a = all_both (λ g. PassesWith slice.test g.uid g.parts) (Agrees V M) (Agrees W M)
       (λ g p h. (agree_alike M g p.0).0 h) L c a
 
-  -- and the first that differs from the one is the first that differs from the other
+  -- The first entity that differs is the same for both.
   differs_alike : (L : List Given) (u : EntityUID) → AreCovered slice.test L → FirstDiffers V L u → FirstDiffers W L u
   differs_alike L u c d =
       let parts = all_before (λ g. PassesWith slice.test g.uid g.parts) d.before d.at d.after
@@ -130,19 +130,19 @@ module _ (W V : World) (U : List EntityUID) (slice : IsSliceOf W U V) where
         uid = d.uid;
       }
 
-  -- N is what an edit makes of the world, and M of the slice: with uids that pass they have the same, and with the others
-  -- M has nothing, and N what the world has
+  -- N is the input store after an edit, and M the slice after the edit. They have the same entities at selected uids.
+  -- At other uids M has none, and N has the entities of the input store.
   module _ (N M : World) (same : (a : EntityUID) → slice.test a ≡ true
       → finmap.get M.entities a ≡ finmap.get N.entities a)
       (none : (a : EntityUID) → slice.test a ≡ false → finmap.get M.entities a ≡ None)
       (old : (a : EntityUID) → slice.test a ≡ false → finmap.get N.entities a ≡ finmap.get W.entities a)
       (next : (a b : EntityUID) → slice.test a ≡ true → graph N a b ≡ true → slice.test b ≡ true) where
-    -- a uid that reaches itself in M does so in N
+    -- A uid that reaches itself in M reaches itself in N.
     cycle_up : (v : EntityUID) → Reach (graph M) v v → Reach (graph N) v v
     cycle_up v = reach_out slice.test (graph N) (graph M) (λ a b t. ap (λ o. is_parent_in o b) (same a t))
         (λ a b f. ap (λ o. is_parent_in o b) (none a f)) v v
 
-    -- and a cycle of N is one of M
+    -- A cycle of N is a cycle of M.
     cycle_down : HasNoCycle (graph W) → IsCyclic N → IsCyclic M
     cycle_down acyclic c = (
       c.0,
@@ -151,7 +151,7 @@ module _ (W V : World) (U : List EntityUID) (slice : IsSliceOf W U V) where
           (λ a b f g. sym (ap (λ o. is_parent_in o b) (old a f)) ∙ g) acyclic c.0 c.1,
     )
 
-    -- what names a cycle of M names one of N
+    -- An error that names a cycle of M names a cycle of N.
     names_up : (t : TcError EntityUID) → NamesCycle M t → NamesCycle N t
     names_up (tc.MissingTcEdge e) h = h
     names_up (tc.HasCycle e) h = cycle_up (vertex_of e) h
@@ -189,7 +189,7 @@ module _ (W V : World) (U : List EntityUID) (slice : IsSliceOf W U V) where
         (found_parent (PassesWith slice.test a) (first L a) b (slice.test b ≡ true) (λ p q k. q.1 b k) (first_passes a))
         (sym (ap (λ o. is_parent_in o b) (get_added W L a)) ∙ g)
 
-    -- adding the list to the slice passes, or is refused, as adding it to the world
+    -- Adding the list to the slice has the result of adding it to the input store.
     pub adding_alike : {A : Type 0} → HasNoCycle (graph W) → (r : Result A EntitiesError) → Tries V (Add L) r
         → Tries W (Add L) r
     adding_alike acyclic (Ok x) h = (
@@ -205,7 +205,7 @@ module _ (W V : World) (U : List EntityUID) (slice : IsSliceOf W U V) where
         ))
         tt e h
 
-    -- what is last in the list with a uid, or nothing
+    -- The last entity of the list with a uid.
     abbrev last : EntityUID → Option Parts
     last q = finmap.find uid_order q (reversed (map entry_of L))
 
@@ -230,7 +230,7 @@ module _ (W V : World) (U : List EntityUID) (slice : IsSliceOf W U V) where
         (found_parent (PassesWith slice.test a) (last a) b (slice.test b ≡ true) (λ p q k. q.1 b k) (last_passes a))
         (next_wanted a b t) (sym (ap (λ o. is_parent_in o b) (get_overwritten W L a)) ∙ g)
 
-    -- putting the list over the slice passes, or is refused, as putting it over the world
+    -- Overwriting the slice with the list has the result of overwriting the input store.
     pub overwriting_alike : {A : Type 0} → HasNoCycle (graph W) → (r : Result A EntitiesError) → Tries V (Upsert L) r
         → Tries W (Upsert L) r
     overwriting_alike acyclic (Ok x) h = λ c.

@@ -1,4 +1,4 @@
--- What an edit of the part that a trial looks at answers, said of the store.
+-- The result of an edit of the part, as a result for the store.
 use Rattle.std.specs.Prelude.{◌≡◌, true, List, map, Result, Ok, Err}
 use Rattle.std.proofs.Common.{refl, subst, sym, inl}
 use Rattle.std.specs.Set.{is_member}
@@ -22,14 +22,14 @@ wanted : (W V : World) (U : List EntityUID) (slice : IsSliceOf W U V) (q : Entit
     → slice.test q ≡ true
 wanted W V U slice q m = (slice.passes q).1 (record { from = q; asked = m; leads = inl refl })
 
--- what is asked for is in the slice
+-- The requested uids are in the slice.
 covered : (W V : World) (U : List EntityUID) (slice : IsSliceOf W U V) (L : List EntityView) → AreAsked U L
     → AreCovered slice.test (map given_of L)
 covered W V U slice L asked = all_mapped given_of (λ g. PassesWith slice.test g.uid g.parts) L
     (all_along (IsAsked U) (λ e. PassesWith slice.test e.uid (parts_of e))
     (λ e a. (wanted W V U slice e.uid a.0, λ b h. wanted W V U slice b (a.1 b h))) L asked)
 
--- what an edit answers over a plain store tries it there
+-- The result of an edit of a plain store is a result of its dry run.
 added_so : (V : World) (L : List Given) (r : Result StoreView EntitiesError) → AddsPlain ComputeNow V L r
     → Tries V (Add L) r
 added_so V L (Ok s) a = (a.agree, λ c. a.ok.acyclic c.0 c.1)
@@ -42,7 +42,7 @@ put_so V L (Err e) a = a.err
 
 module _ (S : StoreView) (L : List EntityView) (N : StoreView) (part : IsPartFor S L N) (M : List EntityView)
     (same : M ≡ L) where
-  -- adding to the part tries the adding
+  -- Adding to the part is a dry run of the addition.
   pub adding_tried : (r : Result StoreView EntitiesError)
       → ((V : World) → IsPlainStore V N → AreBare M → AddsPlain ComputeNow V (map given_of M) r)
       → (W : World) → IsPlainStore W S → AreBare L → Tries W (Add (map given_of L)) r
@@ -54,7 +54,7 @@ module _ (S : StoreView) (L : List EntityView) (N : StoreView) (part : IsPartFor
       (subst (λ (K : List EntityView). AddsPlain ComputeNow s.world (map given_of K) r) same
       (adds s.world s.is_plain (subst AreBare (sym same) bare))))
 
-  -- and its refusal is one of the adding
+  -- An error of the part is an error of the addition.
   pub adding_refused : (e : EntitiesError) → IsAddRefusal N.held M e → IsAddRefusal S.held L e
   adding_refused e h = add_refusal S.held part.uids L part.asked e
       (subst (λ D. IsAddRefusal D L e) part.held (subst (λ K. IsAddRefusal N.held K e) same h))

@@ -1,4 +1,4 @@
--- What a trial of an edit answers, where the edit computes the closure.
+-- The result of a dry run of an edit that computes the closure.
 use Rattle.std.specs.Prelude.{List, Result, Ok, Err}
 use Rattle.cedar_entity.specs.View.{EntityView}
 use Rattle.cedar_entity.specs.declared.err.EntitiesError.{EntitiesError}
@@ -8,15 +8,16 @@ use Rattle.cedar_entity_maps.specs.Plain.{StoreView, Held}
 use Rattle.cedar_entity_maps.specs.World.{World}
 use Rattle.cedar_entity_maps.specs.declared.modes.TCComputation.TheVariants.{ComputeNow}
 
--- over the plain store of W a call is tried: nothing refuses it, or it is refused as the answer says
+-- The result of a dry run of a call on the plain store of W. If the dry run succeeds, the call succeeds. If it fails,
+-- its error is an error of the call.
 abbrev pub Tries : {A : Type 0} → World → Call → Result A EntitiesError → Type 0
 Tries W c (Ok a) = Passes W c
 Tries W c (Err e) = IsRefusedAs W c e
 
--- adding the list to what D holds may be refused so, where the closure is computed
+-- Holds if e is an error of adding the list to D in the mode `ComputeNow`.
 abbrev pub IsAddRefusal : Held → List EntityView → EntitiesError → Type 0
 IsAddRefusal D L e = AddsEntities {A = StoreView} ComputeNow D L (Err e) (λ s. s.held)
 
--- putting the list over what D holds may be refused so, where the closure is computed
+-- Holds if e is an error of overwriting D with the list in the mode `ComputeNow`.
 abbrev pub IsUpsertRefusal : Held → List EntityView → EntitiesError → Type 0
 IsUpsertRefusal D L e = UpsertsEntities ComputeNow D L (Err e)

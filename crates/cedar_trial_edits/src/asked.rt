@@ -1,4 +1,4 @@
-//! The uids that a trial of an edit asks the store for, and the list once more.
+//! The uids that a dry run of an edit reads from the store, and a shared copy of the list.
 ghost use Rattle.std.specs.Prelude.{◌≡◌, ◌||◌, IfOk, OnOk};
 ghost use Rattle.std.specs.FinSet as set;
 ghost use Rattle.std.specs.Set.{is_member};
@@ -12,7 +12,7 @@ use cedar_ids::entity::EntityUID;
 use std::alloc::{AllocError, Global};
 use std::rc::Rc;
 
-// Puts the parents of an entity at the end of a list.
+// Appends the parents of an entity to a list.
 fn push_parents(uids: &mut Vec<EntityUID>, entity: &Entity) -> Result<(), AllocError>
     ensures { OnOk result ((q : EntityUID) → is_member same_uid uids.new.items q
         ≡ (is_member same_uid uids.old.items q || set.contains entity.now.parents q)) }
@@ -23,7 +23,7 @@ fn push_parents(uids: &mut Vec<EntityUID>, entity: &Entity) -> Result<(), AllocE
     Ok(())
 }
 
-// Puts the uid of an entity and its parents at the end of a list.
+// Appends the uid of an entity and its parents to a list.
 fn push_asked(uids: &mut Vec<EntityUID>, entity: &Entity) -> Result<(), AllocError>
     ensures { OnOk result ((q : EntityUID) → is_member same_uid uids.new.items q
         ≡ (is_member same_uid uids.old.items q
@@ -33,7 +33,7 @@ fn push_asked(uids: &mut Vec<EntityUID>, entity: &Entity) -> Result<(), AllocErr
     push_parents(uids, entity)
 }
 
-// The uids of some entities and of their parents.
+// Returns the uids of the entities and of their parents.
 pub(crate) fn asked_by(alloc: Global, list: &[Rc<Entity>]) -> Result<Vec<EntityUID>, AllocError>
     ensures { IfOk result (λ v. AreAsked v.items (entities_in list.now)) }
 {
@@ -44,7 +44,7 @@ pub(crate) fn asked_by(alloc: Global, list: &[Rc<Entity>]) -> Result<Vec<EntityU
     Ok(uids)
 }
 
-// The entities, shared once more.
+// Shares the entities once more.
 pub(crate) fn shared_again(
     alloc: Global,
     list: &[Rc<Entity>],

@@ -1,9 +1,10 @@
-//! Trials of edits of a store of entities: whether an edit would be refused, and by what, with nothing changed.
+//! Dry runs of edits of a store of entities: whether an edit would fail, and with which error. Nothing is changed.
 //!
-//! Proved: where the store is the plain store of a world, and what is listed brings no indirect ancestors, a trial
-//! answers what the edit would, but for want of memory: where it says that nothing refuses the edit, nothing but want of
-//! memory does. What it looks at is the slice of the store at what is listed and the parents of that. Of any other store
-//! it is proved that the edit may be refused as a trial says.
+//! Proved, for the plain store of an input store and a list of entities without indirect ancestors: the dry run has the
+//! result of the edit. If it succeeds, the edit can fail only with an allocation error. The dry run reads only the
+//! slice of the store at the listed uids and their parents.
+//!
+//! Proved, for any other store: the edit can fail with the error of the dry run.
 #![tactic(auto, using(cedar_ids::specs::laws::UidOfLaws::same_uid_decides))]
 
 mod asked;

@@ -1,4 +1,4 @@
-//! Whether adding a list to a store, or putting it over the store, would be refused.
+//! Dry runs of adding a list to a store, and of overwriting a store with a list.
 ghost use Rattle.std.specs.Prelude.{◌≡◌, ◌↔◌, IfOk, IfErr, IsTrue, map};
 ghost use Rattle.cedar_entity.specs.declared.err.EntitiesError.TheVariants.{Memory};
 ghost use Rattle.cedar_entities.specs.Calls.{Add, Upsert};
@@ -14,7 +14,7 @@ use std::alloc::Global;
 use std::hash::BuildHasher;
 use std::rc::Rc;
 
-// The part of a store that a trial of an edit by a list looks at: the slice at the uids of the list and of its parents.
+// Returns the part of a store that a dry run reads: the slice at the uids of the list and of its parents.
 fn part_for<S: BuildHasher + Clone>(
     alloc: Global,
     store: &Entities<S>,
@@ -27,17 +27,23 @@ fn part_for<S: BuildHasher + Clone>(
     slice(alloc, store, &uids)
 }
 
-/// Whether [`Entities::add_entities`] of this store and this list would be refused under
-/// [`TCComputation::ComputeNow`], and by what. Nothing is changed, and the list is shared with nothing afterwards.
+/// Checks whether [`Entities::add_entities`] of this store and list would fail under [`TCComputation::ComputeNow`]. The
+/// store and the list do not change.
 ///
-/// Over a plain store, and a list whose entities have no indirect ancestors, success says that nothing but want of
-/// memory refuses the edit, and a refusal is one that the edit may give: the same duplicate, and a uid on a cycle that the
-/// edit would leave, which need not be the one that the edit names. Over any other store a refusal is still one that the
-/// edit may give, and success says nothing. `Memory` comes where memory for the trial itself is refused.
+/// Suppose that the store is plain, and that no entity of the list has indirect ancestors. Then the edit succeeds after
+/// `Ok`. Only an allocation failure of the edit is still possible. In any other store, `Ok` has no meaning.
 ///
-/// It takes memory: it takes the slice of the store at the uids of the list and of their parents, as
-/// [`slice`] does, and adds the list to that. So it costs what is listed and what stands above that, and nothing that
-/// grows with the store.
+/// # Errors
+///
+/// Returns an error with which the edit can fail, in every store. A duplicate is the one that the edit reports. A cycle
+/// is a cycle that the edit would create, but the edit may name another one.
+///
+/// - `Memory`: an allocation of the dry run failed.
+///
+/// # Complexity
+///
+/// Takes the slice of the store at the uids of the list and of their parents (see [`slice`]), and adds the list to it.
+/// The cost depends on the list and on its ancestors, and not on the size of the store.
 pub fn would_add<S: BuildHasher + Clone>(
     alloc: Global,
     store: &Entities<S>,
@@ -55,8 +61,12 @@ pub fn would_add<S: BuildHasher + Clone>(
     }
 }
 
-/// Whether [`Entities::upsert_entities`] of this store and this list would be refused under
-/// [`TCComputation::ComputeNow`], and by what, as [`would_add`] says it of adding.
+/// Checks whether [`Entities::upsert_entities`] of this store and list would fail under [`TCComputation::ComputeNow`].
+/// The store and the list do not change. The result has the meaning of [`would_add`].
+///
+/// # Errors
+///
+/// The errors of [`would_add`], except duplicates.
 pub fn would_upsert<S: BuildHasher + Clone>(
     alloc: Global,
     store: &Entities<S>,
@@ -74,14 +84,15 @@ pub fn would_upsert<S: BuildHasher + Clone>(
     }
 }
 
-// Whether an entity has no indirect ancestors.
+// Checks whether an entity has no indirect ancestors.
 fn is_bare(entity: &Entity) -> bool
     ensures { IsTrue result ↔ IsBare entity.now }
 {
     entity.indirect_ancestors().next().is_none()
 }
 
-/// Whether no entity of a list has indirect ancestors: over such a list the trials here say the most. Takes no memory.
+/// Returns whether no entity of a list has indirect ancestors. The results of the dry runs are exact only for such
+/// lists. Does not allocate.
 pub fn are_bare(list: &[Rc<Entity>]) -> bool
     ensures { IsTrue result ↔ AreBare (entities_in list.now) }
 {

@@ -1,6 +1,6 @@
--- What the numbers that abbreviate names and eids tell of their order.
+-- Comparisons of names and eids by their numbers.
 use Rattle.std.specs.Prelude.{◌≡◌, ◌⊎◌, ℕ, zero, suc, ◌+◌, ◌*◌, ◌^◌, ◌<◌, ◌≤◌, Bool, true, false, ◌&&◌, ◌||◌, cond}
-use Rattle.std.specs.Prelude.{List, [], ◌∷◌, ◌++◌, length, nat_le, nat_eq, slice_index, IsTrue}
+use Rattle.std.specs.Prelude.{List, [], ◌∷◌, length, nat_le, nat_eq, slice_index, IsTrue}
 use Rattle.std.proofs.Common.{ap, sym, refl, subst, ◌∙◌, arith, inl, inr}
 use Rattle.std.proofs.Math.Nat.{mul-le-mul_right, pow-suc}
 use Rattle.std.proofs.Math.Dec.{eqb-suc-zero, eqb-zero-suc, eqb-suc-suc}
@@ -22,9 +22,9 @@ use Rattle.cedar_ids.specs.declared.entity.EntityUID.{EntityUID}
 use Rattle.cedar_uid_sets.specs.laws.Fronts.{number, AreDigits, front, BeginsWithBytes, is_short, kind, same_numbers}
 use Rattle.cedar_uid_sets.specs.laws.Fronts.{Abbreviate}
 
--- ---- numbers by their digits
+-- ---- Numbers and their digits
 
--- n digits make less than their number of numbers
+-- A number of n digits is less than 256^n.
 bound : (n : ℕ) (g : ℕ → ℕ) → AreDigits n g → number n g < 256 ^ n
 bound zero g h = omega arith
 bound (suc n) g h = omega (arith, bound n (λ i. g (suc i)) h.1, mul-le-mul_right (256 ^ n) (top h.0), pow-suc 256 n)
@@ -32,7 +32,7 @@ bound (suc n) g h = omega (arith, bound n (λ i. g (suc i)) h.1, mul-le-mul_righ
     top : g 0 < 256 → g 0 ≤ 255
     top l = omega (arith, l)
 
--- a lesser first digit makes a lesser number
+-- The number with the smaller first digit is smaller.
 less_by : (x y a b p : ℕ) → x < y → a < p → x * p + a < y * p + b
 less_by x y a b p l k = omega (arith, k, mul-le-mul_right p next)
   where
@@ -43,7 +43,7 @@ zeros : (n : ℕ) → number n (λ i. 0) ≡ 0
 zeros zero = refl
 zeros (suc n) = omega (arith, zeros n)
 
--- the first bytes decide, where those of the lesser number are not the greater
+-- If a number is less, its first byte is less, or the first bytes are equal and the rest decides.
 first_decides : (x y a b p : ℕ) (rest : Ordering) → a < p → b < p → x * p + a < y * p + b → (a < b → rest ≡ Less)
     → ordering_then (nat_cmp x y) rest ≡ Less
 first_decides x y a b p rest k g l on = by (nat_cmp x y) (ranks x y)
@@ -53,7 +53,7 @@ first_decides x y a b p rest k g l on = by (nat_cmp x y) (ranks x y)
     by Equal m = on (omega (arith, l, ap (λ z. z * p) m))
     by Greater m = absurd (omega (arith, l, less_by y x b a p m g))
 
--- a lesser number is that of a lesser text
+-- If the number of a text is less, the text is less.
 below : (n : ℕ) (xs ys : List ℕ) → AreDigits n (slice_index xs) → AreDigits n (slice_index ys)
     → number n (slice_index xs) < number n (slice_index ys) → slice_cmp nat_cmp xs ys ≡ Less
 below zero xs ys h k l = absurd (omega (arith, l))
@@ -64,7 +64,7 @@ below (suc n) (x ∷ xs) (y ∷ ys) h k l =
     first_decides x y (number n (slice_index xs)) (number n (slice_index ys)) (256 ^ n) (slice_cmp nat_cmp xs ys)
     (bound n (slice_index xs) h.1) (bound n (slice_index ys) k.1) l (below n xs ys h.1 k.1)
 
--- fronts that differ stand as the texts do
+-- If two fronts differ, they compare as the texts do.
 pub fronts_decide : (xs ys : List ℕ) → BeginsWithBytes xs → BeginsWithBytes ys → (front xs ≡ front ys → ⊥)
     → nat_cmp (front xs) (front ys) ≡ slice_cmp nat_cmp xs ys
 fronts_decide xs ys h k n = by (nat_cmp (front xs) (front ys)) (ranks (front xs) (front ys))
@@ -75,7 +75,7 @@ fronts_decide xs ys h k n = by (nat_cmp (front xs) (front ys)) (ranks (front xs)
     by Equal m = absurd (n m)
     by Greater m = sym (nat_list_cmp_total.antisymm xs ys ∙ ap ordering_reverse (below 8 ys xs k h m))
 
--- ---- short texts with no zero byte, which their fronts tell apart
+-- ---- Short texts without zero bytes have different fronts
 
 abbrev AreLetters : List ℕ → Type 0
 AreLetters xs = AllByRecursion (λ b. (0 < b) × (b < 256)) xs
@@ -94,7 +94,7 @@ no_less y n l = omega (arith, mul-le-mul_right (256 ^ n) one)
     one : 1 ≤ y
     one = omega (arith, l)
 
--- the first bytes are one, and so is the rest
+-- If two numbers are equal, their first digits and the rests are equal.
 first_same : (x y a b p : ℕ) → a < p → b < p → x * p + a ≡ y * p + b → (x ≡ y) × (a ≡ b)
 first_same x y a b p k g e = by (nat_cmp x y) (ranks x y)
   where
@@ -115,7 +115,7 @@ told_apart (suc n) (x ∷ xs) (y ∷ ys) l k h g e =
     (bound n (slice_index xs) (digits n xs h.1)) (bound n (slice_index ys) (digits n ys g.1)) e in
     λ i. both.0 i ∷ told_apart n xs ys (omega (arith, l)) (omega (arith, k)) h.1 g.1 both.1 i
 
--- texts that begin alike and are no longer are the same where they are of one length
+-- Two texts of at most n bytes with the same number are equal if their lengths are equal.
 pub lengths_tell : (n : ℕ) (xs ys : List ℕ) → length xs ≤ n → AreDigits n (slice_index xs)
     → AreDigits n (slice_index ys)
     → number n (slice_index xs) ≡ number n (slice_index ys) → nat_eq (length xs) (length ys) ≡ pointwise nat_eq xs ys
@@ -129,7 +129,7 @@ lengths_tell (suc n) (x ∷ xs) (y ∷ ys) l h k e =
     eqb-suc-suc (length xs) (length ys) ∙ lengths_tell n xs ys (omega (arith, l)) h.1 k.1 both.1
     ∙ sym (ap (λ b. b && pointwise nat_eq xs ys) (eq-eqb x y both.0))
 
--- ---- ids have no zero byte
+-- ---- Ids have no zero byte
 
 either : (p q : Bool) → (p || q) ≡ true → (p ≡ true) ⊎ (q ≡ true)
 either true q h = inl refl
@@ -172,9 +172,9 @@ letters (b ∷ bs) h =
     first_so (is_id_start b && list_all is_id_part bs) _ h in
     (start_is_letter b (first_so _ _ word), parts_are_letters bs (second_so (is_id_start b) _ word))
 
--- ---- names
+-- ---- Names
 
--- a name that has a kind is short, and the kind is its front
+-- A name whose kind is not 0 is short, and its kind is its front.
 record IsShort (n : NameParts) : Type 0 where
   pub path : n.path ≡ []
   pub long : length n.basename ≤ 8
@@ -209,7 +209,7 @@ same_texts xs = self (slice_cmp nat_cmp xs xs) (nat_list_cmp_total.antisymm xs x
     self Greater e = cc
 
 module _ (m n : NameParts) (valid : IsName m) (good : IsName n) (some : kind m ≡ 0 → ⊥) (any : kind n ≡ 0 → ⊥) where
-  -- names of one kind are one name
+  -- Names of the same kind are equal.
   pub one_name : kind m ≡ kind n → m ≡ n
   one_name e =
       let s = short m some in
@@ -220,7 +220,7 @@ module _ (m n : NameParts) (valid : IsName m) (good : IsName n) (some : kind m �
       let paths : m.path ≡ n.path = s.path ∙ sym t.path in
       λ i. record { path = paths i; basename = texts i }
 
-  -- kinds that differ stand as the names do
+  -- If two kinds differ, they compare as the names do.
   pub kinds_decide : (kind m ≡ kind n → ⊥) → nat_cmp (kind m) (kind n) ≡ name_cmp m n
   kinds_decide differ =
       let s = short m some in
@@ -233,7 +233,7 @@ module _ (m n : NameParts) (valid : IsName m) (good : IsName n) (some : kind m �
       ∙ (λ i. ordering_then (slice_cmp nat_cmp m.basename n.basename)
       (slice_cmp (slice_cmp nat_cmp) (sym s.path i) (sym t.path i)))
 
--- ---- uids
+-- ---- Uids
 
 differ_decide : (k l : ℕ) (rest : Ordering) → (k ≡ l → ⊥) → nat_cmp k l ≡ ordering_then (nat_cmp k l) rest
 differ_decide k l rest differ = by (nat_cmp k l) (ranks k l)
@@ -263,7 +263,7 @@ module _ (k l f g : ℕ) (x y : EntityUID) (a : Abbreviate k f x) (b : Abbreviat
   names e =
       one_name (uid_parts x).name (uid_parts y).name a.name b.name short_one short_other (sym a.of_name ∙ e ∙ b.of_name)
 
-  -- kinds that differ decide
+  -- If the kinds differ, they decide the order.
   pub by_kinds : (k ≡ l → ⊥) → nat_cmp k l ≡ uid_order x y
   by_kinds differ =
       differ_decide k l (slice_cmp nat_cmp (uid_parts x).eid (uid_parts y).eid) differ
@@ -272,21 +272,21 @@ module _ (k l f g : ℕ) (x y : EntityUID) (a : Abbreviate k f x) (b : Abbreviat
       ∙ kinds_decide (uid_parts x).name (uid_parts y).name a.name b.name short_one short_other
       (λ e. differ (a.of_name ∙ e ∙ sym b.of_name)))
 
-  -- else the eids do
+  -- If the kinds are equal, the eids decide the order.
   pub by_eids : k ≡ l → slice_cmp nat_cmp (uid_parts x).eid (uid_parts y).eid ≡ uid_order x y
   by_eids e =
       let one : name_cmp (uid_parts x).name (uid_parts y).name ≡ Equal =
       ap (name_cmp (uid_parts x).name) (sym (names e)) ∙ same_names (uid_parts x).name in
       sym (ap (λ o. ordering_then o (slice_cmp nat_cmp (uid_parts x).eid (uid_parts y).eid)) one)
 
-  -- and their fronts where these differ
+  -- If the kinds are equal and the fronts differ, the fronts decide the order.
   pub by_fronts : k ≡ l → (f ≡ g → ⊥) → nat_cmp f g ≡ uid_order x y
   by_fronts e differ =
       (λ i. nat_cmp (a.of_eid i) (b.of_eid i))
       ∙ fronts_decide (uid_parts x).eid (uid_parts y).eid a.bytes b.bytes (λ d. differ (a.of_eid ∙ d ∙ sym b.of_eid))
       ∙ by_eids e
 
-  -- a lesser front tells
+  -- If the kinds are equal, the uid with the smaller front is less.
   pub by_lesser_front : k ≡ l → f < g → true ≡ is_lt (uid_order x y)
   by_lesser_front e h = by (nat_cmp f g) (ranks f g) ∙ ap is_lt (by_fronts e (λ d. omega (arith, h, d)))
     where
@@ -295,14 +295,14 @@ module _ (k l f g : ℕ) (x y : EntityUID) (a : Abbreviate k f x) (b : Abbreviat
       by Equal m = absurd (omega (arith, h, m))
       by Greater m = absurd (omega (arith, h, m))
 
-  -- uids of one kind are the same where their eids are
+  -- Uids of the same kind are equal if and only if their eids are.
   pub same_by_eids : k ≡ l → pointwise nat_eq (uid_parts x).eid (uid_parts y).eid ≡ same_uid x y
   same_by_eids e =
       let one : name_eq (uid_parts x).name (uid_parts y).name ≡ true = ap (name_eq (uid_parts x).name) (sym (names e))
       ∙ name_eq_equiv.refl (uid_parts x).name in
       sym (ap (λ b. b && pointwise nat_eq (uid_parts x).eid (uid_parts y).eid) one)
 
--- uids whose numbers differ are not the same
+-- Uids with different numbers differ.
 pub apart_by_numbers : (k l f g : ℕ) (x y : EntityUID) → Abbreviate k f x → Abbreviate l g y → (f ≡ g → k ≡ l → ⊥)
     → false ≡ same_uid x y
 apart_by_numbers k l f g x y a b differ = by (same_uid x y) refl
@@ -314,7 +314,7 @@ apart_by_numbers k l f g x y a b differ = by (same_uid x y) refl
         absurd (differ (a.of_eid ∙ ap (λ u. front (uid_parts u).eid) same ∙ sym b.of_eid) (a.of_name
         ∙ ap (λ u. kind (uid_parts u).name) same ∙ sym b.of_name))
 
--- ---- numbers that are looked for first
+-- ---- Comparison of the numbers before a lookup
 
 or_first : (a b : Bool) → (a || b) ≡ false → a ≡ false
 or_first true b h = h
@@ -330,7 +330,7 @@ eq_itself n = eq-eqb n n refl
 same_itself : (u : EntityUID) → same_numbers u u ≡ true
 same_itself u = rw (eq_itself (front (uid_parts u).eid), eq_itself (kind (uid_parts u).name)) refl
 
--- where none has the numbers of the uid, it is none of them
+-- If no uid of a list has the numbers of u, then u is not in the list.
 pub none_without_numbers : (u : EntityUID) (us : List EntityUID) → list_any (same_numbers u) us ≡ false
     → is_member same_uid us u ≡ false
 none_without_numbers u [] h = refl

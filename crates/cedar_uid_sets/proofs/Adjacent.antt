@@ -1,4 +1,4 @@
--- Uids of which each is less than the next ascend, and no others do.
+-- A list ascends if and only if each uid is less than its successor.
 use Rattle.std.specs.Prelude.{◌≡◌, ℕ, ◌+◌, ◌-◌, ◌<◌, true, false, List, [], ◌∷◌, length, Some}
 use Rattle.std.proofs.Common.{ap, sym, subst, ◌∙◌, arith, get_or, inl, inr}
 use Rattle.std.specs.List.Sorted.{IsStrictlySortedBy}
@@ -16,7 +16,7 @@ use Rattle.cedar_uid_sets.specs.laws.Places.{RisesIn}
 use Rattle.cedar_uid_sets.proofs.Abbreviations.{by_lesser_front}
 use Rattle.cedar_uid_sets.proofs.Search.{less}
 
--- what stands at a place, whatever stands for what is not there
+-- The default of a lookup in a list does not matter within the list.
 pub here : (us : List EntityUID) (i : ℕ) (u d : EntityUID) → i < length us → u ≡ get_or us i u → u ≡ get_or us i d
 here us i u d within is = sym (get_or_from_slice_get us i u d (slice_get-get_or us i u within ∙ ap Some (sym is)))
 
@@ -24,13 +24,12 @@ none_ascends : Ascend []
 unfolding IsStrictlySortedBy
 none_ascends = tt
 
--- where each is less than the next, they ascend
 pub all_rise : (us : List EntityUID) → RisesIn us 0 (length us) → Ascend us
 all_rise [] rises = none_ascends
 all_rise (u ∷ us) rises =
     sorted_from_all_adjacent uid_order_total (u ∷ us) u (λ k lt. rises k u (omega arith) lt)
 
--- where one is not less than the next, they do not
+-- If one uid is not less than its successor, the list does not ascend.
 pub not_there : (us : List EntityUID) (u v : EntityUID) (at : ℕ) → 0 < at → at < length us → u ≡ get_or us (at - 1) u
     → v ≡ get_or us at v → is_lt (uid_order u v) ≡ false → Ascend us → ⊥
 not_there us u v at some within one next told s =
@@ -41,7 +40,7 @@ not_there us u v at some within one next told s =
     ∙ ap (uid_order (get_or us (at - 1) u)) (here us at v u within next) ∙ less_there in
     false≢true (sym told ∙ ap is_lt less_here)
 
--- one more, of the same kind and with a greater front
+-- A run can be extended by a uid of the same kind with a greater front.
 pub rises_on : (us : List EntityUID) (start at k f g : ℕ) → (k ≡ 0 → ⊥) → f < g
     → ((j : ℕ) (d : EntityUID) → j + 1 ≡ at → Abbreviate k f (get_or us j d))
     → ((d : EntityUID) → Abbreviate k g (get_or us at d)) → RisesIn us start at → RisesIn us start (at + 1)
@@ -51,7 +50,7 @@ rises_on us start at k f g some lt last next rises j d ge within = elim (cases_e
   | inr differ ↦ rises j d ge (omega (arith, differ, within))
 ]
 
--- a run behind others, whose first is greater than the last of those
+-- Two runs form one run if the first uid of the second is greater than the last uid of the first.
 pub rises_both : (us : List EntityUID) (u v : EntityUID) (at end : ℕ) → 0 < at → at < length us
     → u ≡ get_or us (at - 1) u → v ≡ get_or us at v → is_lt (uid_order u v) ≡ true
     → RisesIn us 0 at → RisesIn us at end → RisesIn us 0 end

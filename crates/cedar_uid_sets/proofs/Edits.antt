@@ -1,4 +1,4 @@
--- What one uid more or less makes of uids that ascend.
+-- Ascending uids after the insertion or the removal of a uid.
 use Rattle.std.specs.Prelude.{◌≡◌, ◌⊎◌, ℕ, ◌<◌, ◌≤◌, Bool, true, false, not, ◌&&◌, ◌||◌, List, [], ◌∷◌, length, zero}
 use Rattle.std.specs.Prelude.{suc, cond, ◌+◌}
 use Rattle.std.proofs.Common.{ap, sym, refl, ◌∙◌, arith, subst, get_or, inl, inr}
@@ -18,7 +18,7 @@ use Rattle.cedar_uid_sets.specs.laws.Sets.{contains_listed, same_tests, one_equa
 use Rattle.cedar_uid_sets.specs.laws.Places.{IsPlaceOf, IsGapFor}
 use Rattle.cedar_uid_sets.proofs.Orders.{apart, apart_back}
 
--- what has a place is a member
+-- A uid with a position is a member of the list.
 pub one_same : (us : List EntityUID) (u : EntityUID) (i : ℕ) → i < length us → ((d : EntityUID) → get_or us i d ≡ u)
     → is_member same_uid us u ≡ true
 one_same [] u i lt h = absurd (omega arith)
@@ -36,12 +36,12 @@ none_same [] u h = refl
 none_same (x ∷ us) u h = ap (λ b. b || is_member same_uid us u) (h zero x (omega arith))
     ∙ none_same us u (λ j d lt. h (suc j) d (omega arith))
 
--- what has a place is in the set
+-- A uid with a position is in the set.
 pub present : (us : List EntityUID) (u : EntityUID) (i : ℕ) → IsPlaceOf us u i
     → set.contains (set.from_list {R = uid_order} us) u ≡ true
 present us u i p = contains_listed us u ∙ one_same us u i p.in_range p.here
 
--- what has a gap is no member
+-- A uid with a gap is not a member of the list.
 pub not_in_gap : (us : List EntityUID) (u : EntityUID) (i : ℕ) → IsGapFor us u i → is_member same_uid us u ≡ false
 not_in_gap us u i g = none_same us u (λ j d lt. by_side j d lt (cases_lt j i))
   where
@@ -49,12 +49,12 @@ not_in_gap us u i g = none_same us u (λ j d lt. by_side j d lt (cases_lt j i))
     by_side j d lt (inl b) = apart_back u (get_or us j d) (g.below j d b)
     by_side j d lt (inr a) = apart u (get_or us j d) (g.above j d a lt)
 
--- what has a gap is not
+-- A uid with a gap is not in the set.
 pub absent : (us : List EntityUID) (u : EntityUID) (i : ℕ) → IsGapFor us u i
     → set.contains (set.from_list {R = uid_order} us) u ≡ false
 absent us u i g = contains_listed us u ∙ not_in_gap us u i g
 
--- ---- one more
+-- ---- Insertion
 
 all_insert : (P : EntityUID → Type 0) (us : List EntityUID) (i : ℕ) (u : EntityUID) → AllByRecursion P us → P u
     → AllByRecursion P (insert us i u)
@@ -99,7 +99,7 @@ member_insert (x ∷ us) (suc i) u q = ap (λ b. same_uid q x || b) (member_inse
 tests : (q u : EntityUID) (b : Bool) → (same_uid q u || b) ≡ (eq_by_cmp uid_order q u || b)
 tests q u b = ap (λ f. f q u || b) (sym same_tests)
 
--- a uid more makes the set with it
+-- Inserting a uid into the list inserts it into the set.
 pub set_insert : (us : List EntityUID) (i : ℕ) (u : EntityUID)
     → set.from_list {R = uid_order} (insert us i u) ≡ set.insert (set.from_list us) u
 set_insert us i u = set.same_set uid_order_total one_equal _ _ (λ q.
@@ -108,7 +108,7 @@ set_insert us i u = set.same_set uid_order_total one_equal _ _ (λ q.
     ∙ tests q u (set.contains (set.from_list {R = uid_order} us) q)
     ∙ sym (set.contains-insert uid_order_total (set.from_list us) u q))
 
--- one that is there makes the same set
+-- Inserting a member does not change the set.
 pub set_insert_present : (s : UidValues) (u : EntityUID) → set.contains s u ≡ true → s ≡ set.insert s u
 set_insert_present s u h = set.same_set uid_order_total one_equal _ _ (λ q.
     already q (same_uid q u) refl ∙ tests q u (set.contains s q) ∙ sym (set.contains-insert uid_order_total s u q))
@@ -117,7 +117,7 @@ set_insert_present s u h = set.same_set uid_order_total one_equal _ _ (λ q.
     already q true e = ap (set.contains s) ((same_uid_decides q u).0 e) ∙ h
     already q false e = refl
 
--- ---- one less
+-- ---- Removal
 
 all_remove : (P : EntityUID → Type 0) (us : List EntityUID) (i : ℕ) → AllByRecursion P us
     → AllByRecursion P (remove us i)
@@ -171,7 +171,7 @@ member_remove (x ∷ us) (suc i) u q s p =
 gone_tests : (q u : EntityUID) (b : Bool) → (not (same_uid q u) && b) ≡ (not (eq_by_cmp uid_order q u) && b)
 gone_tests q u b = ap (λ f. not (f q u) && b) (sym same_tests)
 
--- a uid less makes the set without it
+-- Removing a uid from an ascending list removes it from the set.
 pub set_remove : (us : List EntityUID) (i : ℕ) (u : EntityUID) → Ascend us → IsPlaceOf us u i
     → set.from_list {R = uid_order} (remove us i) ≡ set.remove (set.from_list us) u
 set_remove us i u s p = set.same_set uid_order_total one_equal _ _ (λ q.
@@ -180,7 +180,7 @@ set_remove us i u s p = set.same_set uid_order_total one_equal _ _ (λ q.
     ∙ gone_tests q u (set.contains (set.from_list {R = uid_order} us) q)
     ∙ sym (set.contains-remove uid_order_total (set.from_list us) u q))
 
--- one that is not there makes the same set
+-- Removing a uid that is not a member does not change the set.
 pub set_remove_absent : (s : UidValues) (u : EntityUID) → set.contains s u ≡ false → s ≡ set.remove s u
 set_remove_absent s u h = set.same_set uid_order_total one_equal _ _ (λ q.
     not_there q (same_uid q u) refl ∙ gone_tests q u (set.contains s q)
@@ -194,7 +194,7 @@ pub none_ascends : Ascend []
 unfolding IsStrictlySortedBy
 none_ascends = tt
 
--- the set of uids that ascend has as many
+-- The set of ascending uids has as many members as the list.
 pub len_listed : (us : List EntityUID) → Ascend us → set.len (set.from_list {R = uid_order} us) ≡ length us
 len_listed [] s = set.len-empty uid_order
 len_listed (x ∷ us) s =

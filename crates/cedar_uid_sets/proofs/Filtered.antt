@@ -1,4 +1,4 @@
--- What a filter makes of uids that ascend.
+-- Filtered lists of ascending uids.
 use Rattle.std.specs.Prelude.{◌≡◌, ℕ, ◌+◌, ◌<◌, Bool, true, false, not, ◌&&◌, ◌||◌, List, [], ◌∷◌, length, take}
 use Rattle.std.proofs.Common.{ap, sym, refl, ◌∙◌, get_or}
 use Rattle.std.specs.Ordering.{eq_by_cmp}
@@ -24,7 +24,7 @@ and_swap false false = refl
 abbrev pub is_other : UidValues → EntityUID → Bool
 is_other t u = not (set.contains t u)
 
--- what a test keeps of a set that is listed
+-- The members of a filtered list.
 kept : (p : EntityUID → Bool) (us : List EntityUID) (q : EntityUID)
     → set.contains (set.from_list {R = uid_order} (filter p us)) q
     ≡ (p q && set.contains (set.from_list {R = uid_order} us) q)
@@ -33,7 +33,7 @@ kept p us q =
     ∙ any-filter_same (same_uid q) p (p q) (λ k h. ap p (sym ((same_uid_decides q k).0 h))) us
     ∙ ap (λ b. p q && b) (sym (contains_listed us q))
 
--- what is in no other set makes the difference
+-- Keeping the uids that are not in another set results in the difference.
 pub set_difference : (us : List EntityUID) (t : UidValues)
     → set.from_list {R = uid_order} (filter (is_other t) us) ≡ set.difference (set.from_list us) t
 set_difference us t =
@@ -48,7 +48,7 @@ out_more true false false = refl
 out_more false a true = refl
 out_more false a false = refl
 
--- the difference with one uid more
+-- The difference with a list that has one more uid.
 pub difference_more : (s : UidValues) (us : List EntityUID) (i : ℕ) (d : EntityUID) → i < length us
     → set.remove (set.difference s (set.from_list (take i us))) (get_or us i d)
     ≡ set.difference s (set.from_list (take (i + 1) us))
@@ -63,7 +63,7 @@ difference_more s us i d lt = same_members _ _ (λ q.
     ∙ sym (contains_listed (take (i + 1) us) q))
     ∙ sym (set.contains-difference uid_order_total s (set.from_list (take (i + 1) us)) q))
 
--- nothing out is the set itself
+-- The difference with the empty set is the set itself.
 pub difference_none : (s : UidValues) → s ≡ set.difference s set.empty
 difference_none s =
     same_members _ _ (λ q. none_out (set.contains s q)
@@ -81,7 +81,7 @@ all_chosen P (b ∷ bs) [] h = tt
 all_chosen P (true ∷ bs) (u ∷ us) h = (h.0, all_chosen P bs us h.1)
 all_chosen P (false ∷ bs) (u ∷ us) h = all_chosen P bs us h.1
 
--- uids chosen from such as ascend do so too
+-- A selection from ascending uids ascends.
 pub ascend_chosen : (bs : List Bool) (us : List EntityUID) → Ascend us → Ascend (items_where_true bs us)
 unfolding IsStrictlySortedBy
 ascend_chosen [] us s = tt

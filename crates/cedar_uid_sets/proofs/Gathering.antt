@@ -1,4 +1,4 @@
--- Uids in any order, put into a set.
+-- Insertion of uids in any order into a set.
 use Rattle.std.specs.Prelude.{◌≡◌, Bool, true, false, ◌||◌, List, [], ◌∷◌, length}
 use Rattle.std.proofs.Common.{ap, sym, refl, ◌∙◌}
 use Rattle.std.specs.FinSet as set
@@ -9,7 +9,7 @@ use Rattle.cedar_ids.specs.declared.entity.EntityUID.{EntityUID}
 use Rattle.cedar_uid_sets.specs.UidSets.{UidValues}
 use Rattle.cedar_uid_sets.specs.laws.Sets.{contains_listed, same_members, same_tests}
 
--- what a set has, and what is still to be put in, is what is listed
+-- Holds if the members of the set, together with the remaining uids, are the members of the list.
 abbrev pub Covers : UidValues → List EntityUID → List EntityUID → Type 0
 Covers s rest us = (q : EntityUID) → (set.contains s q || is_member same_uid rest q) ≡ is_member same_uid us q
 

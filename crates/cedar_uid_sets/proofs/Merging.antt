@@ -1,4 +1,4 @@
--- Two lists of uids that ascend, made one: it ascends, and has the uids of both.
+-- The merge of two ascending lists ascends and has the uids of both.
 use Rattle.std.specs.Prelude.{◌≡◌, Bool, true, false, ◌||◌, List, [], ◌∷◌, ◌++◌, length}
 use Rattle.std.proofs.Common.{ap, sym, refl, subst, ◌∙◌, arith}
 use Rattle.std.specs.List.{AllByRecursion}
@@ -16,7 +16,7 @@ use Rattle.cedar_uid_sets.specs.laws.Merged.{by_order, below, above, merged}
 use Rattle.cedar_uid_sets.specs.laws.Sets.{contains_listed, is_member-append, same_members}
 use Rattle.cedar_uid_sets.proofs.Orders.{equal_is, turned}
 
--- ---- what holds of all uids of both lists holds of the merged one
+-- ---- A property of all uids of both lists is a property of all uids of the merge
 
 module _ (P : EntityUID → Type 0) where
   all_append : (us vs : List EntityUID) → AllByRecursion P us → AllByRecursion P vs → AllByRecursion P (us ++ vs)
@@ -51,12 +51,12 @@ module _ (P : EntityUID → Type 0) where
         all_merged (above v us) vs (all_above v us h) g.1,
       )
 
--- ---- the order
+-- ---- Order
 
 Above : EntityUID → List EntityUID → Type 0
 Above u us = AllByRecursion (λ y. uid_order u y ≡ Less) us
 
--- what is above the greater is above the lesser
+-- Uids above the greater of two uids are above the lesser one.
 lower : (x y : EntityUID) (us : List EntityUID) → uid_order x y ≡ Less → Above y us → Above x us
 unfolding Above
 lower x y [] l h = tt
@@ -72,7 +72,7 @@ ascend_above : (u : EntityUID) (us : List EntityUID) → Ascend us → Ascend (a
 ascend_above u [] s = s
 ascend_above u (x ∷ us) s = ascend_above_by (uid_order x u) x u us s (ascend_above u us (sorted_tail uid_order x us s))
 
--- what is left above u is above it
+-- The remaining uids after u are greater than u.
 is_above_by : (o : Ordering) (x u : EntityUID) (xs : List EntityUID) → uid_order x u ≡ o → Ascend (x ∷ xs)
     → Above u (above u xs) → Above u (by_order o (above u xs) xs (x ∷ xs))
 unfolding Above
@@ -85,7 +85,7 @@ unfolding Above
 is_above u [] s = tt
 is_above u (x ∷ us) s = is_above_by (uid_order x u) x u us refl s (is_above u us (sorted_tail uid_order x us s))
 
--- uids that ascend below u, then u, then uids that ascend above it
+-- Ascending uids below u, then u, then ascending uids above u form an ascending list.
 joined_by : (o : Ordering) (x u : EntityUID) (xs rest : List EntityUID) → uid_order x u ≡ o → Ascend (x ∷ xs)
     → Above u rest → Ascend (u ∷ rest) → Ascend (below u xs ++ u ∷ rest)
     → Ascend (by_order o (x ∷ below u xs) [] [] ++ u ∷ rest)
@@ -119,7 +119,7 @@ ascend_merged us (v ∷ vs) s t =
     joined v us (merged (above v us) vs) s over
     (cons v _ over (ascend_merged (above v us) vs (ascend_above v us s) (sorted_tail uid_order v vs t)))
 
--- ---- the members
+-- ---- Members
 
 or_first : (a b r : Bool) → (a || (b || r)) ≡ ((a || b) || r)
 or_first true b r = refl
@@ -150,7 +150,7 @@ parts_by Equal x u q xs r e h =
     ∙ ap (λ y. (same_uid q y || is_member same_uid xs q) || (same_uid q u || r)) (sym (equal_is x u e))
 parts_by Greater x u q xs r e h = or_between (same_uid q x) (same_uid q u) (is_member same_uid xs q) r
 
--- what is below u, u, and what is above it
+-- A list consists of the uids below u, of u, if u is in it, and of the uids above u.
 parts : (u q : EntityUID) (us : List EntityUID) (r : Bool)
     → (is_member same_uid (below u us) q || (same_uid q u || (is_member same_uid (above u us) q || r)))
     ≡ (is_member same_uid us q || (same_uid q u || r))
@@ -175,7 +175,7 @@ or_turned true false = refl
 or_turned false true = refl
 or_turned false false = refl
 
--- the merged list makes the union
+-- The set of the merge is the union of the sets.
 pub set_merged : (us vs : List EntityUID)
     → set.from_list {R = uid_order} (merged us vs) ≡ set.union (set.from_list vs) (set.from_list us)
 set_merged us vs = same_members _ _ (λ q.
@@ -184,7 +184,7 @@ set_merged us vs = same_members _ _ (λ q.
     ∙ (λ i. sym (contains_listed vs q) i || sym (contains_listed us q) i)
     ∙ sym (set.contains-union uid_order_total (set.from_list vs) (set.from_list us) q))
 
--- nothing and the others are the others
+-- The union of the empty set and another set is the other set.
 pub union_none : (s t : UidValues) → s ≡ set.empty → t ≡ set.union s t
 union_none s t none = same_members _ _ (λ q.
     ap (λ b. b || set.contains t q) (sym (ap (λ r. set.contains r q) none ∙ set.contains-empty uid_order q))

@@ -1,4 +1,4 @@
--- What the order of uids says of three uids.
+-- The order of three uids.
 use Rattle.std.specs.Prelude.{◌≡◌, ◌≤◌, false}
 use Rattle.std.proofs.Common.{ap, sym, ◌∙◌, arith}
 use Rattle.std.specs.Ordering.{ordering_index, ordering_reverse, is_eq}
@@ -18,7 +18,7 @@ from_less o Less e = rw e (omega arith)
 from_less o Equal e = rw e (omega arith)
 from_less o Greater e = rw e (omega arith)
 
--- a lesser uid compares to a third no higher
+-- If x is less than y, then x compares to a third uid at most as y does.
 pub rises : (x y u : EntityUID) (r : Ordering) → uid_order y u ≡ r → uid_order x y ≡ Less
     → ordering_index (uid_order x u) ≤ ordering_index r
 rises x y u Less e l = from_less (uid_order x u) Less (uid_order_total.trans x y u l e)
@@ -28,11 +28,11 @@ rises x y u Equal e l =
     ∙ sym (uid_order_total.antisymm x y) ∙ l)
 rises x y u Greater e l = top (uid_order x u)
 
--- a uid that is less is another
+-- If x is less than y, they differ.
 pub apart : (x y : EntityUID) → uid_order x y ≡ Less → same_uid x y ≡ false
 apart x y l = uid_order_ties x y ∙ ap is_eq l
 
--- and from the other side
+-- If y is less than x, they differ.
 pub apart_back : (x y : EntityUID) → uid_order y x ≡ Less → same_uid x y ≡ false
 apart_back x y l = uid_order_ties x y ∙ ap is_eq (uid_order_total.antisymm x y ∙ ap ordering_reverse l)
 

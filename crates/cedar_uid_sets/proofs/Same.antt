@@ -1,4 +1,4 @@
--- Lists of uids that ascend and make the same set are the same.
+-- Ascending lists that create the same set are equal.
 use Rattle.std.specs.Prelude.{◌≡◌, Bool, true, false, ◌||◌, List, [], ◌∷◌}
 use Rattle.std.proofs.Common.{ap, sym, refl, subst, ◌∙◌}
 use Rattle.std.specs.List.{AllByRecursion}
@@ -30,7 +30,7 @@ both_less x y a b = irreflexive x (uid_order_total.trans x y x a b)
 same_itself : (u : EntityUID) → same_uid u u ≡ true
 same_itself u = (same_uid_decides u u).1 refl
 
--- what holds of all holds of each member
+-- A property of all uids of a list is a property of each member.
 of_member : (P : EntityUID → Type 0) (us : List EntityUID) (u : EntityUID) → AllByRecursion P us
     → is_member same_uid us u ≡ true → P u
 of_member P [] u all h = absurd (false≢true h)
@@ -41,7 +41,7 @@ of_member P (x ∷ us) u all h = by_head (same_uid u x) refl (of_member P us u a
     by_head true e later h = subst P (sym ((same_uid_decides u x).0 e)) all.0
     by_head false e later h = later h
 
--- no member is less than the first
+-- No member of an ascending list is less than the first.
 least_head : (v : EntityUID) (vs : List EntityUID) (u : EntityUID) → Ascend (v ∷ vs)
     → is_member same_uid (v ∷ vs) u ≡ true → uid_order u v ≡ Less → ⊥
 least_head v vs u s h l = by_head (same_uid u v) refl h
@@ -50,7 +50,7 @@ least_head v vs u s h l = by_head (same_uid u v) refl h
     by_head true e h = irreflexive v (subst (λ x. uid_order x v ≡ Less) ((same_uid_decides u v).0 e) l)
     by_head false e h = both_less u v l (of_member (λ y. uid_order v y ≡ Less) vs u (sorted_head uid_order v vs s) h)
 
--- the first is not among the others
+-- The first uid of an ascending list is not among the others.
 first_once : (v : EntityUID) (vs : List EntityUID) (b : Bool) → Ascend (v ∷ vs) → is_member same_uid vs v ≡ b
     → b ≡ false
 first_once v vs true s h =
@@ -94,7 +94,7 @@ same_lists (u ∷ us) (v ∷ vs) s t h =
     λ i. head i ∷ same_lists us vs (sorted_tail uid_order u us s) (sorted_tail uid_order u vs t')
     (same_tails u us vs s t' h') i
 
--- two listings of one set are the same
+-- Two ascending lists of the same set are equal.
 pub one_listing : (us vs : List EntityUID) → Ascend us → Ascend vs → set.from_list {R = uid_order} us ≡ set.from_list vs
     → us ≡ vs
 one_listing us vs s t e =

@@ -1,4 +1,4 @@
--- What a binary search finds among uids that ascend.
+-- The result of a binary search among ascending uids.
 use Rattle.std.specs.Prelude.{◌≡◌, ◌⊎◌, ℕ, ◌<◌, ◌≤◌, List, length, Result, Ok, Err, MatchResult, Some, ◌-◌, IsTrue}
 use Rattle.std.proofs.Common.{ap, sym, refl, ◌∙◌, arith, get_or, inl, inr}
 use Rattle.std.specs.List.{slice_get}
@@ -36,7 +36,7 @@ module _ (us : List EntityUID) (u : EntityUID) where
     above = λ j d le lt. turned (get_or us j d) u ((parted (comparisons_rise s)).1 j d le lt);
   }
 
-  -- what is greater than the last is greater than all
+  -- A uid that is greater than the last is greater than all.
   pub past_all : Ascend us → (x : EntityUID) → slice_get us (length us - 1) ≡ Some x → uid_order x u ≡ Less
       → IsGapFor us u (length us)
   past_all s x at less = record {

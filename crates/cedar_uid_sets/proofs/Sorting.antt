@@ -1,4 +1,4 @@
--- Uids of which no two are equal, once sorted, ascend.
+-- Distinct uids ascend after they are sorted.
 use Rattle.std.specs.Prelude.{◌≡◌, ◌+◌, false, List, [], ◌∷◌}
 use Rattle.std.proofs.Common.{sym, refl, ◌∙◌, arith, get_or}
 use Rattle.std.specs.List.{IsDistinct}
@@ -15,7 +15,7 @@ use Rattle.cedar_ids.specs.declared.entity.EntityUID.{EntityUID}
 use Rattle.cedar_uid_sets.specs.UidSets.{Ascend}
 use Rattle.cedar_uid_sets.specs.laws.Sets.{same_listed}
 
--- what compares neither equal nor, the other way round, less is less
+-- If x and y are not equal and y is not less than x, then x is less than y.
 rising : (o p : Ordering) → o ≡ ordering_reverse p → is_eq o ≡ false → is_lt p ≡ false → o ≡ Less
 rising Less p e a b = refl
 rising Equal p e a b = cc
@@ -39,6 +39,6 @@ ascend_sorted us (v ∷ vs) once moved up =
     rising (uid_order a b) (uid_order b a) (uid_order_total.antisymm a b) (sym (uid_order_ties a b) ∙ two)
     (up k v (omega arith) lt))
 
--- and make the same set
+-- Sorting does not change the set.
 pub set_sorted : (us vs : List EntityUID) → IsPermutation us vs → set.from_list {R = uid_order} vs ≡ set.from_list us
 set_sorted us vs moved = same_listed vs us (λ q. sym (list_any-IsPermutation (same_uid q) us vs moved))

@@ -1,13 +1,13 @@
-//! Whether uids ascend.
+//! Checks whether uids ascend.
 ghost use Rattle.std.specs.Prelude.{◌↔◌, ◌<◌, ◌≤◌, IsTrue, length};
 ghost use Rattle.cedar_uid_sets.specs.UidSets.{Ascend};
 ghost use Rattle.cedar_uid_sets.specs.laws.Places.{RisesIn};
 
-use crate::fronts::is_less;
+use crate::fronts::order_of;
 use crate::shared_uid::SharedUid;
 
-// Where a run ends, of uids of one short name whose fronts rise: the numbers of each tell that it is less than the
-// next, without a look at any text. Where the name is not short it ends with the first.
+// Returns the end of the run of ascending uids that begins at `start`. All uids of the run have the same short type
+// name, and their eids' numbers increase. So no text is compared. If the type name is not short, the run has one uid.
 #[inline(always)]
 fn run_end(uids: &[SharedUid], start: usize) -> usize
     requires { start < length uids.now }
@@ -32,7 +32,7 @@ fn run_end(uids: &[SharedUid], start: usize) -> usize
     at
 }
 
-// Whether each of these is less than the next, where each is up to a place.
+// Checks whether the uids ascend, if those up to `start` do.
 #[inline(never)]
 fn ascend_from(uids: &[SharedUid], start: usize) -> bool
     requires some { 0 < start }
@@ -42,7 +42,7 @@ fn ascend_from(uids: &[SharedUid], start: usize) -> bool
 {
     let mut at = start;
     while at < uids.len() {
-        if !is_less(&uids[at - 1].key(), &uids[at].key()) {
+        if !order_of(&uids[at - 1].key(), &uids[at].key()).is_lt() {
             return false;
         }
         at = run_end(uids, at);
@@ -50,7 +50,7 @@ fn ascend_from(uids: &[SharedUid], start: usize) -> bool
     true
 }
 
-// Whether each of these is less than the next. Mostly they are one run.
+// Checks whether each uid is less than the next. Most lists are a single run.
 #[inline(always)]
 pub(crate) fn ascend(uids: &[SharedUid]) -> bool
     ensures { IsTrue result ↔ Ascend uids.now }

@@ -1,6 +1,6 @@
-//! The numbers that abbreviate uids, and comparisons by them.
+//! The two numbers that abbreviate a uid, and comparisons of uids by these numbers.
 ghost use Rattle.std.specs.Prelude.{◌≡◌, ◌<◌, ◌+◌, ◌*◌, nat_eq, slice_index};
-ghost use Rattle.std.specs.Ordering.{is_lt, nat_cmp};
+ghost use Rattle.std.specs.Ordering.{nat_cmp};
 ghost use Rattle.std.specs.Cmp.Lexicographic.{pointwise, slice_cmp};
 ghost use Rattle.cedar_ids.specs.UidOf.{same_uid, uid_order, uid_parts};
 ghost use Rattle.cedar_uid_sets.specs.laws.Fronts.{AreDigits, front, kind, is_short, number, same_numbers};
@@ -13,7 +13,7 @@ use std::cmp::Ordering;
 use std::fmt;
 use std::marker::Model;
 
-// The byte at a place, or 0.
+// Returns the byte at a position, or 0 after the end.
 fn byte(text: &[u8], at: usize) -> u64
     ensures value { result ≡ slice_index text.now at }
     ensures small { result < 256 }
@@ -24,7 +24,7 @@ fn byte(text: &[u8], at: usize) -> u64
     }
 }
 
-// The number of four bytes, the first as the highest.
+// Returns the number of four bytes, highest byte first.
 fn from_four_bytes(a: u8, b: u8, c: u8, d: u8) -> u64
     ensures value { result ≡ a * 0x100_0000 + (b * 0x1_0000 + (c * 0x100 + d)) }
     ensures small { result < 0x1_0000_0000 }
@@ -32,7 +32,7 @@ fn from_four_bytes(a: u8, b: u8, c: u8, d: u8) -> u64
     u64::from(a) * 0x100_0000 + u64::from(b) * 0x1_0000 + u64::from(c) * 0x100 + u64::from(d)
 }
 
-// The first four bytes, the first as the highest, with a zero for each that is not there.
+// Returns the first four bytes as a number, highest byte first. Missing bytes count as zero.
 fn half(text: &[u8]) -> u64
     ensures value { result ≡ number 4 (slice_index text.now) }
     ensures small { result < 0x1_0000_0000 }
@@ -44,7 +44,7 @@ fn half(text: &[u8]) -> u64
     byte(text, 0) * 0x100_0000 + byte(text, 1) * 0x1_0000 + byte(text, 2) * 0x100 + byte(text, 3)
 }
 
-// The first eight bytes, the first as the highest: four at once where there are as many.
+// Returns the first eight bytes as a number, highest byte first. Missing bytes count as zero.
 fn front(text: &[u8]) -> u64
     ensures value { result ≡ front text.now }
     ensures bytes { BeginsWithBytes text.now }
@@ -55,14 +55,14 @@ fn front(text: &[u8]) -> u64
     half(text) * 0x1_0000_0000
 }
 
-// Whether a name has no path, and a basename of at most eight bytes.
+// Checks whether a name has no path and a basename of at most eight bytes.
 fn is_short(name: &Name) -> bool
     ensures { result ≡ is_short name.now }
 {
     name.is_unqualified() && name.basename().as_ref().len() <= 8
 }
 
-// The front of a short name, and 0 of another.
+// Returns the front of a short name, and 0 for any other name.
 fn kind(name: &Name) -> u64
     ensures { result ≡ kind name.now }
 {
@@ -72,7 +72,7 @@ fn kind(name: &Name) -> u64
     front(name.basename().as_ref().as_bytes())
 }
 
-/// A uid that is looked for, with the numbers that abbreviate it. Contracts see the uid.
+/// A uid to look up, with its two numbers. In contracts it is the uid.
 #[derive(Drop)]
 pub(crate) struct Key<'a> {
     pub(crate) kind: u64,
@@ -95,7 +95,6 @@ impl<'a> Model for Key<'a> {
 }
 
 impl<'a> Key<'a> {
-    // The uid, to be looked for.
     pub(crate) fn of(uid: &'a EntityUID) -> Key<'a>
         ensures { result ≡ uid.now }
     {
@@ -107,7 +106,7 @@ impl<'a> Key<'a> {
     }
 }
 
-/// A uid with the numbers that abbreviate it. Contracts see the uid.
+/// A uid with its two numbers. In contracts it is the uid.
 #[derive(Drop)]
 pub(crate) struct Fronted {
     kind: u64,
@@ -130,7 +129,6 @@ impl Model for Fronted {
 }
 
 impl Fronted {
-    // The uid with its numbers.
     #[inline(always)]
     pub(crate) fn new(uid: EntityUID) -> Fronted
         ensures { result ≡ uid }
@@ -140,14 +138,13 @@ impl Fronted {
         Fronted { kind, front, uid }
     }
 
-    // The uid.
     pub(crate) fn uid(&self) -> &EntityUID
         ensures { result.now ≡ self.now }
     {
         &self.uid
     }
 
-    // The uid, to be looked for.
+    // Returns the lookup key of the uid.
     pub(crate) fn key(&self) -> Key<'_>
         ensures { result ≡ self.now }
     {
@@ -158,7 +155,6 @@ impl Fronted {
         }
     }
 
-    // The uid alone.
     pub(crate) fn into_uid(self) -> EntityUID
         ensures { result ≡ self }
     {
@@ -186,14 +182,14 @@ impl fmt::Debug for Fronted {
     }
 }
 
-// How the eids of two uids stand.
+// Compares the eids of two uids.
 fn order_of_eids(one: &EntityUID, other: &EntityUID) -> Ordering
     ensures { result ≡ slice_cmp nat_cmp (uid_parts one.now).eid (uid_parts other.now).eid }
 {
     one.eid().as_ref().cmp(other.eid().as_ref())
 }
 
-// How the first stands to the other: by the numbers where both names are short and the numbers differ.
+// Compares two uids. If both names are short and the numbers differ, the numbers decide.
 pub(crate) fn order_of(one: &Key<'_>, other: &Key<'_>) -> Ordering
     ensures { result ≡ uid_order one.now other.now }
 {
@@ -209,18 +205,8 @@ pub(crate) fn order_of(one: &Key<'_>, other: &Key<'_>) -> Ordering
     order_of_eids(one.uid, other.uid)
 }
 
-// Whether the first is less than the other. The numbers tell where those of the names are the same and that of the first
-// eid is the lesser.
-pub(crate) fn is_less(one: &Key<'_>, other: &Key<'_>) -> bool
-    ensures { result ≡ is_lt (uid_order one.now other.now) }
-{
-    if one.kind != 0 && one.kind == other.kind && one.front < other.front {
-        return true;
-    }
-    order_of(one, other).is_lt()
-}
-
-// Whether two uids have one eid, whose first eight bytes are the same: where one has no more, the lengths tell.
+// Checks whether two eids with the same first eight bytes are equal. If one has at most eight bytes, their lengths
+// decide.
 fn have_one_eid(one: &EntityUID, other: &EntityUID) -> bool
     requires same { front (uid_parts one.now).eid ≡ front (uid_parts other.now).eid }
     requires one { BeginsWithBytes (uid_parts one.now).eid }
@@ -235,14 +221,15 @@ fn have_one_eid(one: &EntityUID, other: &EntityUID) -> bool
     one == other
 }
 
-// Whether two uids have the same numbers. Where they have not they differ.
+// Checks whether two uids have the same numbers. If not, the uids differ.
 pub(crate) fn have_same_numbers(one: &Key<'_>, other: &Key<'_>) -> bool
     ensures { result ≡ same_numbers one.now other.now }
 {
     one.front == other.front && one.kind == other.kind
 }
 
-// Whether both are the same: not where the numbers differ, and where both names are short the eids tell.
+// Checks whether two uids are equal. If the numbers differ, the uids differ. If both names are short, only the eids
+// remain to be compared.
 pub(crate) fn are_same(one: &Key<'_>, other: &Key<'_>) -> bool
     ensures { result ≡ same_uid one.now other.now }
 {

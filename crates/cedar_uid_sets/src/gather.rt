@@ -1,4 +1,4 @@
-//! Sets made of shared uids in any order.
+//! Creation of sets from shared uids in any order.
 ghost use Rattle.std.specs.Prelude.{◌≡◌, IfOk};
 ghost use Rattle.std.specs.FinSet as set;
 
@@ -7,7 +7,7 @@ use crate::shared_uid::SharedUid;
 use crate::uid_set::UidSet;
 use std::alloc::AllocError;
 
-// The set of these, put in one after another.
+// Creates the set by inserting the uids one after another.
 fn gathered(uids: Vec<SharedUid>) -> Result<UidSet, AllocError>
     ensures { IfOk result (λ s. s ≡ set.from_list uids.items) }
 {
@@ -19,11 +19,16 @@ fn gathered(uids: Vec<SharedUid>) -> Result<UidSet, AllocError>
 }
 
 impl UidSet {
-    /// The set of shared uids in any order, of which some may be equal.
+    /// Creates a set from shared uids in any order, with or without duplicates.
     ///
-    /// Where no two are equal the vector is taken, and no memory: after a comparison a uid where they ascend, and else
-    /// once they are sorted. Where two are equal they are put in one after another: that takes memory, and is refused
-    /// only where that is.
+    /// If the uids are in ascending order, they are compared once each. Otherwise they are sorted. If there are
+    /// duplicates, the uids are inserted one after another.
+    ///
+    /// Without duplicates the set takes over the vector and does not allocate.
+    ///
+    /// # Errors
+    ///
+    /// Returns `AllocError` if an allocation fails.
     pub fn from_pointers(mut uids: Vec<SharedUid>) -> Result<UidSet, AllocError>
         ensures { IfOk result (λ s. s ≡ set.from_list uids.items) }
     {

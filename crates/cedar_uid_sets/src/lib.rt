@@ -1,11 +1,12 @@
-//! Uids that are shared, and sets of them as ascending vectors.
+//! Shared uids, and sets of shared uids as sorted vectors.
 //!
-//! A [`SharedUid`] is a uid behind a counted pointer, and contracts see the uid. A [`UidSet`] holds such pointers
-//! in the order of the uids, each uid once, and contracts see a finite set of uids. So a set costs a pointer a uid,
-//! a copy of it copies no uid, and a look-up among more than sixteen uids is a binary search.
+//! A [`SharedUid`] is a uid behind a reference-counted pointer. A [`UidSet`] stores such pointers in ascending order of
+//! the uids, without duplicates. A set therefore needs one pointer per uid, and a copy of it copies no uid. A lookup
+//! among more than sixteen uids is a binary search.
 //!
-//! Proved: each call of both types as a step on the uid or on the finite set, and that a `HashMap` with shared
-//! uids as its keys is looked up by a plain one.
+//! In contracts, a `SharedUid` is a uid and a `UidSet` is a finite set of uids. Proved: what each call of both types
+//! does to the uid or to the finite set. Also proved: a `HashMap` with shared uids as keys can be looked up by a plain
+//! uid.
 #![tactic(auto)]
 
 mod ascending;
@@ -18,6 +19,7 @@ mod shared_uid;
 mod uid_set;
 mod union;
 
+pub use order::are_equal;
 pub use shared_uid::SharedUid;
 pub use uid_set::{UidSet, Uids};
 pub use union::Union;

@@ -1,4 +1,4 @@
-//! The look-up of a shared uid by a plain one.
+//! Lookup of a shared uid by a plain uid.
 ghost use Rattle.std.specs.Prelude.{◌≡◌};
 ghost use Rattle.cedar_ids.specs.UidOf.{same_uid};
 ghost use Rattle.cedar_ids.specs.laws.UidOfLaws.{uid_hash_respects, same_uid_equiv};
@@ -7,7 +7,7 @@ use crate::shared_uid::SharedUid;
 use cedar_ids::entity::EntityUID;
 use std::collections::hash_map::Equivalent;
 
-/// A map whose keys are shared uids is looked up by a plain uid.
+/// Allows a map whose keys are shared uids to be looked up by a plain uid.
 impl Equivalent<SharedUid> for &EntityUID {
     ghost equivalent = { λ q k. same_uid q.now k };
 

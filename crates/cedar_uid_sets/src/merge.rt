@@ -1,4 +1,4 @@
-//! Vectors of shared uids: made of a hash set, and two of them merged.
+//! Vectors of shared uids: conversion from a hash set, and merging of two vectors.
 ghost use Rattle.std.specs.Prelude.{◌≡◌, ◌+◌, ◌≤◌, ◌++◌, [], IfOk};
 ghost use Rattle.std.specs.List.{IsDistinct};
 ghost use Rattle.std.specs.Vec.{vec_len, vec_capacity};
@@ -15,7 +15,7 @@ use std::cmp::Ordering;
 use std::collections::{HashSet, VecDeque};
 use std::hash::BuildHasher;
 
-// The uids of a set, to be shared.
+// Moves the uids of a set into shared pointers.
 pub(crate) fn shared<S: BuildHasher + Drop>(
     alloc: Global,
     uids: HashSet<EntityUID, S>,
@@ -30,8 +30,8 @@ pub(crate) fn shared<S: BuildHasher + Drop>(
     Ok(shared)
 }
 
-// Moves what is less than the uid from the front of the queue to the end of the vector, and drops the uid itself
-// where it comes next.
+// Moves the uids that are less than `uid` from the front of the queue to the end of the vector. Drops the next uid if
+// it is equal to `uid`.
 fn move_below(queue: &mut VecDeque<SharedUid>, uid: &Key<'_>, to: &mut Vec<SharedUid>)
     requires { vec_len to.old + deque_len queue.old ≤ vec_capacity to.old }
     ensures moved { to.new.items ≡ to.old.items ++ below uid.now queue.old.items }
@@ -64,8 +64,8 @@ fn move_all(queue: VecDeque<SharedUid>, to: &mut Vec<SharedUid>)
     }
 }
 
-// The uids of both vectors, each in order, moved into an empty one that has room for them; those of the second where
-// both have one.
+// Merges two ascending vectors into `room`, which is empty and has enough capacity. If both contain a uid, the pointer
+// of the second is kept.
 pub(crate) fn merge(
     room: Vec<SharedUid>,
     left: Vec<SharedUid>,

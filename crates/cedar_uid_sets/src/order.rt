@@ -1,4 +1,4 @@
-//! Where a uid stands among uids that ascend.
+//! Searches among ascending uids.
 ghost use Rattle.std.specs.Prelude.{◌≡◌, MatchResult, IsTrue, length, false};
 ghost use Rattle.std.specs.List.{list_any};
 ghost use Rattle.std.specs.Set.{is_member};
@@ -12,17 +12,17 @@ use crate::shared_uid::SharedUid;
 use cedar_ids::entity::EntityUID;
 use std::cmp::Ordering;
 
-// So many uids are gone through one by one, which costs less than a search.
+// Up to this number of uids are compared one by one, which is faster than a binary search.
 const FEW: usize = 16;
 
-// How what is shared stands to the uid.
+// Compares a shared uid with the uid to look up.
 pub(crate) fn order(shared: &SharedUid, uid: &Key<'_>) -> Ordering
     ensures { result ≡ uid_order shared.now uid.now }
 {
     order_of(&shared.key(), uid)
 }
 
-// Whether the uid is greater than all of these.
+// Checks whether the uid is greater than all of the uids. May return `false` also if it is.
 fn is_past_all(uids: &[SharedUid], uid: &Key<'_>) -> bool
     requires { Ascend uids.now }
     ensures { IsTrue result → IsGapFor uids.now uid.now (length uids.now) }
@@ -33,7 +33,7 @@ fn is_past_all(uids: &[SharedUid], uid: &Key<'_>) -> bool
     order(last, uid).is_lt()
 }
 
-// Where the uid is, or where it would go.
+// Returns the position of the uid, or the position at which it would be inserted.
 pub(crate) fn place(uids: &[SharedUid], uid: &Key<'_>) -> Result<usize, usize>
     requires { Ascend uids.now }
     ensures { MatchResult result (IsPlaceOf uids.now uid.now) (IsGapFor uids.now uid.now) }
@@ -41,7 +41,8 @@ pub(crate) fn place(uids: &[SharedUid], uid: &Key<'_>) -> Result<usize, usize>
     uids.binary_search_by(|shared| order(shared, uid))
 }
 
-// Where the uid is, or where it would go. The end is looked at first, where it is likely to go.
+// Returns the position of the uid, or the position at which it would be inserted. Tries the end first, because most
+// inserts go there.
 pub(crate) fn place_from_end(uids: &[SharedUid], uid: &Key<'_>) -> Result<usize, usize>
     requires { Ascend uids.now }
     ensures { MatchResult result (IsPlaceOf uids.now uid.now) (IsGapFor uids.now uid.now) }
@@ -52,7 +53,7 @@ pub(crate) fn place_from_end(uids: &[SharedUid], uid: &Key<'_>) -> Result<usize,
     place(uids, uid)
 }
 
-// Whether one of these has the numbers of the uid. Where none has, the uid is none of them.
+// Checks whether one of the uids has the numbers of the uid. If not, the uid is not among them.
 fn has_numbers(uids: &[SharedUid], uid: &Key<'_>) -> bool
     ensures { result ≡ list_any (same_numbers uid.now) uids.now }
 {
@@ -60,22 +61,22 @@ fn has_numbers(uids: &[SharedUid], uid: &Key<'_>) -> bool
         .any(|shared| have_same_numbers(uid, &shared.key()))
 }
 
-// Whether it has to be looked whether the uid is one of these: where they are few, the numbers mostly tell that it is
-// not.
+// Returns `false` only if the uid is not among the uids. If there are few uids, comparing the numbers mostly shows
+// that.
 pub(crate) fn may_be_among(uids: &[SharedUid], uid: &Key<'_>) -> bool
     ensures { (result ≡ false) → is_member same_uid uids.now uid.now ≡ false }
 {
     uids.len() > FEW || has_numbers(uids, uid)
 }
 
-// Whether the uid is one of these, gone through one by one.
+// Checks whether the uid is among the uids, by comparing one by one.
 fn is_listed(uids: &[SharedUid], uid: &Key<'_>) -> bool
     ensures { result ≡ is_member same_uid uids.now uid.now }
 {
     uids.iter().any(|shared| are_same(uid, &shared.key()))
 }
 
-// Whether a search finds the uid.
+// Checks whether the uid is among the uids, by binary search.
 fn is_found(uids: &[SharedUid], uid: &Key<'_>) -> bool
     requires { Ascend uids.now }
     ensures { result ≡ is_member same_uid uids.now uid.now }
@@ -86,7 +87,7 @@ fn is_found(uids: &[SharedUid], uid: &Key<'_>) -> bool
     }
 }
 
-// Whether the uid is one of these.
+// Checks whether the uid is among the uids.
 pub(crate) fn is_one_of(uids: &[SharedUid], uid: &Key<'_>) -> bool
     requires { Ascend uids.now }
     ensures { result ≡ is_member same_uid uids.now uid.now }
@@ -97,21 +98,21 @@ pub(crate) fn is_one_of(uids: &[SharedUid], uid: &Key<'_>) -> bool
     is_found(uids, uid)
 }
 
-// Whether two uids are equal. Their eids are looked at first, since they differ where their types do not.
-fn are_equal(one: &EntityUID, other: &EntityUID) -> bool
+/// Checks whether two uids are equal. Compares the eids first: uids of one type differ in them. Does not allocate.
+pub fn are_equal(one: &EntityUID, other: &EntityUID) -> bool
     ensures { result ≡ same_uid one.now other.now }
 {
     one.eid().as_ref() == other.eid().as_ref() && one == other
 }
 
-// Whether a plain uid is one of these. No number is made for it.
+// Checks whether a plain uid is among the uids, without computing its numbers.
 fn has_plain(uids: &[SharedUid], uid: &EntityUID) -> bool
     ensures { result ≡ is_member same_uid uids.now uid.now }
 {
     uids.iter().any(|shared| are_equal(uid, shared.uid()))
 }
 
-// Whether a plain uid is one of these. Its numbers are made where these are not few.
+// Checks whether a plain uid is among the uids. Computes its numbers only if there are many uids.
 pub(crate) fn has(uids: &[SharedUid], uid: &EntityUID) -> bool
     requires { Ascend uids.now }
     ensures { result ≡ is_member same_uid uids.now uid.now }

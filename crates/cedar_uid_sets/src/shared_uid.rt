@@ -1,4 +1,4 @@
-//! A uid behind a counted pointer, with the two numbers that abbreviate it.
+//! A uid behind a reference-counted pointer, with the two numbers that abbreviate it.
 ghost use Rattle.std.specs.Prelude.{◌≡◌, IfOk, IfErr, ◌⊎◌};
 ghost use Rattle.cedar_ids.specs.UidOf.{same_uid, uid_order, uid_hash};
 ghost use Rattle.cedar_ids.specs.laws.UidOfLaws.{same_uid_equiv, uid_order_total, uid_order_ties, uid_order_po};
@@ -18,11 +18,13 @@ use std::hash::{Hash, Hasher};
 use std::marker::Model;
 use std::rc::Rc;
 
-/// A uid that several sets share. Contracts see the uid.
+/// A uid that several sets can share.
 ///
-/// Beside the uid stand two numbers that abbreviate it: one for its type where that is short and has no path, and one
-/// for the first eight bytes of its eid. Where these differ, they decide equality and order, and no text is looked
-/// at. They cost 16 bytes a shared uid.
+/// Next to the uid it stores two numbers. One abbreviates the type, if its name is short and has no path. The other
+/// consists of the first eight bytes of the eid. If the numbers of two uids differ, they decide equality and order
+/// without comparing texts. The numbers cost 16 bytes per shared uid.
+///
+/// In contracts it is the uid.
 #[derive(Debug, Drop)]
 pub struct SharedUid(Rc<Fronted>);
 
@@ -38,7 +40,11 @@ impl Model for SharedUid {
 }
 
 impl SharedUid {
-    /// The uid, to be shared. It takes memory.
+    /// Creates a shared uid from a uid. Allocates the counted pointer.
+    ///
+    /// # Errors
+    ///
+    /// Returns `AllocError` if an allocation fails.
     #[inline(always)]
     pub fn new(alloc: Global, uid: EntityUID) -> Result<SharedUid, AllocError>
         ensures { IfOk result (λ s. s ≡ uid) }
@@ -49,7 +55,11 @@ impl SharedUid {
         }
     }
 
-    /// A copy of the uid, to be shared. It takes memory, and is refused only where that is.
+    /// Creates a shared uid from a copy of `uid`.
+    ///
+    /// # Errors
+    ///
+    /// Returns `AllocError` if an allocation fails.
     pub fn copy_of(alloc: Global, uid: &EntityUID) -> Result<SharedUid, AllocError>
         ensures { IfOk result (λ s. s ≡ uid.now) }
     {
@@ -57,14 +67,18 @@ impl SharedUid {
         SharedUid::new(alloc, copy)
     }
 
-    /// The uid. It takes no memory.
+    /// Returns the uid. Does not allocate.
     pub fn uid(&self) -> &EntityUID
         ensures { result.now ≡ self.now }
     {
         self.0.uid()
     }
 
-    /// The uid: a copy where it is still shared, which takes memory, and is refused only where that is.
+    /// Returns the uid itself, or a copy if the pointer is still shared.
+    ///
+    /// # Errors
+    ///
+    /// Returns `AllocError` if the allocation of a copy fails.
     pub fn into_uid(self) -> Result<EntityUID, AllocError>
         ensures { IfOk result (λ u. u ≡ self) }
     {
@@ -72,7 +86,6 @@ impl SharedUid {
         Ok(fronted.into_uid())
     }
 
-    // The uid, to be looked for.
     pub(crate) fn key(&self) -> Key<'_>
         ensures { result ≡ self.now }
     {

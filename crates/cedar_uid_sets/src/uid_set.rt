@@ -20,7 +20,7 @@ use std::hash::BuildHasher;
 use std::marker::Model;
 use std::{mem, slice};
 
-/// A set of uids that are shared with other sets: a vector of them, ascending, each once.
+/// A set of shared uids: a vector in ascending order, without duplicates.
 #[derive(Debug, Drop)]
 pub struct UidSet {
     uids: Vec<SharedUid>,
@@ -41,7 +41,7 @@ impl Model for UidSet {
 }
 
 impl UidSet {
-    /// The empty set. It takes no memory.
+    /// Creates an empty set. Does not allocate.
     pub fn new(alloc: Global) -> UidSet
         ensures { result ≡ set.empty }
     {
@@ -50,16 +50,16 @@ impl UidSet {
         }
     }
 
-    /// Whether these ascend, each once: each is less than the next. It takes no memory, and compares each to the
-    /// next, up to the first that is not less.
+    /// Returns whether each uid is less than the next. Compares neighbours up to the first that is not less. Does not
+    /// allocate.
     pub fn is_ascending(uids: &[SharedUid]) -> bool
         ensures { IsTrue result ↔ Ascend uids.now }
     {
         ascend(uids)
     }
 
-    /// The set of uids that ascend, each once, as [`UidSet::is_ascending`] tells. It takes no memory, and looks at no
-    /// uid.
+    /// Creates a set from ascending uids without duplicates. The caller must ensure this; see [`UidSet::is_ascending`].
+    /// Compares no uids and does not allocate.
     pub fn from_ascending(uids: Vec<SharedUid>) -> UidSet
         requires { Ascend uids.items }
         ensures { result ≡ set.from_list uids.items }
@@ -67,8 +67,15 @@ impl UidSet {
         UidSet { uids }
     }
 
-    /// The uids of a hash set, however it hashes, now to be shared. It takes memory for a pointer and a box a uid, and
-    /// is refused only where that is; it sorts them, in the logarithm of their number of comparisons a uid.
+    /// Creates a set from the uids of a hash set, with any hasher. The uids become shared.
+    ///
+    /// # Errors
+    ///
+    /// Returns `AllocError` if an allocation fails.
+    ///
+    /// # Complexity
+    ///
+    /// O(n log n) comparisons, where n is the number of uids. Allocates a pointer and a box for each uid.
     pub fn from_set<S: BuildHasher + Drop>(
         alloc: Global,
         uids: HashSet<EntityUID, S>,
@@ -80,7 +87,7 @@ impl UidSet {
         Ok(UidSet::from_ascending(ascending))
     }
 
-    /// The pointers, ascending by what they share. It takes no memory.
+    /// Returns the pointers, in ascending order of uid. Does not allocate.
     pub fn pointers(&self) -> &[SharedUid]
         ensures all { set.from_list result.now ≡ self.now }
         ensures ascending { Ascend result.now }
@@ -88,7 +95,7 @@ impl UidSet {
         self.uids.as_slice()
     }
 
-    /// The pointers, ascending by what they share. It takes no memory, and copies no pointer.
+    /// Returns the pointers, in ascending order of uid, and consumes the set. Does not allocate.
     pub fn into_pointers(self) -> Vec<SharedUid>
         ensures all { set.from_list result.items ≡ self }
         ensures ascending { Ascend result.items }
@@ -97,26 +104,26 @@ impl UidSet {
         pointers
     }
 
-    /// The allocator of the set: what takes memory beside it may take it there.
+    /// Returns the set's allocator.
     pub fn allocator(&self) -> Global {
         *self.uids.allocator()
     }
 
-    /// How many uids there are. It takes no memory.
+    /// Returns the number of uids. Does not allocate.
     pub fn len(&self) -> usize
         ensures { result ≡ set.len self.now }
     {
         self.pointers().len()
     }
 
-    /// Whether there is no uid. It takes no memory.
+    /// Returns whether the set is empty. Does not allocate.
     pub fn is_empty(&self) -> bool
         ensures { IsTrue result ↔ (self.now ≡ set.empty) }
     {
         self.len() == 0
     }
 
-    /// The uids, ascending. It takes no memory.
+    /// Iterates over the uids in ascending order. Does not allocate.
     pub fn iter(&self) -> Uids<'_>
         ensures members { (q : EntityUID) → is_member same_uid result q ≡ set.contains self.now q }
         ensures ascending { Ascend result }
@@ -126,42 +133,52 @@ impl UidSet {
         }
     }
 
-    /// Whether the uid is in the set. It takes no memory, and compares it to the logarithm of the number of
-    /// uids; where there are at most sixteen, to each of them.
+    /// Returns whether the set contains the uid.
+    ///
+    /// # Complexity
+    ///
+    /// O(log n) comparisons, where n is the number of uids. Compares with each uid if there are at most sixteen. Does
+    /// not allocate.
     pub fn contains(&self, uid: &EntityUID) -> bool
         ensures { result ≡ set.contains self.now uid.now }
     {
         has(&self.uids, uid)
     }
 
-    /// Whether a uid that is shared is in the set. It takes no memory, and compares as [`UidSet::contains`] does, which
-    /// costs less here: the numbers that abbreviate the uid are at hand.
+    /// Returns whether the set contains a shared uid. Makes the comparisons of [`UidSet::contains`], but they are
+    /// cheaper because the numbers of the uid are stored. Does not allocate.
     pub fn contains_shared(&self, shared: &SharedUid) -> bool
         ensures { result ≡ set.contains self.now shared.now }
     {
         is_one_of(&self.uids, &shared.key())
     }
 
-    // Whether a uid that is shared is in the set. The numbers are looked at first: mostly these tell that it is not.
+    // Checks whether the set contains a shared uid. Compares the numbers first, because they mostly show that it does
+    // not.
     fn holds(&self, shared: &SharedUid) -> bool
         ensures { result ≡ set.contains self.now shared.now }
     {
         may_be_among(&self.uids, &shared.key()) && self.contains_shared(shared)
     }
 
-    /// Whether a uid that is shared is in one of two sets. It takes no memory. Where a set has at most sixteen uids,
-    /// mostly the numbers that abbreviate them are all that is looked at.
+    /// Returns whether one of two sets contains a shared uid. In a set of at most sixteen uids, mostly only the numbers
+    /// are compared. Does not allocate.
     pub fn either_contains(one: &UidSet, other: &UidSet, shared: &SharedUid) -> bool
         ensures { result ≡ (set.contains one.now shared.now || set.contains other.now shared.now) }
     {
         one.holds(shared) || other.holds(shared)
     }
 
-    /// Puts a uid in; one that is there already changes nothing.
+    /// Inserts a uid. If the set contains it already, the set does not change.
     ///
-    /// It takes memory from the set's allocator, and where that is refused the set stays as it was. It compares the
-    /// uid to the last one, so ascending inserts cost one comparison each; then to the logarithm of the number of
-    /// uids, and it moves the pointers to the greater ones.
+    /// # Errors
+    ///
+    /// Returns `AllocError` if an allocation fails, and then leaves the set unchanged.
+    ///
+    /// # Complexity
+    ///
+    /// O(log n) comparisons, where n is the number of uids. The uid is compared with the last one first, so ascending
+    /// inserts need one comparison each. The pointers to greater uids are moved.
     pub fn insert(&mut self, shared: SharedUid) -> Result<(), AllocError>
         ensures ok { OnOk result (self.new ≡ set.insert self.old shared) }
         ensures err { OnErr result (self.new ≡ self.old) }
@@ -172,24 +189,26 @@ impl UidSet {
         }
     }
 
-    /// Takes a uid out; one that is not there changes nothing. It takes no memory.
+    /// Removes a uid. If the set does not contain it, the set does not change.
     ///
-    /// It compares the uid to the logarithm of the number of uids, and moves the pointers to the greater ones.
+    /// # Complexity
+    ///
+    /// O(log n) comparisons, where n is the number of uids. The pointers to greater uids are moved. Does not allocate.
     pub fn remove(&mut self, uid: &EntityUID)
         ensures { self.new ≡ set.remove self.old uid.now }
     {
         self.remove_key(&Key::of(uid));
     }
 
-    /// Takes a uid that is shared out; one that is not there changes nothing. It takes no memory, and compares and
-    /// moves as [`UidSet::remove`] does, which costs less here: the numbers that abbreviate the uid are at hand.
+    /// Removes a shared uid. If the set does not contain it, the set does not change. Costs as much as
+    /// [`UidSet::remove`], but the comparisons are cheaper because the numbers of the uid are stored. Does not
+    /// allocate.
     pub fn remove_shared(&mut self, shared: &SharedUid)
         ensures { self.new ≡ set.remove self.old shared.now }
     {
         self.remove_key(&shared.key());
     }
 
-    // Takes a uid out.
     fn remove_key(&mut self, uid: &Key<'_>)
         ensures { self.new ≡ set.remove self.old uid.now }
     {
@@ -198,15 +217,15 @@ impl UidSet {
         }
     }
 
-    /// Takes all uids out. It takes no memory, and keeps the room that they had.
+    /// Removes all uids. Keeps the capacity. Does not allocate.
     pub fn clear(&mut self)
         ensures { self.new ≡ set.empty }
     {
         self.uids.clear();
     }
 
-    /// Keeps the uids at which the closure answers `true`. It is asked of each once, from the least up, and may have
-    /// no condition of its own. It takes no memory.
+    /// Keeps the uids for which the closure returns `true`. The closure is called once for each uid, in ascending
+    /// order. It must be callable in every state. Does not allocate.
     pub fn retain<F: FnMut(&SharedUid) -> bool>(&mut self, f: F)
         requires { F.IsAlwaysCallable f }
         ensures { Retains (CalledAt F.FnMut) f self.old self.new }
@@ -214,10 +233,12 @@ impl UidSet {
         self.uids.retain(f);
     }
 
-    /// Takes out every uid of another set. It takes no memory.
+    /// Removes every uid that is in `others`.
     ///
-    /// Where the others are fewer than 1,000 and fewer than these, each is looked for here and taken out, as
-    /// [`UidSet::remove`] does; else these are gone through once, and each is looked for among the others.
+    /// # Complexity
+    ///
+    /// If `others` has fewer than 1,000 uids and fewer than this set, each of them is removed as in [`UidSet::remove`].
+    /// Otherwise each uid of this set is looked up in `others`. Does not allocate.
     pub fn difference(&mut self, others: &UidSet)
         ensures { self.new ≡ set.difference self.old others.now }
     {
@@ -228,7 +249,7 @@ impl UidSet {
         }
     }
 
-    // Takes each of these out.
+    // Removes each of the uids.
     fn remove_each(&mut self, uids: &[SharedUid])
         ensures { self.new ≡ set.difference self.old (set.from_list uids.now) }
     {
@@ -237,19 +258,24 @@ impl UidSet {
         }
     }
 
-    // Keeps what is not in the other set.
+    // Keeps the uids that are not in `others`.
     fn keep_others(&mut self, others: &UidSet)
         ensures { self.new ≡ set.difference self.old others.now }
     {
         self.uids.retain(|shared| !others.contains_shared(shared));
     }
 
-    /// Puts in uids that ascend, each once, as [`UidSet::is_ascending`] tells; those that are there already change
-    /// nothing, and the pointers that the set has to them stay.
+    /// Inserts ascending uids without duplicates. The caller must ensure the order; see [`UidSet::is_ascending`]. For a
+    /// uid that the set contains already, the existing pointer is kept.
     ///
-    /// An empty set takes the vector as it is. Else it takes memory from the set's allocator, for a pointer a uid of
-    /// both, and where that is refused the set stays as it was. It goes through both once, in step, moves the
-    /// pointers and copies none; it makes at most as many comparisons as both have uids.
+    /// # Errors
+    ///
+    /// Returns `AllocError` if an allocation fails, and then leaves the set unchanged.
+    ///
+    /// # Complexity
+    ///
+    /// O(n + m), where n and m are the numbers of uids of both. Makes at most n + m comparisons, moves the pointers and
+    /// copies none. An empty set takes over the vector. Otherwise one pointer per uid of both is allocated.
     pub fn extend_ascending(&mut self, uids: Vec<SharedUid>) -> Result<(), AllocError>
         requires { Ascend uids.items }
         ensures ok { OnOk result (self.new ≡ set.union self.old (set.from_list uids.items)) }
@@ -270,7 +296,7 @@ impl UidSet {
     }
 }
 
-// Fewer than so many uids are taken out one by one.
+// Fewer uids than this are removed one by one.
 const FEW: usize = 1000;
 
 impl PartialEq for UidSet {
@@ -282,7 +308,7 @@ impl PartialEq for UidSet {
 
     ghost laws = { partial_equiv_from_equiv same_uids_equiv };
 
-    /// Whether both have the same uids. It takes no memory, and compares each uid to one of the other set.
+    /// Returns whether both sets have the same uids. Makes at most one comparison per uid. Does not allocate.
     fn eq(&self, other: &UidSet) -> bool {
         self.uids == other.uids
     }
@@ -297,14 +323,18 @@ impl Eq for UidSet {
 impl Clone for UidSet {
     ghost is_clone = { λ x y. y ≡ x };
 
-    /// A copy. It shares the uids, and is refused only where memory is or a uid can't be shared once more.
+    /// Returns a copy that shares the uids.
+    ///
+    /// # Errors
+    ///
+    /// Returns `AllocError` if an allocation fails, or if a uid cannot be shared once more.
     fn clone(&self) -> Result<UidSet, AllocError> {
         let copy = self.uids.clone()?;
         Ok(UidSet { uids: copy })
     }
 }
 
-/// The uids of a set, ascending.
+/// An iterator over the uids of a set, in ascending order.
 #[derive(Drop)]
 pub struct Uids<'a> {
     inner: slice::Iter<'a, SharedUid>,

@@ -1,4 +1,4 @@
-//! The uids of two sets in order.
+//! The union of two sets, as an iterator.
 ghost use Rattle.std.specs.Prelude.{◌≡◌, ◌||◌};
 ghost use Rattle.std.specs.FinSet as set;
 ghost use Rattle.std.specs.Set.{is_member};
@@ -14,7 +14,8 @@ use cedar_ids::entity::EntityUID;
 use std::cmp::Ordering;
 use std::marker::Model;
 
-/// The uids that one of two sets has, ascending, each once. Contracts see the list of what is left.
+/// An iterator over the uids of two sets, in ascending order and without duplicates. In contracts it is the list of the
+/// remaining uids.
 #[derive(Drop)]
 pub struct Union<'a> {
     one: &'a [SharedUid],
@@ -36,7 +37,6 @@ impl<'a> Model for Union<'a> {
 }
 
 impl<'a> Union<'a> {
-    // The uids of two lists.
     pub(crate) fn of(one: &'a [SharedUid], other: &'a [SharedUid]) -> Union<'a>
         ensures { result ≡ union_of one.now other.now }
     {
@@ -45,7 +45,7 @@ impl<'a> Union<'a> {
 }
 
 impl UidSet {
-    /// The uids that one of the two sets has, ascending, each once. It takes no memory.
+    /// Iterates over the uids of both sets, in ascending order and without duplicates. Does not allocate.
     pub fn union<'a>(&'a self, other: &'a UidSet) -> Union<'a>
         ensures members { (q : EntityUID) → is_member same_uid result q
             ≡ (set.contains self.now q || set.contains other.now q) }

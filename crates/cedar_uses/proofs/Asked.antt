@@ -1,4 +1,4 @@
--- What a look-up in the plain store of a world says of what is reached there.
+-- A lookup in the plain store of an input store, as reachability in the input store.
 use Rattle.std.specs.Prelude.{◌≡◌, ◌↔◌, true, Option}
 use Rattle.std.proofs.Common.{subst}
 use Rattle.std.specs.FinMap as finmap
@@ -10,7 +10,7 @@ use Rattle.cedar_entity_maps.specs.Plain.{StoreView, IsPlainStore}
 use Rattle.cedar_entity_maps.specs.World.{World, graph}
 use Rattle.cedar_entity_maps.specs.laws.PlainAncestors.{ancestry_plain}
 
--- whether what is held of a uid has another among its ancestors is whether that is reached
+-- Whether an entity has an ancestor is whether the ancestor is reached.
 pub reached_where_held : (W : World) (S : StoreView) (a b : EntityUID) (o : Option EntityView)
     → finmap.get S.held a ≡ o →
     IsPlainStore W S → (is_ancestor_in o b ≡ true) ↔ Reach (graph W) a b

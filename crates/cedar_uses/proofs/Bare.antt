@@ -1,4 +1,4 @@
--- Entities that bring no indirect ancestors, one after another.
+-- Entities without indirect ancestors, one after another.
 use Rattle.std.specs.Prelude.{◌≡◌, List, [], ◌∷◌, ◌++◌, map, refl}
 use Rattle.std.proofs.Common.{ap, sym, subst, ◌∙◌}
 use Rattle.std.specs.FinSet as set
@@ -9,7 +9,7 @@ use Rattle.cedar_entity_maps.specs.Plain.{AreBare, IsBare, given_of}
 use Rattle.cedar_entity_maps.specs.World.{Given, given}
 use Rattle.cedar_entity_maps.specs.laws.Lists.{all_push}
 
--- the entity with these parents and nothing else
+-- The entity with these parents and nothing else.
 abbrev pub child_of : EntityUID → List EntityUID → EntityView
 child_of u ps = record { uid = u; attrs = []; tags = []; parents = set.from_list ps; indirect = set.empty }
 
@@ -24,7 +24,7 @@ map_same (x ∷ xs) = ap (λ r. x ∷ r) (map_same xs)
 pub is_bare : (e : EntityView) (u : EntityUID) (ps : List EntityUID) → e ≡ child_of u ps → IsBare e
 is_bare e u ps h = subst IsBare (sym h) (λ q. set.contains-empty uid_order q)
 
--- a list with one more, which is as it was given
+-- A list with one more input entity.
 pub listed_more : {M : Type 0} (f : M → Given) (es ds : List EntityView) (ms : List M) (e : EntityView) (m : M) →
     map given_of es ≡ map f ms → AreBare es → ds ≡ es ++ e ∷ [] → given_of e ≡ f m → IsBare e →
     (map given_of ds ≡ map f (ms ++ m ∷ [])) × AreBare ds
@@ -34,7 +34,7 @@ listed_more f es ds ms e m g b h k bare = (
   subst AreBare (sym h) (all_push IsBare es e b bare),
 )
 
--- a list of one
+-- A list with one entity.
 pub one_bare : (es : List EntityView) (e : EntityView) (u : EntityUID) (ps : List EntityUID) → es ≡ e ∷ []
     → e ≡ child_of u ps →
     AreBare es × (map given_of es ≡ given u ps ∷ [])

@@ -1,4 +1,4 @@
--- A store that was overwritten, and then had something taken out.
+-- A store after an overwriting and a removal.
 use Rattle.std.specs.Prelude.{◌≡◌, List, [], ◌∷◌, Result, Ok, Err, IfOk, IfErr}
 use Rattle.std.proofs.Common.{sym, subst}
 use Rattle.cedar_ids.specs.declared.entity.EntityUID.{EntityUID}

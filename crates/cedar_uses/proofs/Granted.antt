@@ -1,4 +1,4 @@
--- What a link that was made says of its template.
+-- A link, as a statement on its template.
 use Rattle.std.specs.Prelude.{◌≡◌, ℕ, List, [], ◌∷◌, Option, Some, None, Result, Ok, Err, refl}
 use Rattle.std.proofs.Common.{subst}
 use Rattle.cedar_ids.specs.Uid.{UidParts}
@@ -10,7 +10,7 @@ use Rattle.cedar_policy_maps.specs.PolicySets.{SetParts, Binding, Static, Templa
 use Rattle.cedar_policy_set.specs.Steps.{Refusal, fitting, link_at, link_step, unlinked_at}
 use Rattle.cedar_policy_set.specs.laws.LinkLaws.{link_undone}
 
--- what fits leaves nothing unbound and nothing extra
+-- Bindings that fit have no unbound and no extra slot.
 none_left : (us xs : List SlotId) (o : Option UidParts) (r : Result SetParts Refusal) (c : SetParts)
     → fitting us xs o r ≡ Ok c → (us ≡ []) × (xs ≡ [])
 none_left [] [] None r c h = (refl, refl)
@@ -19,14 +19,14 @@ none_left [] (x ∷ xs) o r c h = absurd (cc)
 none_left (u ∷ us) [] o r c h = absurd (cc)
 none_left (u ∷ us) (x ∷ xs) o r c h = absurd (cc)
 
--- what can be unlinked is bound so
+-- An id that can be unlinked is the id of a link.
 bound_link : (o : Option Binding) (l : List ℕ) (x : Binding) → unlinked_at o l ≡ Ok x → o ≡ Some x
 bound_link None l x h = absurd (cc)
 bound_link (Some (Static t)) l x h = absurd (cc)
 bound_link (Some (Template t)) l x h = absurd (cc)
 bound_link (Some (Link k t e)) l x h = cc
 
--- the id of a link is bound to a link of the template that was named, and its slots are those that are bound
+-- The id of a link is the id of a link of the given template, and the link binds exactly the template's slots.
 pub granted : (b c : SetParts) (i l : List ℕ) (e : EnvParts) → link_step b i l e ≡ Ok c →
     (t : BodyParts) × (bound_at b i ≡ Some (Template t)) × (bound_at c l ≡ Some (Link l t e))
     × BindsExactly (body_slots t) e

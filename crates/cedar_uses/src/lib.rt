@@ -1,8 +1,13 @@
-//! Five uses of the store layer, by crates that name `cedar_store` alone: build a store and ask, edit it, link a
-//! template, take another policy set in, and make a list of calls. Each has a clause that says what its caller wants to
-//! know.
+//! Five uses of the store layer, by code that depends on `cedar_store` only:
 //!
-//! They are examples, which `docs/CALLING.md` quotes, and no part of the layer.
+//! - build a store and query it
+//! - edit a store
+//! - link a template
+//! - merge another policy set
+//! - replay a list of calls
+//!
+//! Each has a clause that states the fact that its caller needs. They are examples, quoted in `docs/CALLING.md`, and
+//! not part of the layer.
 #![tactic(auto, using(cedar_ids::specs::laws::UidOfLaws::same_uid_decides))]
 
 mod policies;

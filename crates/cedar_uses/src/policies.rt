@@ -1,4 +1,4 @@
-//! Policy sets: a link of a template, and another set taken in.
+//! Policy sets: linking a template, and merging another set.
 ghost use Rattle.std.specs.Prelude.{◌≡◌, ℕ, List, length, IfOk, IfErr, OnOk, OnErr};
 ghost use Rattle.cedar_ids.specs.UidOf.{uid_parts};
 ghost use Rattle.cedar_terms.specs.declared.slot.SlotId.TheVariants.{Principal};
@@ -15,10 +15,17 @@ use cedar_store::bindings::no_bindings;
 use cedar_store::{EntityUID, LinkingError, PolicyID, PolicySet, PolicySetError, SlotId};
 use std::alloc::Global;
 
-/// Grants a user what a template says of its principal: a link of it under a new id, with the user as its principal.
+/// Grants a user the permission of a template. Creates a link of the template with a new id, and binds its principal to
+/// the user.
 ///
-/// Refused where the first id is no template's, where the template has other slots than the principal's alone, or where
-/// the new id is bound, in this order, and for memory, which it takes. A refusal leaves the set.
+/// # Errors
+///
+/// The checks are made in this order. After an error the set is unchanged.
+///
+/// - `NoSuchTemplate`: there is no template with the first id.
+/// - `ArityError`: the template has other slots than the principal's.
+/// - `PolicyIdConflict`: the new id is already in use.
+/// - `Memory`: an allocation failed.
 pub fn grant(
     alloc: Global,
     policies: &mut PolicySet,
@@ -28,7 +35,7 @@ pub fn grant(
 ) -> Result<(), LinkingError>
     ensures step { Steps told_by_linking result policies.old policies.new
         (link_step policies.old template id (bound_more no_env Principal (uid_parts user))) }
-    // the new id is then bound to a link of that template, which binds each of its slots and no other
+    // The new id is the id of a link of that template. The link binds each slot of the template, and no other.
     ensures bound { OnOk result ((t : BodyParts) × (bound_at policies.old template ≡ Some (Template t))
         × (bound_at policies.new id ≡ Some (Link id t (bound_more no_env Principal (uid_parts user))))
         × BindsExactly (body_slots t) (bound_more no_env Principal (uid_parts user))) }
@@ -39,16 +46,18 @@ pub fn grant(
     Ok(())
 }
 
-/// Takes in what another team's set binds, under new ids where both teams gave an id to different things, and says how
-/// many these are. The other set stays as it is.
+/// Merges another team's set into a set. If both teams use an id for different policies, the other set's policy gets a
+/// new id. Returns the number of new ids. The other set does not change.
 ///
-/// Refused for memory alone, which it takes; a refusal leaves the set.
+/// # Errors
+///
+/// Returns `Memory` if an allocation fails, and then leaves the set unchanged.
 pub fn take_in(
     alloc: Global,
     policies: &mut PolicySet,
     other: &PolicySet,
 ) -> Result<usize, PolicySetError>
-    // what was here stays, and what is there joins, under new ids that are free in both sets
+    // The set keeps its policies, and the policies of the other set are added. New ids are used in neither set.
     ensures merged { OnOk result ((r : List (List ℕ × List ℕ)) × IsRenaming policies.old other.now r
         × (policies.new ≡ merged policies.old other.now (new_id r))) }
     ensures renamed { IfOk result (λ n. n ≡ length (conflicts policies.old other.now)) }

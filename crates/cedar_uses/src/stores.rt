@@ -1,4 +1,4 @@
-//! Stores of users and the groups that they belong to.
+//! Stores of users and the groups to which they belong.
 ghost use Rattle.std.specs.Prelude.{◌≡◌, ◌↔◌, ◌∷◌, [], IfOk, IfErr, IsTrue, map};
 ghost use Rattle.std.specs.List.{AllByRecursion};
 ghost use Rattle.cedar_graph.specs.Graph.{Reach};
@@ -15,7 +15,7 @@ use cedar_store::{
 use std::alloc::Global;
 use std::rc::Rc;
 
-// Whether a store has an entity with the first uid, and the second among its ancestors.
+// Checks whether a store has an entity with the first uid, and this entity has the second uid as an ancestor.
 fn is_below(store: &Entities, user: &EntityUID, group: &EntityUID) -> bool
     ensures { (W : World) → IsPlainStore W store.now → (IsTrue result ↔ Reach (graph W) user.now group.now) }
 {
@@ -25,21 +25,24 @@ fn is_below(store: &Entities, user: &EntityUID, group: &EntityUID) -> bool
     }
 }
 
-/// Whether a user belongs to a group, straight or through other groups, by a list of users and groups, each with the
-/// groups that it belongs to.
+/// Returns whether a user belongs to a group, directly or through other groups. The input is a list of users and
+/// groups, each with the groups to which it belongs.
 ///
-/// Refused where a uid stands in the list with two sets of groups, or a group belongs to itself, and for memory, which
-/// it takes.
+/// # Errors
+///
+/// - `Duplicate`: a uid is in the list twice, with different groups.
+/// - `TransitiveClosureError`: a group belongs to itself.
+/// - `Memory`: an allocation failed.
 pub fn is_member(
     alloc: Global,
     members: Vec<(EntityUID, Vec<SharedUid>)>,
     user: &EntityUID,
     group: &EntityUID,
 ) -> Result<bool, EntitiesError>
-    // the answer is what is reached over the groups as they were given
+    // The result is whether the group is reached from the user in the input.
     ensures ok { IfOk result (λ answer. IsTrue answer
         ↔ Reach (graph (added empty_world (map (λ m. given m.0 m.1.items) members.items))) user.now group.now) }
-    // a refusal names the first uid that differs, or a uid that reaches itself
+    // The error names the first uid that differs, or a uid that reaches itself.
     ensures err { IfErr result (IsAddingRefused empty_world (map (λ m. given m.0 m.1.items) members.items)) }
 {
     let mut entities = Vec::new(alloc);
@@ -50,9 +53,14 @@ pub fn is_member(
     Ok(is_below(&store, user, group))
 }
 
-/// The store after a user went to other groups, and then a group was closed.
+/// Moves a user to other groups, and then closes a group. Returns the store.
 ///
-/// Refused where the user would belong to itself, and for memory, which it takes. A refusal gives no store back.
+/// # Errors
+///
+/// - `TransitiveClosureError`: the user would belong to itself.
+/// - `Memory`: an allocation failed.
+///
+/// After an error the store is dropped.
 pub fn moved(
     alloc: Global,
     store: Entities,
@@ -60,10 +68,10 @@ pub fn moved(
     groups: Vec<SharedUid>,
     closed: EntityUID,
 ) -> Result<Entities, EntitiesError>
-    // it holds what plain overwriting and then plain deletion leave, with all ancestors
+    // The store is the plain store of the input store after plain overwriting and then plain deletion.
     ensures ok { IfOk result (λ s. (W : World) → IsPlainStore W store →
         IsPlainStore (deleted (overwritten W (given user groups.items ∷ [])) (closed ∷ [])) s) }
-    // the removal is never refused but for memory
+    // The removal fails only if an allocation fails.
     ensures err { IfErr result (λ e. (W : World) → IsPlainStore W store →
         IsOverwritingRefused W (given user groups.items ∷ []) e) }
 {
@@ -72,9 +80,13 @@ pub fn moved(
     store.remove_entities(alloc, vec![in alloc; closed]?, TCComputation::ComputeNow)
 }
 
-/// Whether a user belonged to a group after a log of calls on a store.
+/// Returns whether a user belonged to a group after a log of calls on a store.
 ///
-/// The first call that is refused ends it: the error has the number of those before it. It takes memory.
+/// # Errors
+///
+/// Returns the error of the first call that fails, with the number of calls before it.
+///
+/// - `Memory`: an allocation failed.
 pub fn was_member(
     alloc: Global,
     log: Vec<EntityCall>,
@@ -82,10 +94,11 @@ pub fn was_member(
     group: &EntityUID,
 ) -> Result<bool, (usize, EntitiesError)>
     requires { AllByRecursion HasBareEntities log.items }
-    // the answer is what is reached in the world that plain insertion, overwriting and deletion make, call after call
+    // The result is whether the group is reached from the user in the input store after plain insertion, overwriting
+    // and deletion, call after call.
     ensures ok { IfOk result (λ answer. IsTrue answer
         ↔ Reach (graph (all_made empty_world (map call_of log.items))) user.now group.now) }
-    // the calls before the number pass, and the next one is refused so
+    // The calls before that number succeed, and the next call fails with the error.
     ensures err { IfErr result (λ r. StopsAt (map call_of log.items) r.0 r.1) }
 {
     let store = replay_entities(alloc, log)?;

@@ -1,4 +1,4 @@
-//! The tests of `cedar_uses`: what each of the five uses answers, by rows of a text.
+//! The tests of `cedar_uses`: the result of each of the five uses, in test cases written as text.
 #![tactic(auto, using(cedar_ids::specs::laws::UidOfLaws::same_uid_decides))]
 
 #[cfg(test)]

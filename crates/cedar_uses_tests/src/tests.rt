@@ -1,4 +1,4 @@
-// The five uses, each by some rows. Users and groups are of the type `Team`.
+// The five uses, each with some test cases. Users and groups have the type `Team`.
 mod sets;
 mod stores;
 
@@ -7,17 +7,17 @@ use cedar_test_helpers::rows::all_hold;
 use std::alloc::Global;
 use std::test::Fail;
 
-// The uid of a user or a group.
+// Returns the uid of a user or a group.
 fn uid_of(alloc: Global, name: &str) -> Result<EntityUID, Fail> {
     Ok(EntityUID::with_eid_and_type(alloc, "Team", name)?)
 }
 
-// The id with a text.
+// Returns the id with a text.
 fn id_of(alloc: Global, text: &str) -> Result<PolicyID, Fail> {
     Ok(PolicyID::from_string(alloc, text)?)
 }
 
-// What a use answers.
+// Returns the result of a use as a text.
 fn tell(alloc: Global, what: &str) -> Result<String, Fail> {
     let (word, rest) = what.split_once(": ").unwrap_or((what, ""));
     let (given, asked) = rest.split_once("; ").unwrap_or((rest, ""));

@@ -1,4 +1,4 @@
--- The laws of the order, equality and hash of constraints of actions.
+-- Laws of the order, equality and hash of action constraints.
 use Rattle.std.specs.Prelude.{◌≡◌, List, true}
 use Rattle.std.proofs.Common.{ap, sym, ◌∙◌}
 use Rattle.std.specs.Bool.{Decides}

@@ -1,4 +1,4 @@
--- The slots in the expressions of constraints of actions.
+-- The slots in the expressions of action constraints.
 use Rattle.std.specs.Prelude.{◌≡◌, List, [], ◌∷◌, ◌++◌, map, refl, false, if◌then◌else◌}
 use Rattle.std.proofs.Common.{ap, ◌∙◌}
 use Rattle.std.specs.List.{filter_map}
@@ -18,11 +18,11 @@ none_in_uids [] = refl
 none_in_uids (u ∷ us) = filter_map-append slot_of (walk_back (expr_trees (map uid_expr us))) (uid_expr u ∷ [])
     ∙ ap (λ xs. xs ++ []) (none_in_uids us)
 
--- the action's slot, where the rule refers to it
+-- The action's slot if the rule refers to it, else nothing.
 abbrev pub rule_slots : ActionRule → List SlotId
 rule_slots a = if rule_has_slot a then Action ∷ [] else []
 
--- these are the slots in the expression of an action's constraint
+-- The slots in the expression of a rule are `rule_slots`.
 pub slots_of-rule_expr : (a : ActionRule) → slots_of (rule_expr a) ≡ rule_slots a
 slots_of-rule_expr any_action = refl
 slots_of-rule_expr (among us) = filter_map-append slot_of (walk_back (expr_trees (map uid_expr us))) _
@@ -31,7 +31,7 @@ slots_of-rule_expr (just u) = refl
 slots_of-rule_expr among_slot = refl
 slots_of-rule_expr just_slot = refl
 
--- a filled rule holds no slot
+-- A filled rule has no slot.
 pub rule_has_slot-filled : (u : UidParts) (a : ActionRule) → rule_has_slot (filled_rule u a) ≡ false
 rule_has_slot-filled u any_action = refl
 rule_has_slot-filled u (among us) = refl

@@ -1,4 +1,4 @@
--- Lists of shared uids: a copy holds the same uids.
+-- A copy of a list of shared uids contains the same uids.
 use Rattle.std.proofs.Common.{◌≡◌, List, [], ◌∷◌, map, refl, Global}
 use Rattle.std.specs.List.{AllZip}
 use Rattle.std.specs.declared.rc.Rc.{Rc}
@@ -12,7 +12,7 @@ Shared = Rc EntityUID Global
 abbrev pub parts : Shared → UidParts
 parts u = uid_parts u.value
 
--- it holds the same uids
+-- The copy contains the same uids.
 pub copied_parts : (us vs : List Shared) → AllZip (λ (u v : Shared). v.value ≡ u.value) us vs
     → map parts vs ≡ map parts us
 copied_parts [] [] h = refl

@@ -1,4 +1,4 @@
--- The laws of the order, the equality and the hash of annotations.
+-- Laws of the order, equality and hash of annotations.
 use Rattle.std.specs.Prelude.{◌≡◌, ℕ, List, true, ◌&&◌}
 use Rattle.std.proofs.Common.{ap, sym, ◌∙◌}
 use Rattle.std.specs.Bool.{Decides}
@@ -12,17 +12,17 @@ use Rattle.cedar_annotation.specs.Annotations.{AnnotationsView}
 use Rattle.cedar_annotation.specs.AnnotationOrder.{same_pair, pair_cmp, same_annotations, annotations_cmp}
 use Rattle.cedar_annotation.specs.AnnotationOrder.{annotations_hash}
 
--- `==` is an equivalence
+-- `==` is an equivalence.
 pub same_annotations_equiv : IsEquivalence same_annotations
 same_annotations_equiv = lists_equiv (and_equiv (on_equiv (λ (p : List ℕ × List ℕ). p.0) same_text_equiv)
     (on_equiv (λ (p : List ℕ × List ℕ). p.1) same_text_equiv))
 
--- the order is total
+-- The order is total.
 pub annotations_cmp_total : IsTotalOrder annotations_cmp
 annotations_cmp_total = lists_total (then_total (on_total (λ (p : List ℕ × List ℕ). p.0) text_order_total)
     (on_total (λ (p : List ℕ × List ℕ). p.1) text_order_total))
 
--- `==` holds of what the order does not tell apart
+-- Two annotations are equal if the order reports `Equal`, and only then.
 pub annotations_ties : (x y : AnnotationsView) → same_annotations x y ≡ eq_by_cmp annotations_cmp x y
 annotations_ties x y =
     lists_ties pair_cmp (λ p q. both_tied _ _ (text_order p.0 q.0) (text_order p.1 q.1) (texts_ties p.0 q.0)
@@ -39,11 +39,11 @@ pair_decides p q = (
       ∙ same_text_equiv.refl p.1,
 )
 
--- two are equal exactly where they are the same
+-- `==` decides whether two annotations are identical.
 pub same_annotations_decides : (x y : AnnotationsView) → Decides (same_annotations x y) (x ≡ y)
 same_annotations_decides x y = pointwise_decides pair_decides x y
 
--- equal ones hash alike
+-- Equal annotations have equal hashes.
 pub annotations_hash_respects : (x y : AnnotationsView) → same_annotations x y ≡ true
     → annotations_hash x ≡ annotations_hash y
 annotations_hash_respects x y e = ap annotations_hash ((same_annotations_decides x y).0 e)

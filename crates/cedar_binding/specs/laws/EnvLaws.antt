@@ -1,4 +1,4 @@
--- The laws of the equality of bindings.
+-- Laws of the equality of bindings.
 use Rattle.std.specs.Prelude.{◌≡◌, true, Option, Some, None, refl}
 use Rattle.std.proofs.Common.{ap}
 use Rattle.std.specs.Bool.{Decides}
@@ -21,13 +21,13 @@ bound_alike : (x y : Option UidParts) → x ≡ y → option_eq uid_eq x y ≡ t
 bound_alike x y e = Rattle.std.proofs.Common.subst (λ z. option_eq uid_eq x z
     ≡ true) e ((options_equiv uid_eq_equiv).refl x)
 
--- bindings are equal exactly where they are the same
+-- `same_env` decides whether two bindings are identical.
 pub same_env_decides : (x y : EnvParts) → Decides (same_env x y) (x ≡ y)
 same_env_decides x y = (
   λ h i s. same_bound (x s) (y s) (at_each (λ t. option_eq uid_eq (x t) (y t)) h s) i,
   λ e. of_each (λ t. option_eq uid_eq (x t) (y t)) (λ s. bound_alike (x s) (y s) (λ i. e i s)),
 )
 
--- it is an equivalence
+-- `same_env` is an equivalence.
 pub same_env_equiv : IsEquivalence same_env
 same_env_equiv = decided same_env same_env_decides

@@ -1,4 +1,4 @@
--- Nothing is unbound and nothing extra exactly where the bound ids are the ids of the slots.
+-- The lists of unbound and extra ids are empty if the bound ids are exactly the ids of the slots, and only then.
 use Rattle.std.specs.Prelude.{◌≡◌, List, [], ◌∷◌, Bool, true, false, not, ◌&&◌, ◌||◌, refl}
 use Rattle.std.proofs.Common.{cond, sym, ap, ◌∙◌, ◌⊎◌, inl, inr}
 use Rattle.std.proofs.lemmas.Bool.{false≢true}
@@ -7,13 +7,13 @@ use Rattle.cedar_terms.specs.laws.SlotIdLaws.{none_passes, passes_none, same_slo
 use Rattle.cedar_terms.specs.declared.slot.SlotId.{SlotId}
 use Rattle.cedar_binding.specs.Bindings.{EnvParts, binds, is_among, unbound, extra, BindsExactly}
 
--- two answers are the same where each follows from the other
+-- Two Booleans are equal if each implies the other.
 pub same_answer : (a b : Bool) → (a ≡ true → b ≡ true) → (b ≡ true → a ≡ true) → a ≡ b
 same_answer true b f g = sym (f refl)
 same_answer false true f g = absurd (false≢true (g refl))
 same_answer false false f g = refl
 
--- what the first slot says where none is unbound
+-- If no slot is unbound, the first slot is bound.
 first_bound : (v : Bool) (s : SlotId) (us : List SlotId) → cond (not v) (s ∷ us) us ≡ [] → (v ≡ true) × (us ≡ [])
 first_bound true s us h = (refl, h)
 first_bound false s us h = absurd (cc)
@@ -28,7 +28,7 @@ bound_among : (x : SlotId) (xs : List SlotId) (e : EnvParts) (s : SlotId) → bi
 bound_among x xs e s h f (inl p) = ap (binds e) ((same_slot_decides s x).0 p) ∙ h
 bound_among x xs e s h f (inr p) = f p
 
--- where none is unbound each slot is bound
+-- If no slot is unbound, each slot is bound.
 slots_are_bound : (slots : List SlotId) (e : EnvParts) → unbound slots e ≡ [] → (s : SlotId) → is_among slots s ≡ true
     → binds e s ≡ true
 slots_are_bound [] e h s p = absurd (false≢true p)
@@ -41,12 +41,12 @@ then_listed true true h p = refl
 then_listed true false h p = absurd (cc)
 then_listed false b h p = absurd (cc)
 
--- where none is extra each bound id is that of a slot
+-- If no id is extra, each bound id is a slot.
 bound_are_slots : (slots : List SlotId) (e : EnvParts) → extra slots e ≡ [] → (s : SlotId) → binds e s ≡ true
     → is_among slots s ≡ true
 bound_are_slots slots e h s p = then_listed _ _ (none_passes (λ t. binds e t && not (is_among slots t)) h s) p
 
--- with nothing unbound and nothing extra the bindings fit
+-- If both lists are empty, the bound ids are exactly the slots.
 pub fits : (slots : List SlotId) (e : EnvParts) → unbound slots e ≡ [] → extra slots e ≡ [] → BindsExactly slots e
 fits slots e u x s = same_answer (binds e s) (is_among slots s) (bound_are_slots slots e x s)
     (slots_are_bound slots e u s)
@@ -70,7 +70,7 @@ not_listed true true h = refl
 not_listed true false h = absurd (cc)
 not_listed false b h = refl
 
--- and where they fit nothing is unbound and nothing extra
+-- If the bound ids are exactly the slots, both lists are empty.
 pub nothing_left_over : (slots : List SlotId) (e : EnvParts) → BindsExactly slots e → (unbound slots e ≡ [])
     × (extra slots e ≡ [])
 nothing_left_over slots e f = (

@@ -1,4 +1,4 @@
--- The laws of a body's equality and hash.
+-- Laws of the equality and hash of bodies.
 use Rattle.std.specs.Prelude.{◌≡◌, Bool, true, ◌&&◌, Option, Some, None, refl}
 use Rattle.std.proofs.Common.{ap, sym, ◌∙◌}
 use Rattle.std.specs.Bool.{Decides}
@@ -15,11 +15,11 @@ use Rattle.cedar_body.specs.Bodies.{BodyParts}
 use Rattle.cedar_body.specs.BodyEquality.{same_clause, same_body, body_hash}
 use Rattle.cedar_body.specs.Codes.{body_row, body_with}
 
--- `==` of clauses is an equivalence
+-- `==` of clauses is an equivalence.
 pub same_clause_equiv : IsEquivalence same_clause
 same_clause_equiv = options_equiv same_expr_equiv
 
--- and so is that of bodies
+-- `==` of bodies is an equivalence.
 pub same_body_equiv : IsEquivalence same_body
 same_body_equiv =
     and_equiv (on_equiv (λ (b : BodyParts). b.id) same_text_equiv)
@@ -30,7 +30,7 @@ same_body_equiv =
     (and_equiv (on_equiv (λ (b : BodyParts). b.resource) same_constraint_equiv)
     (on_equiv (λ (b : BodyParts). b.clause) same_clause_equiv))))))
 
--- two clauses are equal exactly where they are the same
+-- `==` decides whether two clauses are identical.
 pub same_clause_decides : (x y : Option ExprTree) → Decides (same_clause x y) (x ≡ y)
 same_clause_decides None None = (λ e. refl, λ e. refl)
 same_clause_decides None (Some y) = (λ e. absurd (cc), λ e. absurd (cc))
@@ -56,10 +56,10 @@ rows_decide x y =
     (both_decide _ _ _ _ (same_rule_decides x.action y.action)
     (both_decide _ _ _ _ (same_constraint_decides x.resource y.resource) (same_clause_decides x.clause y.clause))))))
 
--- two bodies are equal exactly where they are the same
+-- `==` decides whether two bodies are identical.
 pub same_body_decides : (x y : BodyParts) → Decides (same_body x y) (x ≡ y)
 same_body_decides x y = (λ e. ap body_with ((rows_decide x y).0 e), λ e. (rows_decide x y).1 (ap body_row e))
 
--- equal bodies hash alike
+-- Equal bodies have equal hashes.
 pub body_hash_respects : (x y : BodyParts) → same_body x y ≡ true → body_hash x ≡ body_hash y
 body_hash_respects x y e = ap body_hash ((same_body_decides x y).0 e)

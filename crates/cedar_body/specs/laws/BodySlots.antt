@@ -20,7 +20,7 @@ two_slots : (x y : ExprTree) (xs ys : List SlotId) → slots_of x ≡ xs → slo
     → slots_of (and_node x y) ≡ ys ++ xs
 two_slots x y xs ys p q = slots_of-and x y ∙ (λ i. q i ++ p i)
 
--- the clause's slots, then the resource's, then the action's, then the principal's
+-- The slots of a body: those of the clause, then the resource's, the action's and the principal's.
 pub body_slots-parts : (b : BodyParts) →
     body_slots b ≡ clause_slots b.clause ++ (constraint_slots variables.Resource b.resource
     ++ (rule_slots b.action ++ constraint_slots variables.Principal b.principal))

@@ -1,4 +1,4 @@
--- Two lists whose items are related place by place, with one more of each: uids with parts of a text, or with texts.
+-- Two lists whose elements are related pairwise, with one more pair: uids with parts of a text, or with texts.
 use Rattle.std.proofs.Common.{◌≡◌, ◌++◌, ◌+◌, ◌<◌, ℕ, List, [], ◌∷◌, ap, length, refl, subst, sym, take, ◌∙◌}
 use Rattle.std.proofs.Math.ListN.{get_or}
 use Rattle.std.proofs.lemmas.List.{take_more}
@@ -14,7 +14,7 @@ zip_more R [] (b ∷ ys) x y z r = absurd z
 zip_more R (a ∷ xs) [] x y z r = absurd z
 zip_more R (a ∷ xs) (b ∷ ys) x y z r = (z.0, zip_more R xs ys x y z.1 r)
 
--- one uid more, read of the next part
+-- One more uid is parsed, from the next part.
 pub read_more_uids : (text : List ℕ) (us : List EntityUID) (spans : List Span) (k : ℕ) (d : Span) (u : EntityUID)
     → k < length spans → AreReadAt text us (take k spans) → IsReadAt text u (get_or spans k d)
     → AreReadAt text (us ++ u ∷ []) (take (k + 1) spans)
@@ -25,7 +25,7 @@ append_one : {A : Type 0} (xs : List A) (x : A) (ys : List A) → (xs ++ x ∷ [
 append_one [] x ys = refl
 append_one (y ∷ xs) x ys = ap (λ l. y ∷ l) (append_one xs x ys)
 
--- the texts of the uids that came so far, and of the next
+-- The texts of the uids so far, and of the next uid.
 pub texts_next : (whole rest rest' : List EntityUID) (u : EntityUID) (answer answer' : List (List ℕ))
     → rest ≡ u ∷ rest' →
     ((done : List EntityUID) × (done ++ rest ≡ whole) × AreTextsOf done answer)

@@ -1,25 +1,25 @@
--- Where the slots stand in a text, byte by byte. What this finds is said in Named.
+-- The positions of slots in a text, byte by byte. `Named` states the result.
 use Rattle.std.specs.Prelude.{ℕ, zero, suc, List, [], ◌∷◌, Bool, ◌&&◌, ◌==◌, nat_le, drop, if◌then◌else◌}
 
--- a small ASCII letter
+-- Whether a byte is a small ASCII letter.
 abbrev pub is_small : ℕ → Bool
 is_small c = nat_le 97 c && nat_le c 122
 
--- the text from its first `?` on
+-- The text from its first `?` on.
 unfoldable pub from_mark : List ℕ → List ℕ
 from_mark [] = []
 from_mark (c ∷ cs) = if c == 63 then c ∷ cs else from_mark cs
 
--- what stands behind the letters that a text begins with
+-- The text after its leading small letters.
 unfoldable pub behind_letters : List ℕ → List ℕ
 behind_letters [] = []
 behind_letters (c ∷ cs) = if is_small c then behind_letters cs else c ∷ cs
 
--- what stands behind a mark and its letters
+-- The text after a mark and its letters.
 abbrev pub behind_slot : List ℕ → List ℕ
 behind_slot text = behind_letters (drop 1 text)
 
--- behind so many slots
+-- The text after that many slots.
 unfoldable pub after_slots : ℕ → List ℕ → List ℕ
 after_slots zero text = text
 after_slots (suc k) text = behind_slot (from_mark (after_slots k text))

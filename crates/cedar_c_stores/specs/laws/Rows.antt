@@ -1,4 +1,4 @@
--- What is said of entities, as it is gathered edge by edge and term by term.
+-- The parts of entities, collected edge by edge and term by term.
 use Rattle.std.specs.Prelude.{◌≡◌, ◌⊎◌, ◌<◌, ◌≤◌, ◌==◌, ℕ, List, [], ◌∷◌, ◌++◌, Option, Some, None, if◌then◌else◌}
 use Rattle.std.specs.Prelude.{length, slice_get, take, zero, suc}
 use Rattle.std.specs.Coded.{Coded, code_by, coded×, coded_list}
@@ -24,11 +24,11 @@ use Rattle.cedar_c_stores.specs.Lists.{AreEdgesOf, IsEdgeOf}
 use Rattle.cedar_c_stores.specs.declared.content.Term.{Term}
 use Rattle.cedar_c_stores.specs.laws.Listed.{Gathered, IsSomeEdgeOut, IsUngathered}
 
--- the parts of what is said of an entity, in pairs
+-- The parts of an entity as nested pairs.
 abbrev pub SaidParts : Type 0
 SaidParts = EntityUID × ((List EntityUID × List EntityUID) × (Fields × Fields))
 
--- what is said of an entity: its parts
+-- The code of the parts of an entity, by their nested pairs.
 abbrev pub said_code : Coded Said
 said_code =
     code_by SaidParts
@@ -36,32 +36,32 @@ said_code =
     (λ s. (s.uid, ((s.parents, s.above), (s.attrs, s.tags))))
     (λ p. record { uid = p.0; parents = p.1.0.0; above = p.1.0.1; attrs = p.1.1.0; tags = p.1.1.1 }) (λ _. refl)
 
--- a uid and its parents, and nothing else
+-- The parts of an entity with only a uid and parents.
 abbrev pub said_of : Gathered → Said
 said_of g = record { uid = g.0; parents = g.1; above = []; attrs = []; tags = [] }
 
--- one more ancestor
+-- The parts with one more indirect ancestor.
 abbrev pub with_above : EntityUID → Said → Said
 with_above u s = record s { above = s.above ++ u ∷ [] }
 
--- a key and a value, if they are of this part
+-- A key and a value, if their part q is p.
 abbrev pub in_part : ℕ → ℕ → List ℕ → PartialValue → Option (List ℕ × PartialValue)
 in_part p q key value = if q == p then Some (key, value) else None
 
--- one more attribute or tag
+-- The parts with one more attribute (q is 0) or tag (q is 1).
 abbrev pub with_field : ℕ → List ℕ → PartialValue → Said → Said
 with_field q key value s = record s {
   attrs = s.attrs ++ cons_option (in_part 0 q key value) [];
   tags = s.tags ++ cons_option (in_part 1 q key value) [];
 }
 
--- the one at a place is changed
+-- The list with f applied to the item at position k.
 abbrev pub changed_at : {A : Type 0} → ℕ → (A → A) → List A → List A
 changed_at k f [] = []
 changed_at zero f (x ∷ xs) = f x ∷ xs
 changed_at (suc k) f (x ∷ xs) = x ∷ changed_at k f xs
 
--- an entity with this uid and fields, and no ancestor
+-- Holds if e is the entity with this uid and these fields, without ancestors.
 pub record HasFields (u : EntityUID) (attrs tags : Fields) (e : EntityView) : Type 0 where
   pub uid : e.uid ≡ u
   pub attributes : AreFieldsOf attrs e.attrs
@@ -69,21 +69,21 @@ pub record HasFields (u : EntityUID) (attrs tags : Fields) (e : EntityView) : Ty
   pub parents : e.parents ≡ set.empty
   pub indirect : e.indirect ≡ set.empty
 
--- edges, all in range, gave the uids that they lead to as further ancestors
+-- Holds if all edges are in range, and the target of each was appended to the indirect ancestors of its source.
 pub record PutsAbove (us : List EntityUID) (far : List Edge) (old new : List Said) : Type 0 where
   pub rows : (es : List Edge) (xs : List EntityUID) → old ≡ placed (said_at us es [] []) 0 xs
       → new ≡ placed (said_at us es far []) 0 xs
   pub many : length new ≡ length old
   pub range : AllByRecursion (IsEdgeOf (length old) (length us)) far
 
--- a term, in range, gave its field
+-- Holds if a term is in range, and its field was appended to its row.
 pub record PutsTerm (text : List ℕ) (ns : List Node) (t : Term) (old new : List Said) : Type 0 where
   pub field : Field
   pub read : IsFieldOf text ns t field
   pub range : IsTermIn text ns (length old) t
   pub put : new ≡ changed_at field.of (with_field field.part field.key field.value) old
 
--- terms, all in range, gave their fields
+-- Holds if all terms are in range, and the field of each was appended to its row.
 pub record PutsTerms (text : List ℕ) (ns : List Node) (ts : List Term) (old new : List Said) : Type 0 where
   pub fields : List Field
   pub read : AllZip (IsFieldOf text ns) ts fields
@@ -92,40 +92,41 @@ pub record PutsTerms (text : List ℕ) (ns : List Node) (ts : List Term) (old ne
   pub many : length new ≡ length old
   pub range : AllByRecursion (IsTermIn text ns (length old)) ts
 
--- why the key in a part of a text is not read
+-- Holds if w is a reason why the key in a part of a text cannot be copied.
 abbrev pub IsNoKeyAt : List ℕ → Span → Reason → Type 0
 IsNoKeyAt text at w =
     (w ≡ NoMemory) ⊎ (((w ≡ BadArgument) × (IsInside text at → ⊥)) ⊎ ((w ≡ NotUtf8) × IsNotUtf8At text at))
 
--- the range of a term lies among the nodes
+-- Holds if the nodes of a term are in range.
 abbrev pub HasNodes : List Node → Term → Type 0
 HasNodes ns t = (t.from ≤ t.to) × (t.to ≤ length ns)
 
--- the value of a term is read; or why it is not
+-- Holds if p is the value of a term.
 abbrev pub IsValueOf : List ℕ → List Node → Term → PartialValue → Type 0
 IsValueOf text ns t p = HasNodes ns t × IsPartialReadAs text (nodes_of ns t) p
 
--- why the value of a term is not read
+-- Holds if w is a reason why the value of a term cannot be decoded.
 abbrev pub IsNoValueOf : List ℕ → List Node → Term → Reason → Type 0
 IsNoValueOf text ns t w =
     ((w ≡ BadArgument) × (HasNodes ns t → ⊥)) ⊎ (HasNodes ns t × IsPartialRefused text (nodes_of ns t) w)
 
--- why a term gives no field to one of n entities
+-- Holds if w is a reason why a term adds no field to one of n rows.
 abbrev pub IsTermOut : List ℕ → List Node → ℕ → Term → Reason → Type 0
 IsTermOut text ns n t w =
     (w ≡ NoMemory) ⊎ (((w ≡ BadArgument) × (IsTermIn text ns n t → ⊥)) ⊎ IsTermUnread text ns t w)
 
--- why terms do not
+-- Holds if w is a reason why one of the terms adds no field to one of n rows.
 abbrev pub IsSomeTermOut : List ℕ → List Node → ℕ → List Term → Reason → Type 0
 IsSomeTermOut text ns n ts w = (k : ℕ) × (t : Term) × (slice_get ts k ≡ Some t) × IsTermOut text ns n t w
 
--- the first n of some uids have the parents that edges, all in range, lead to, and nothing else
+-- Holds if the rows are the parts of entities with the first n uids and with the parents in the edges, and the edges
+-- are in range.
 pub record AreFirst (us : List EntityUID) (n : ℕ) (es : List Edge) (rows : List Said) : Type 0 where
   pub enough : n ≤ length us
   pub leading : AreEdgesOf n (length us) es
   pub said : rows ≡ placed (said_at us es [] []) 0 (take n us)
 
--- all that is laid out over some uids, in range, is said of the first of them
+-- Holds if the rows are the parts of the entities of an input with these uids, and the input is in range.
 pub record AreSaid (us : List EntityUID) (L : Laid) (rows : List Said) : Type 0 where
   pub enough : L.count ≤ length us
   pub leading : AreEdgesOf L.count (length us) L.edges
@@ -135,7 +136,7 @@ pub record AreSaid (us : List EntityUID) (L : Laid) (rows : List Said) : Type 0 
   pub read : AllZip (IsFieldOf L.text L.nodes) L.terms fields
   pub said : rows ≡ placed (said_at us L.edges L.above fields) 0 (take L.count us)
 
--- why it is not
+-- Holds if w is a reason why the parts of the entities of an input cannot be collected.
 abbrev pub IsUnsaid : List EntityUID → Laid → Reason → Type 0
 IsUnsaid us L w =
     IsUngathered (length us) L.count L.edges w ⊎ (IsSomeEdgeOut L.count (length us) L.above w

@@ -1,17 +1,17 @@
--- A value that is shown, if there is one, and what is kept of it.
+-- The encoded value of a key, if there is one, and how it is stored.
 use Rattle.std.specs.Prelude.{◌≡◌, Bool, true, false, Option, Some, None}
 use Rattle.cedar_terms.specs.declared.partial_value.PartialValue.{PartialValue}
 use Rattle.cedar_c_stores.specs.Values.{IsShown}
 use Rattle.cedar_c_stores.specs.declared.kept_store.KeptStore.{KeptStore}
 use Rattle.cedar_c_stores.specs.declared.values.Shown.{Shown}
 
--- a value is shown, or there is none, and nothing is
+-- Holds if there is a value and its encoding, or neither.
 abbrev pub IsShownIf : Option PartialValue → Option Shown → Type 0
 IsShownIf None None = Unit {0}
 IsShownIf (Some p) (Some s) = IsShown p s.answer s.nodes.items
 IsShownIf p s = ⊥
 
--- what is shown, if something is, becomes the answer and the nodes; whether it is is told
+-- Holds for a call that stores an encoded value, if there is one, and returns whether there is one.
 abbrev pub KeepsShown : {B H : Type 0} → Option Shown → Bool → KeptStore B H → KeptStore B H → Type 0
 KeepsShown None b i j = (b ≡ false) × (j ≡ i)
 KeepsShown (Some s) b i j =

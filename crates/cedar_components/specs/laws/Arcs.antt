@@ -1,10 +1,10 @@
--- The arcs of a graph, and the chains of their places.
+-- The arcs of a graph, and chains of their indices.
 use Rattle.std.specs.Prelude.{◌≡◌, ℕ, ◌-◌, ◌<◌, ◌≤◌, List, length, slice_index}
 use Rattle.cedar_components.specs.Reach.{AreArcs, HasArc}
 use Rattle.cedar_components.specs.declared.links.Arcs.{Arcs}
 
--- the places of `ends` with one value are a chain: `head` has one more than the last of them, `link` one more than the
--- one before, and 0 for none
+-- Whether `head` and `link` are the chains of the first `m` values of `ends`. `head` has one more than the last index
+-- of a value, and `link` one more than the previous index of the same value. 0 means that there is none.
 pub record AreLinksTo (ends : List ℕ) (m : ℕ) (head link : List ℕ) (n : ℕ) : Type 0 where
   pub head_len : length head ≡ n
   pub link_len : length link ≡ m
@@ -17,24 +17,24 @@ pub record AreLinksTo (ends : List ℕ) (m : ℕ) (head link : List ℕ) (n : �
   pub link_all : (j k : ℕ) → k < m → j < k → slice_index ends j ≡ slice_index ends k
       → j < slice_index link k
 
--- the chains of the whole list
+-- Whether `head` and `link` are the chains of a whole list.
 abbrev pub AreLinks : List ℕ → List ℕ → List ℕ → ℕ → Type 0
 AreLinks ends head link n = AreLinksTo ends (length ends) head link n
 
--- y comes from a place of the chain of x, from `at` on
+-- Whether `F` relates `y` to an index of the chain of `x`, at or after the index `at`.
 abbrev pub FromChain : List ℕ → ℕ → ℕ → (ℕ → ℕ → Type 0) → ℕ → Type 0
 FromChain ends x at F y = (k : ℕ) × (at ≤ k) × (k < length ends) × (slice_index ends k ≡ x) × F k y
 
--- there is an arc from one number to another
+-- Whether there is an arc from one number to another.
 abbrev pub IsArc : Arcs → ℕ → ℕ → Type 0
 IsArc a = HasArc a.from.now a.to.now
 
--- the arcs lead between numbers below n, and the chains are of those that they lead from
+-- Whether the arcs are between numbers below `n`, and have chains by their source.
 pub record AreForward (a : Arcs) (n : ℕ) : Type 0 where
   pub arcs : AreArcs a.from.now a.to.now n
   pub links : AreLinks a.from.now a.head.now a.link.now n
 
--- the arcs lead between numbers below n, and the chains are of those that they lead to
+-- Whether the arcs are between numbers below `n`, and have chains by their target.
 pub record AreBackward (a : Arcs) (n : ℕ) : Type 0 where
   pub arcs : AreArcs a.from.now a.to.now n
   pub links : AreLinks a.to.now a.head.now a.link.now n

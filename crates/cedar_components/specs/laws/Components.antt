@@ -1,4 +1,4 @@
--- What the components keep while they are made.
+-- Invariants of the computation of components.
 use Rattle.std.specs.Prelude.{◌≡◌, ℕ, ◌+◌, ◌-◌, ◌*◌, ◌<◌, ◌≤◌, ◌⊎◌, ◌==◌}
 use Rattle.std.specs.Prelude.{List, ◌∷◌, [], ◌++◌, if◌then◌else◌}
 use Rattle.std.specs.Prelude.{length, slice_index, slice_set, sum_by}
@@ -9,13 +9,14 @@ use Rattle.cedar_components.specs.laws.Search.{IsFinishOrder}
 use Rattle.cedar_components.specs.declared.components.Components.{Components}
 use Rattle.cedar_components.specs.declared.components.Searched.{Searched}
 
--- 1 at 0, and otherwise 0
+-- 1 if the number is 0, else 0.
 abbrev pub is_zero : ℕ → ℕ
 is_zero x = if x == 0 then 1 else 0
 
--- component has, for each number that has a component, one more than the place of the component's root in the order,
--- and 0 for the others; the places from b on are done, and the component of the place before b is in the making: what
--- leads to a number of the queue from place i on may still be without a component
+-- The state while the component with root at index `b - 1` of the order is built. `component` has, for each number with
+-- a component, one more than the index of its root in the order, and 0 for the others. The components with roots at
+-- index `b` or later are complete. Numbers with an arc to a number of the queue at index `i` or later may still have no
+-- component.
 pub record AreComponentsFrom (E : ℕ → ℕ → Type 0) (n : ℕ) (out : List ℕ) (b : ℕ)
     (component queue : List ℕ) (i : ℕ) : Type 0 where
   pub component_len : length component ≡ n
@@ -33,63 +34,65 @@ pub record AreComponentsFrom (E : ℕ → ℕ → Type 0) (n : ℕ) (out : List 
   pub closed : (x v : ℕ) → x < n → v < n → 0 < slice_index component x → E v x
       → ((0 < slice_index component v) × (slice_index component x ≤ slice_index component v)) ⊎ IsFrom queue i x
 
--- each number has a component; those of one component lead to one another, and an edge never leads to a higher one
+-- Whether each number has a component, members of one component reach one another, and no edge leads to a higher
+-- component.
 pub record AreComponents (E : ℕ → ℕ → Type 0) (n count : ℕ) (component : List ℕ) : Type 0 where
   pub component_len : length component ≡ n
   pub component_in : (x : ℕ) → x < n → (0 < slice_index component x) × (slice_index component x ≤ count)
   pub mutual_ : (x y : ℕ) → x < n → y < n → slice_index component x ≡ slice_index component y → Leads E x y
   pub down : (x y : ℕ) → x < n → y < n → E x y → slice_index component y ≤ slice_index component x
 
--- each number has one more than a place at which it stands in the order
+-- Whether each number has one more than an index at which it occurs in the order.
 pub record AreSingle (n : ℕ) (order component : List ℕ) : Type 0 where
   pub len : length component ≡ n
   pub within : (x : ℕ) → x < n → (0 < slice_index component x) × (slice_index component x ≤ length order)
   pub stands : (x : ℕ) → x < n → slice_index order (slice_index component x - 1) ≡ x
 
--- no arc leads to a higher component
+-- Whether no arc leads to a number with a higher component.
 abbrev pub NoneLeadsUp : List ℕ → List ℕ → List ℕ → Type 0
 NoneLeadsUp from to component =
     (k : ℕ) → k < length from → slice_index component (slice_index to k) ≤ slice_index component (slice_index from k)
 
--- the arcs have the chains of those that they lead to, and the order is one in which a search finishes the numbers
+-- Whether the arcs have chains by target, and the order is one in which a search finishes the numbers.
 pub record IsSearched (g : Searched) : Type 0 where
   pub arcs : AreBackward g.arcs g.numbers
   pub order : IsFinishOrder (IsArc g.arcs) g.numbers g.order.now
 
--- the components of the places from b on are made, and the queue is empty
+-- Whether the components with roots at index `b` or later are complete, and the queue is empty.
 pub record IsGathered (g : Searched) (b : ℕ) (s : Components) : Type 0 where
   pub searched : IsSearched g
   pub in_order : b ≤ length g.order.now
   pub empty : s.queue.items ≡ []
   pub components : AreComponentsFrom (IsArc g.arcs) g.numbers g.order.now b s.component.items [] 0
 
--- the component of the place before b is in the making: all that leads to the queue's numbers before place i has one
+-- Whether the component with root at index `b - 1` is being built. All numbers with an arc to a number of the queue
+-- before index `i` have a component.
 pub record IsGathering (g : Searched) (b i : ℕ) (s : Components) : Type 0 where
   pub searched : IsSearched g
   pub some : 0 < b
   pub in_order : b ≤ length g.order.now
   pub components : AreComponentsFrom (IsArc g.arcs) g.numbers g.order.now b s.component.items s.queue.items i
 
--- x has a component
+-- Whether `x` has a component.
 abbrev pub HasComponent : Components → ℕ → Type 0
 HasComponent s x = 0 < slice_index s.component.items x
 
--- number v is given component b
+-- Whether number `v` gets component `b` and is appended to the queue.
 pub record Joins (v b : ℕ) (old new : Components) : Type 0 where
   pub component : new.component.items ≡ slice_set old.component.items v b
   pub queue : new.queue.items ≡ old.queue.items ++ v ∷ []
 
--- what is left to do: numbers without a component count twice, those of the queue once
+-- The remaining work: 2 for each number without a component, and 1 for each number of the queue.
 abbrev pub work_left : Components → ℕ
 work_left s = 2 * sum_by is_zero s.component.items + length s.queue.items
 
--- number v has an arc to the queue's number at place i
+-- Whether `v` has an arc to the number at index `i` of the queue.
 pub record HasArcToPlace (g : Searched) (s : Components) (i v : ℕ) : Type 0 where
   pub in_queue : i < length s.queue.items
   pub within : v < g.numbers
   pub arc : IsArc g.arcs v (slice_index s.queue.items i)
 
--- the component grows, up to place i of the queue
+-- Whether the component only grows, and all numbers of the queue before index `i` are processed.
 pub record Gathers (g : Searched) (b i : ℕ) (old new : Components) : Type 0 where
   pub state : IsGathering g b i new
   pub less : work_left new ≤ work_left old

@@ -1,4 +1,4 @@
--- What an edit reads before anything changes.
+-- The facts that an edit reads before anything changes.
 use Rattle.std.specs.Prelude.{◌≡◌, Bool, List}
 use Rattle.std.specs.HashSet.{contains}
 use Rattle.std.specs.FinMap as finmap
@@ -11,8 +11,8 @@ use Rattle.cedar_entity_maps.specs.Touching.{is_touched}
 use Rattle.cedar_entities.specs.declared.edits.Reading.{Reading}
 use Rattle.cedar_entity_maps.specs.laws.Losses.{AreLossesOf, is_stripped, loses}
 
--- what an edit of some uids reads of what D holds: it lists these uids, what they touch, and what goes from that, which
--- is all where it is to be written anew
+-- Holds if the reading r is correct for an edit of the uids: its uids, the affected entities, and the entities with
+-- stale ancestors. If `anew` is true, all indirect ancestors count as stale, because a repair recomputes them.
 pub record IsReadingOf {S H : Type 0} (anew : Bool) (D : Held) (uids : List EntityUID) (r : Reading S H) : Type 0 where
   pub same : (q : EntityUID) → is_member same_uid r.uids.items q ≡ is_member same_uid uids q
   pub touched : (q : EntityUID) → contains same_uid r.touched q ≡ is_touched D r.uids.items q

@@ -1,4 +1,5 @@
--- What a uid reaches in a world, whether one reaches itself, and whether an entity agrees: each is settled by a test.
+-- Decidability: whether a uid reaches another in an input store, whether a uid reaches itself, and whether an entity
+-- agrees.
 use Rattle.std.specs.Prelude.{◌≡◌, Bool, true, false, ◌&&◌, ◌||◌, cond, ◌⊎◌, List, [], ◌∷◌, ◌++◌, map, Option, Some}
 use Rattle.std.specs.Prelude.{None}
 use Rattle.std.proofs.Common.{ap, sym, refl, ◌∙◌, inl, inr}
@@ -35,7 +36,7 @@ use Rattle.cedar_entity.specs.laws.Fields.{field_eq, field_decides}
 abbrev Entry : Type 0
 Entry = EntityUID × Parts
 
--- two tests that pass alike are the same
+-- Two Booleans that imply each other are equal.
 same_bool : (x y : Bool) → (x ≡ true → y ≡ true) → (y ≡ true → x ≡ true) → x ≡ y
 same_bool true y f g = sym (f refl)
 same_bool false true f g = g refl
@@ -71,7 +72,7 @@ unfolding keyed
 keys_keyed f [] = refl
 keys_keyed f (k ∷ ks) = ap (λ b. f k || b) (keys_keyed f ks)
 
--- the uids of a list in their order, each once
+-- The uids of a list in ascending order, without duplicates.
 pub ascending : List EntityUID → List EntityUID
 ascending ks = map (λ e. e.0) (finmap.entries (finmap.from_entries {R = uid_order} (map keyed ks)))
 
@@ -80,7 +81,7 @@ unfolding ascending
 ascending_ascends ks = let m = finmap.from_entries {R = uid_order} (map keyed ks) in
     keys_ascend (finmap.entries m) (finmap.entries_sorted m)
 
--- they are those of the list
+-- The members of `ascending` are the members of the list.
 pub ascending_members : (ks : List EntityUID) (q : EntityUID)
     → is_member same_uid (ascending ks) q ≡ is_member same_uid ks q
 unfolding ascending
@@ -93,7 +94,7 @@ ascending_members ks q =
     ∙ keys_keyed (eq_by_cmp uid_order q) ks
     ∙ ap (λ f. list_any (f q) ks) same_tests
 
--- the items of a set are its members
+-- The items of a set are its members.
 items_members : (s : UidValues) (q : EntityUID) → is_member same_uid (set.items s) q ≡ set.contains s q
 items_members s q = sym (set.contains-items s q ∙ ap (λ f. list_any (f q) (set.items s)) same_tests)
 
@@ -139,11 +140,11 @@ leaves : (W : World) → LeaveOnly same_uid (world_keys W) (graph W)
 leaves W a b h = key_held (finmap.entries W.entities) a b
     (ap (λ o. is_parent_in o b) (sym (finmap.get-entries W.entities a)) ∙ h)
 
--- whether a uid reaches itself
+-- Whether some uid reaches itself is decidable.
 pub decides_world_cycle : (W : World) → Decides (has_cycle (graph W) (world_keys W)) (IsCyclic W)
 decides_world_cycle W = decides_cycle same_uid (graph W) (respects (graph W)) (world_keys W) (leaves W)
 
--- what a uid reaches, in order
+-- The uids that a uid reaches, in ascending order.
 pub reached_list : World → EntityUID → List EntityUID
 reached_list W u = filter (closure (graph W) (world_keys W) u) (ascending (parents_of (finmap.entries W.entities)))
 
@@ -179,7 +180,7 @@ contains-reached W u q =
     let same = contains_listed (reached_list W u) q in
     (λ h. is.0 (sym same ∙ h), λ r. same ∙ is.1 r)
 
--- it holds or it does not
+-- P or its negation.
 abbrev pub Settled : Type 0 → Type 0
 Settled P = P ⊎ (P → ⊥)
 
@@ -187,7 +188,7 @@ pub settled_by : {P : Type 0} (b : Bool) → Decides b P → Settled P
 settled_by true d = inl (d.0 refl)
 settled_by false d = inr (λ p. false≢true (d.1 p))
 
--- what follows from a settled fact, and it from that, is settled too
+-- If P and Q are equivalent and P is decidable, Q is.
 pub settled_as : {P Q : Type 0} → (P → Q) → (Q → P) → Settled P → Settled Q
 settled_as f g (inl p) = inl (f p)
 settled_as f g (inr n) = inr (λ q. n (g q))
@@ -243,11 +244,11 @@ with_settled W L (Some p) g =
     (sets_settled g.parts.parents (reached_set W g.uid)))
 with_settled W L None g = first_settled (first L g.uid) g
 
--- whether an entity agrees with the version of its uid that stands
+-- Whether an entity agrees with the existing one is decidable.
 pub agrees_settled : (W : World) (L : List Given) (g : Given) → Settled (Agrees W L g)
 agrees_settled W L g = with_settled W L (finmap.get W.entities g.uid) g
 
--- the first of a list that P does not hold of
+-- The first element of a list for which P does not hold.
 pub record FirstWithout {X : Type 0} (P : X → Type 0) (xs : List X) : Type 0 where
   pub before : List X
   pub at : X
@@ -267,7 +268,7 @@ one_further P x xs p f = record {
   fails = f.fails;
 }
 
--- P holds of all of a list, or there is a first that it does not hold of
+-- P holds for all elements of a list, or there is a first one for which it does not hold.
 pub all_or_first : {X : Type 0} (P : X → Type 0) → ((x : X) → Settled (P x)) → (xs : List X) → AllByRecursion P xs
     ⊎ FirstWithout P xs
 all_or_first P settle [] = inl tt
@@ -279,7 +280,7 @@ all_or_first P settle (x ∷ xs) = elim (settle x) [
   ]
 ]
 
--- each of the list agrees, or there is a first that differs
+-- Each entity of the list agrees, or there is a first one that differs.
 pub agree_or_differs : (W : World) (L : List Given) → AllAgree W L ⊎ ((u : EntityUID) × FirstDiffers W L u)
 agree_or_differs W L = elim (all_or_first (Agrees W L) (agrees_settled W L) L) [
   | inl all ↦ inl all

@@ -1,4 +1,4 @@
--- What is told of a store that is not valid.
+-- The error for an invalid store.
 use Rattle.std.specs.Prelude.{◌≡◌, ◌⊎◌, Option, Some, None, if◌then◌else◌}
 use Rattle.std.specs.Ordering.{is_lt}
 use Rattle.cedar_graph.specs.declared.err.TcError.{TcError}
@@ -10,16 +10,16 @@ use Rattle.cedar_entity.specs.declared.err.EntitiesError.{EntitiesError}
 use Rattle.cedar_entity.specs.declared.err.EntitiesError.TheVariants as errors
 use Rattle.cedar_entities.specs.StoreFaults.{MatchStoreFault}
 
--- a faulty entity, where there is none so far or it stands before that one, and that one elsewhere
+-- The lesser of an invalid entity and the least one so far.
 abbrev pub lesser_of : EntityView → Option EntityView → Option EntityView
 lesser_of e None = Some e
 lesser_of e (Some a) = if is_lt (uid_order e.uid a.uid) then Some e else Some a
 
--- r is o where e is valid, and else the one with the lesser uid
+-- Holds if r is the least invalid entity after e was checked: o if e is valid, and the lesser of e and o otherwise.
 abbrev pub TakesFaulty : EntityView → Option EntityView → Option EntityView → Type 0
 TakesFaulty e o r = (IsValid e × (r ≡ o)) ⊎ ((IsValid e → ⊥) × (r ≡ lesser_of e o))
 
--- what F tells of a refusal is matched, where F tells of the closure only what C does
+-- An error that satisfies F satisfies `MatchStoreFault`, if each closure error that satisfies F satisfies C.
 pub other_fault : (C : TcError EntityUID → Type 0) (F : EntitiesError → Type 0)
     → ((t : TcError EntityUID) → F (errors.TransitiveClosureError t) → C t) → (e : EntitiesError) → F e
     → MatchStoreFault e C F

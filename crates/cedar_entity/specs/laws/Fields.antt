@@ -1,4 +1,4 @@
--- The equality of fields.
+-- Equality of fields.
 use Rattle.std.specs.Prelude.{◌≡◌, ℕ, List, Bool, ◌&&◌}
 use Rattle.std.proofs.Common.{refl, sym, ap, ◌∙◌}
 use Rattle.std.specs.Bool.{Decides}
@@ -9,11 +9,11 @@ use Rattle.cedar_terms.specs.PartialViews.{same_partial}
 use Rattle.cedar_terms.specs.laws.PartialLaws.{same_partial_decides}
 use Rattle.cedar_terms.specs.declared.partial_value.PartialValue.{PartialValue}
 
--- `==` on fields
+-- Whether two fields have the same key and the same value.
 abbrev pub field_eq : List ℕ × PartialValue → List ℕ × PartialValue → Bool
 field_eq a b = bytes_eq a.0 b.0 && same_partial a.1 b.1
 
--- it answers whether they are the same
+-- `field_eq` decides whether two fields are equal.
 pub field_decides : (a b : List ℕ × PartialValue) → Decides (field_eq a b) (a ≡ b)
 field_decides a b = (
   λ h i. (

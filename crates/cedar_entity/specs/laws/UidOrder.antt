@@ -1,4 +1,4 @@
--- What of two uids in their order is said again and again.
+-- Facts about two uids and their order.
 use Rattle.std.specs.Prelude.{◌≡◌, true}
 use Rattle.std.proofs.Common.{refl}
 use Rattle.std.specs.Ordering.{is_lt, ordering_reverse}
@@ -13,11 +13,10 @@ self_less Less e h = cc
 self_less Equal e h = cc
 self_less Greater e h = cc
 
--- no uid stands before itself
+-- No uid is less than itself.
 pub irreflexive : (u : EntityUID) → uid_order u u ≡ Less → ⊥
 irreflexive u = self_less (uid_order u u) (uid_order_total.antisymm u u)
 
--- a test that says less is answered by less alone
 pub less : (o : Ordering) → is_lt o ≡ true → o ≡ Less
 less Less h = refl
 less Equal h = cc

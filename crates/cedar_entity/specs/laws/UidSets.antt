@@ -1,4 +1,4 @@
--- What a set of uids has after some were taken out.
+-- The members of a set after some were removed.
 use Rattle.std.specs.Prelude.{◌≡◌, Bool, ◌&&◌, not}
 use Rattle.std.proofs.Common.{ap, sym}
 use Rattle.std.specs.FinSet as set
@@ -11,7 +11,7 @@ use Rattle.cedar_uid_sets.specs.laws.Sets.{one_equal}
 respects : (p : EntityUID → Bool) (q x : EntityUID) → uid_order q x ≡ Equal → p x ≡ p q
 respects p q x t = ap p (sym (one_equal q x t))
 
--- what is kept is what was there and does not go
+-- The remaining members are the members that are not removed.
 pub kept_in : (s : UidValues) (gone : EntityUID → Bool) (q : EntityUID)
     → set.contains (set.retain s (λ p. not (gone p))) q ≡ (set.contains s q && not (gone q))
 kept_in s gone q = set.contains-retain s (λ p. not (gone p)) q (respects (λ p. not (gone p)) q)

@@ -1,4 +1,4 @@
--- Each command on the store leaves one state, and writes one text.
+-- Each command on the store has exactly one effect and one output.
 use Rattle.std.specs.Prelude.{◌≡◌, ℕ, List, [], ◌∷◌, ◌++◌, codes, Bool, true, false, ◌||◌}
 use Rattle.std.proofs.Common.{ap, sym, refl, subst, ◌∙◌, inl, inr}
 use Rattle.std.proofs.lemmas.Bool.{false≢true, or_cases, or_right}
@@ -56,7 +56,7 @@ shows_so W u false = (written_line (codes "no entity"), refl)
 shows : (W : World) (u : EntityUID) → (out : List ℕ) × ShowsAncestors W u out
 shows W u = shows_so W u (finmap.contains_key W.entities u)
 
--- each gives some
+-- Each command has an effect and an output.
 pub entity_gives : (c : EntityCommand) (s : EntityState) → (t : EntityState) × (out : List ℕ) × EntityGives c s t out
 entity_gives (Ent u ps) s = (record { waiting = s.waiting ++ given u ps ∷ []; world = s.world }, [], (refl, refl))
 entity_gives Build s = let a = adds empty_world s.waiting in (record { waiting = []; world = a.0 }, a.1, (refl, a.2))
@@ -75,13 +75,13 @@ entity_gives (Slice us) s = let p = slice_there s.world us in
     (record { waiting = s.waiting; world = p.0 }, count_line p.0, (refl, (p.1, refl)))
 entity_gives (Anc u) s = let a = shows s.world u in (s, a.0, (refl, a.1))
 
--- what holds of all of a list holds of a part
+-- A property of all elements is a property of one.
 pub all_at : {X : Type 0} (P : X → Type 0) (before : List X) (at : X) (after : List X)
     → AllByRecursion P (before ++ at ∷ after) → P at
 all_at P [] at after h = h.0
 all_at P (b ∷ bs) at after h = all_at P bs at after h.1
 
--- the first place that differs is one place
+-- The first place that differs is unique.
 split_agrees : {X : Type 0} (P : X → Type 0) (before before' : List X) (at at' : X) (after after' : List X)
     → before ++ at ∷ after ≡ before' ++ at' ∷ after'
     → AllByRecursion P before → AllByRecursion P before' → (P at → ⊥) → (P at' → ⊥) → at ≡ at'
@@ -149,7 +149,7 @@ one_slices base U V W out out' a b =
     let same : V ≡ W = one_slice base U V W a.0 b.0 in
     (same, a.1 ∙ ap (λ X. written_line (codes "ok " ++ decimal (finmap.len X.entities))) same ∙ sym b.1)
 
--- a list that ascends is one by its members
+-- No uid is less than itself. So a strictly ascending list is determined by its elements.
 not_itself : (u : EntityUID) → uid_order u u ≡ Less → ⊥
 not_itself u h = false≢true (ap is_eq (sym h ∙ tied_itself uid_order_total u))
 
@@ -216,12 +216,12 @@ one_shown W u out out' true h k =
     h.2 ∙ ap (λ l. written_line (codes "anc" ++ flat_map field_of l)) (one_ancestors W u h.0 k.0 h.1 k.1) ∙ sym k.2
 one_shown W u out out' false h k = h ∙ sym k
 
--- one list that waits and one world are one state
+-- States with the same queue and the same input store are equal.
 joined : (t t' : EntityState) (out out' : List ℕ) → t.waiting ≡ t'.waiting → (t.world ≡ t'.world) × (out ≡ out')
     → (t ≡ t') × (out ≡ out')
 joined t t' out out' w a = (λ i. record { waiting = w i; world = a.0 i }, a.1)
 
--- and no other
+-- No command has two effects or outputs.
 pub one_entity_gives : (c : EntityCommand) (s t t' : EntityState) (out out' : List ℕ) → EntityGives c s t out
     → EntityGives c s t' out' → (t ≡ t') × (out ≡ out')
 one_entity_gives (Ent u ps) s t t' out out' h k = (h.0 ∙ sym k.0, h.1 ∙ sym k.1)

@@ -1,4 +1,4 @@
--- Fields are those of one command on the store at the most, and it is told which.
+-- Fields are at most one command on the store, and reading finds it.
 use Rattle.std.specs.Prelude.{◌≡◌, ◌⊎◌, ℕ, List, [], ◌∷◌, codes, Bool, true, false, if◌then◌else◌, Option, Some, None}
 use Rattle.std.specs.Prelude.{Result, Ok, Err}
 use Rattle.std.proofs.Common.{ap, sym, refl, subst, ◌∙◌, inl, inr}
@@ -20,11 +20,11 @@ use Rattle.cedar_entity_lines.specs.EntityCommand.{EntityCommand, Ent, Build, Ad
 use Rattle.cedar_entity_lines.specs.EntityCommand.{AreFields, IsEntityCommand}
 use Rattle.cedar_entity_lines.specs.Holding.{AreAsciiUids, HasAsciiUids}
 
--- the text of a uid
+-- Whether this is the text of a uid.
 abbrev pub Text : EntityUID → List ℕ → Type 0
 Text u t = IsPrinted (uid_parts u) t
 
--- ---- fields are those of one command
+-- ---- Fields are at most one command
 
 same_uids : (u v : EntityUID) → uid_parts u ≡ uid_parts v → u ≡ v
 same_uids (uids.EntityUID u) (uids.EntityUID v) e = ap uids.EntityUID e
@@ -42,7 +42,7 @@ one_list (u ∷ us) [] (t ∷ ts) h k = absurd k
 one_list (u ∷ us) (v ∷ vs) [] h k = absurd h
 one_list (u ∷ us) (v ∷ vs) (t ∷ ts) h k = λ i. one_text u v t h.0 k.0 i ∷ one_list us vs ts h.1 k.1 i
 
--- the word of a command
+-- The word of a command.
 abbrev pub word_of : EntityCommand → List ℕ
 word_of (Ent u ps) = codes "ent"
 word_of Build = codes "build"
@@ -52,7 +52,7 @@ word_of (Remove us) = codes "remove"
 word_of (Slice us) = codes "slice"
 word_of (Anc u) = codes "anc"
 
--- the uids that it names
+-- The uids of a command.
 abbrev pub named_by : EntityCommand → List EntityUID
 named_by (Ent u ps) = u ∷ ps
 named_by Build = []
@@ -62,7 +62,7 @@ named_by (Remove us) = us
 named_by (Slice us) = us
 named_by (Anc u) = u ∷ []
 
--- its fields are that word and the texts of these uids
+-- The fields of a command are its word and the texts of its uids.
 pub fields_are : (c : EntityCommand) (fs : List (List ℕ)) → IsEntityCommand c fs → AreFields (word_of c) (named_by c) fs
 fields_are (Ent u ps) fs h = h
 fields_are Build fs h = h
@@ -72,12 +72,12 @@ fields_are (Remove us) fs h = h.0
 fields_are (Slice us) fs h = h.0
 fields_are (Anc u) fs h = h
 
--- a command with a first uid
+-- A command with a first uid.
 abbrev with_first : (EntityUID → List EntityUID → EntityCommand) → List EntityUID → EntityCommand
 with_first c [] = Build
 with_first c (u ∷ us) = c u us
 
--- the command of a word and of the uids that it names
+-- The command with this word and these uids.
 abbrev command_by : List ℕ → List EntityUID → EntityCommand
 command_by w us =
     if bytes_eq w (codes "ent") then with_first Ent us
@@ -89,7 +89,7 @@ command_by w us =
     else if bytes_eq w (codes "anc") then with_first (λ u _. Anc u) us
     else Build
 
--- it is read back from them
+-- A command is determined by its word and its uids.
 read_back : (c : EntityCommand) → command_by (word_of c) (named_by c) ≡ c
 read_back (Ent u ps) = refl
 read_back Build = refl
@@ -109,7 +109,7 @@ same_named : (a b : List ℕ) (us vs : List EntityUID) (fs : List (List ℕ)) �
 same_named a b us vs [] h k = absurd h
 same_named a b us vs (f ∷ fs) h k = one_list us vs fs h.1 k.1
 
--- fields are those of one command
+-- Fields are at most one command.
 pub one_entity_command : (c d : EntityCommand) (fs : List (List ℕ)) → IsEntityCommand c fs → IsEntityCommand d fs
     → c ≡ d
 one_entity_command c d fs h k =
@@ -119,9 +119,9 @@ one_entity_command c d fs h k =
     let named = same_named (word_of c) (word_of d) (named_by c) (named_by d) fs p q in
     sym (read_back c) ∙ (λ i. command_by (words i) (named i)) ∙ read_back d
 
--- ---- which command fields may be
+-- ---- The possible commands of fields
 
--- no fields are those of no command
+-- An empty list of fields is not a command.
 pub no_fields : (c : EntityCommand) → IsEntityCommand c [] → ⊥
 no_fields (Ent u ps) h = h
 no_fields Build h = h
@@ -131,18 +131,18 @@ no_fields (Remove us) h = h.0
 no_fields (Slice us) h = h.0
 no_fields (Anc u) h = h
 
--- the words of the commands differ
+-- The words of the commands are different.
 differs : (a b : List ℕ) → bytes_eq a b ≡ false → bytes_eq b b ≡ true → a ≡ b → ⊥
 differs a b apart itself e = false≢true (sym apart ∙ ap (λ w. bytes_eq w b) e ∙ itself)
 
--- a command whose fields begin with a word is read back from that word and the uids whose texts stand behind it
+-- A command whose fields begin with a word is determined by the word and the uids after it.
 told_by : (w : List ℕ) (ts : List (List ℕ)) (c : EntityCommand) → IsEntityCommand c (w ∷ ts) → (us : List EntityUID)
     × AreTexts us ts × (command_by w us ≡ c)
 told_by w ts c h =
     let f = fields_are c (w ∷ ts) h in
     (named_by c, f.1, ap (λ v. command_by v (named_by c)) f.0 ∙ read_back c)
 
--- the first field tells which command there may be
+-- The first field excludes the command `build`. The next laws exclude other commands.
 not_build : (w v : List ℕ) (ts : List (List ℕ)) (c : EntityCommand) → w ≡ v → bytes_eq v (codes "build") ≡ false
     → Build ≡ c → IsEntityCommand c (w ∷ ts) → ⊥
 not_build w v ts c e apart same h =
@@ -155,13 +155,13 @@ ent_told : (w : List ℕ) (ts : List (List ℕ)) (us : List EntityUID) → w ≡
 ent_told w ts [] e k none c same h = not_build w (codes "ent") ts c e refl (ap (λ v. command_by v []) (sym e) ∙ same) h
 ent_told w ts (u ∷ ps) e k none c same h = none (u, ps) k
 
--- no entity
+-- Fields after `ent` that are not the texts of a uid and its parents are not a command.
 pub not_ent : (w : List ℕ) (ts : List (List ℕ)) → w ≡ codes "ent"
     → ((p : EntityUID × List EntityUID) → AreTexts (p.0 ∷ p.1) ts → ⊥) → (c : EntityCommand)
     → IsEntityCommand c (w ∷ ts) → ⊥
 not_ent w ts e none c h = let t = told_by w ts c h in ent_told w ts t.0 e t.1 none c t.2 h
 
--- no removal
+-- Fields after `remove` that are not one or more texts of uids are not a command.
 pub not_remove : (w : List ℕ) (ts : List (List ℕ)) → w ≡ codes "remove"
     → ((us : List EntityUID) → (us ≡ [] → ⊥) × AreTexts us ts → ⊥) → (c : EntityCommand) → IsEntityCommand c (w ∷ ts)
     → ⊥
@@ -171,7 +171,7 @@ not_remove w ts e none c h =
     let r : IsEntityCommand (Remove t.0) (w ∷ ts) = subst (λ d. IsEntityCommand d (w ∷ ts)) (sym same) h in
     none t.0 (r.1, t.1)
 
--- no slice
+-- Fields after `slice` that are not one or more texts of uids are not a command.
 pub not_slice : (w : List ℕ) (ts : List (List ℕ)) → w ≡ codes "slice"
     → ((us : List EntityUID) → (us ≡ [] → ⊥) × AreTexts us ts → ⊥) → (c : EntityCommand) → IsEntityCommand c (w ∷ ts)
     → ⊥
@@ -190,17 +190,17 @@ anc_told w ts (u ∷ us) e none c same h =
     let r : IsEntityCommand (Anc u) (w ∷ ts) = subst (λ d. IsEntityCommand d (w ∷ ts)) (sym is) h in
     none u r.1
 
--- no ancestors
+-- Fields after `anc` that are not the text of one uid are not a command.
 pub not_anc : (w : List ℕ) (ts : List (List ℕ)) → w ≡ codes "anc" → ((u : EntityUID) → AreTexts (u ∷ []) ts → ⊥)
     → (c : EntityCommand) → IsEntityCommand c (w ∷ ts) → ⊥
 not_anc w ts e none c h = let t = told_by w ts c h in anc_told w ts t.0 e none c t.2 h
 
--- where the fields behind a word are no texts of uids, they are those of no command
+-- If the fields after a word are not texts of uids, the fields are not a command.
 no_uid_texts : (w : List ℕ) (ts : List (List ℕ)) → ((us : List EntityUID) → AreTexts us ts → ⊥) → (c : EntityCommand)
     → IsEntityCommand c (w ∷ ts) → ⊥
 no_uid_texts w ts none c h = let t = told_by w ts c h in none t.0 t.1
 
--- a word by itself is one of three commands or none
+-- A single word is `build`, `add` or `upsert`, or not a command.
 pub not_word : (w : List ℕ) → (w ≡ codes "build" → ⊥) → (w ≡ codes "add" → ⊥) → (w ≡ codes "upsert" → ⊥)
     → (c : EntityCommand) → IsEntityCommand c (w ∷ []) → ⊥
 not_word w build add upsert (Ent u ps) h = h.1
@@ -213,7 +213,7 @@ not_word w build add upsert (Slice []) h = h.1 refl
 not_word w build add upsert (Slice (u ∷ us)) h = h.0.1
 not_word w build add upsert (Anc u) h = h.1
 
--- a word before other fields is that of an entity, of a removal, of a slice or of ancestors
+-- A word before other fields is `ent`, `remove`, `slice` or `anc`, or the fields are not a command.
 pub no_such_word : (w t : List ℕ) (ts : List (List ℕ)) → (w ≡ codes "ent" → ⊥) → (w ≡ codes "remove" → ⊥)
     → (w ≡ codes "slice" → ⊥) → (w ≡ codes "anc" → ⊥) → (c : EntityCommand) → IsEntityCommand c (w ∷ t ∷ ts) → ⊥
 no_such_word w t ts ent remove cut anc (Ent u ps) h = ent h.0
@@ -224,9 +224,9 @@ no_such_word w t ts ent remove cut anc (Remove us) h = remove h.0.0
 no_such_word w t ts ent remove cut anc (Slice us) h = cut h.0.0
 no_such_word w t ts ent remove cut anc (Anc u) h = anc h.0
 
--- ---- which command fields are
+-- ---- The command of fields
 
--- there is one that P holds of, or P holds of none
+-- Either a value that satisfies `P`, or the fact that none does.
 abbrev pub Found : {X : Type 0} → (X → Type 0) → Type 0
 Found {X} P = ((x : X) × P x) ⊎ ((x : X) → P x → ⊥)
 
@@ -238,7 +238,7 @@ read_so t (Ok None) e =
 read_so t (Err x) e =
     inr (λ v h. let f : Err x ≡ Ok (Some (uid_parts v)) = sym e ∙ uid_reading-printed (uid_parts v) t h in absurd (cc))
 
--- the uid whose text a field is
+-- The uid of a text, or the fact that there is none.
 text_found : (t : List ℕ) → Found (λ u. Text u t)
 text_found t = read_so t (uid_reading t) refl
 
@@ -258,7 +258,7 @@ texts_after t ts (inr none) rest = inr (no_first t ts none)
     no_first t ts none [] h = h
     no_first t ts none (u ∷ us) h = none u h.0
 
--- the uids whose texts the fields are
+-- The uids of some texts, or the fact that one is not the text of a uid.
 texts_found : (ts : List (List ℕ)) → Found (λ us. AreTexts us ts)
 texts_found [] = inl ([], tt)
 texts_found (t ∷ ts) = texts_after t ts (text_found t) (texts_found ts)
@@ -266,7 +266,7 @@ texts_found (t ∷ ts) = texts_after t ts (text_found t) (texts_found ts)
 word_is : (w v : List ℕ) → Settled (w ≡ v)
 word_is w v = settled_by (bytes_eq w v) (bytes_eq-Decides w v)
 
--- a word by itself
+-- The command of a single word, or the fact that there is none.
 alone_found : (w : List ℕ) → Found (λ c. IsEntityCommand c (w ∷ []))
 alone_found w = elim (word_is w (codes "build")) [
   | inl e ↦ inl (Build, (e, tt))
@@ -291,7 +291,7 @@ anc_found : (w t : List ℕ) (ts : List (List ℕ)) (u : EntityUID) (us : List E
 anc_found w t ts u [] e h = inl (Anc u, (e, h))
 anc_found w t ts u (v ∷ vs) e h = inr (not_anc w (t ∷ ts) e (λ x k. two_or_none v vs ts h.1 k.1))
 
--- a word and the texts of uids
+-- The command of a word and the fields after it, or the fact that there is none.
 with_found : (w t : List ℕ) (ts : List (List ℕ)) → Found (λ us. AreTexts us (t ∷ ts))
     → Found (λ c. IsEntityCommand c (w ∷ t ∷ ts))
 with_found w t ts (inr none) = inr (no_uid_texts w (t ∷ ts) none)
@@ -310,20 +310,20 @@ with_found w t ts (inl (u ∷ us, h)) = elim (word_is w (codes "ent")) [
   ]
 ]
 
--- the command that fields are
+-- The command of some fields, or the fact that there is none.
 pub entity_command_found : (fs : List (List ℕ)) → Found (λ c. IsEntityCommand c fs)
 entity_command_found [] = inr no_fields
 entity_command_found (w ∷ []) = alone_found w
 entity_command_found (w ∷ t ∷ ts) = with_found w t ts (texts_found (t ∷ ts))
 
--- ---- what its uids are
+-- ---- The uids of a command
 
 texts_ascii : (us : List EntityUID) (ts : List (List ℕ)) → AreTexts us ts → AreAsciiUids us
 texts_ascii [] ts h = tt
 texts_ascii (u ∷ us) [] h = absurd h
 texts_ascii (u ∷ us) (t ∷ ts) h = (h.0.1, texts_ascii us ts h.1)
 
--- the uids of a command have ASCII eids
+-- The uids of a command have ASCII eids.
 pub command_ascii : (c : EntityCommand) (fs : List (List ℕ)) → IsEntityCommand c fs → HasAsciiUids c
 command_ascii (Ent u ps) [] h = absurd h
 command_ascii (Ent u ps) (f ∷ fs) h = texts_ascii (u ∷ ps) fs h.1

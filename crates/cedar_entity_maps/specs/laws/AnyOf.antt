@@ -1,4 +1,4 @@
--- Whether one of a list passes a test, and what stays where none does.
+-- Tests on lists: whether an element passes, and results if none does.
 use Rattle.std.specs.Prelude.{◌≡◌, Bool, true, false, cond, not, ◌&&◌, ◌||◌, List, [], ◌∷◌, ◌++◌, Option, Some, None}
 use Rattle.std.specs.Prelude.{filter}
 use Rattle.std.proofs.Common.{ap, sym, refl, ◌∙◌}
@@ -44,7 +44,7 @@ and_turn false s t = sym (ap (λ b. b && t) (and_off s))
     and_off true = refl
     and_off false = refl
 
--- a test that another implies fails where that fails
+-- If f implies g and no element passes g, no element passes f.
 pub any_less : {X : Type 0} (f g : X → Bool) → ((x : X) → f x ≡ true → g x ≡ true) → (xs : List X)
     → list_any g xs ≡ false → list_any f xs ≡ false
 any_less f g h [] k = refl
@@ -52,7 +52,7 @@ any_less f g h (x ∷ xs) k =
     let p = or_parts (g x) (list_any g xs) k in
     ap (λ b. b || list_any f xs) (false_from_ne_true (f x) (λ t. both_ways (g x) p.0 (h x t))) ∙ any_less f g h xs p.1
 
--- a member that passes makes the list pass
+-- If a member passes, the list has an element that passes.
 pub any_member : (f : EntityUID → Bool) (xs : List EntityUID) (u : EntityUID) → is_member same_uid xs u ≡ true
     → f u ≡ true → list_any f xs ≡ true
 any_member f [] u m h = m
@@ -63,7 +63,7 @@ any_member f (x ∷ xs) u m h = at (same_uid u x) refl (λ k. any_member f xs u 
     at true t k = or_left (f x) (list_any f xs) (ap f (sym ((same_uid_decides u x).0 t)) ∙ h)
     at false t k = or_right (f x) (list_any f xs) (k (ap (λ b. b || is_member same_uid xs u) (sym t) ∙ m))
 
--- a list that passes has a member that does
+-- If a list has an element that passes, a member passes.
 pub any_found : (f : EntityUID → Bool) (xs : List EntityUID) → list_any f xs ≡ true
     → (u : EntityUID) × (is_member same_uid xs u ≡ true) × (f u ≡ true)
 any_found f [] h = absurd (both_ways false refl h)
@@ -76,14 +76,14 @@ any_found f (x ∷ xs) h = at (f x) refl (λ k. any_found f xs k)
     at false t k = let r = k (ap (λ b. b || list_any f xs) (sym t) ∙ h) in
         (r.0, or_right (same_uid r.0 x) (is_member same_uid xs r.0) r.1, r.2)
 
--- lists with the same members pass alike
+-- Lists with the same members have the same result.
 pub any_alike : (f : EntityUID → Bool) (xs ys : List EntityUID)
     → ((q : EntityUID) → is_member same_uid xs q ≡ is_member same_uid ys q) → list_any f xs ≡ list_any f ys
 any_alike f xs ys same = same_bool (list_any f xs) (list_any f ys)
     (λ h. let r = any_found f xs h in any_member f ys r.0 (sym (same r.0) ∙ r.1) r.2)
     (λ h. let r = any_found f ys h in any_member f xs r.0 (same r.0 ∙ r.1) r.2)
 
--- what passes, of a list of which some do not count
+-- An element of the filtered list passes if and only if an element passes both tests.
 pub any_filter : {X : Type 0} (p f : X → Bool) (xs : List X) → list_any f (filter p xs) ≡ list_any (λ x. p x && f x) xs
 any_filter p f [] = refl
 any_filter p f (x ∷ xs) = at (p x) (any_filter p f xs)
@@ -93,13 +93,13 @@ any_filter p f (x ∷ xs) = at (p x) (any_filter p f xs)
     at true k = ap (λ b. f x || b) k
     at false k = k
 
--- one more in a list, which does not count
+-- Appending an element that is filtered out does not change the filtered list.
 pub one_left_out : {X : Type 0} (p : X → Bool) (xs : List X) (x : X) → p x ≡ false
     → filter p xs ≡ filter p (xs ++ x ∷ [])
 one_left_out p [] x h = sym (ap (λ b. cond b (x ∷ []) []) h)
 one_left_out p (y ∷ ys) x h = ap (λ zs. cond (p y) (y ∷ zs) zs) (one_left_out p ys x h)
 
--- what a map has is not absent
+-- A key of the map is not absent.
 pub not_absent : {S : Type 0} (m : HashMap EntityUID SharedEntity S) (u : EntityUID) → is_some (get same_uid m u) ≡ true
     → not (is_some (held m u)) ≡ false
 not_absent m u h = at (get same_uid m u) h
@@ -108,12 +108,12 @@ not_absent m u h = at (get same_uid m u) h
     at None k = absurd (both_ways false refl k)
     at (Some e) k = refl
 
--- a set of which nothing goes
+-- Removing nothing does not change a set.
 pub retain_none : (s : UidValues) → set.retain s (λ p. not (is_member same_uid [] p)) ≡ s
 retain_none s =
     set.same_set uid_order_total one_equal _ _ (λ q. kept_in s (is_member same_uid []) q ∙ and-true (set.contains s q))
 
--- or nothing that it has
+-- Removing uids that are not in a set does not change it.
 pub none_retained : (s : UidValues) (g : EntityUID → Bool) → ((x : EntityUID) → set.contains s x ≡ true → g x ≡ false)
     → set.retain s (λ p. not (g p)) ≡ s
 none_retained s g h = set.same_set uid_order_total one_equal _ _ (λ x. kept_in s g x ∙ at x (set.contains s x) refl)
@@ -122,7 +122,7 @@ none_retained s g h = set.same_set uid_order_total one_equal _ _ (λ x. kept_in 
     at x true t = ap not (h x t)
     at x false t = refl
 
--- or of which all goes
+-- Removing every uid results in the empty set.
 pub all_retained : (s : UidValues) (g : EntityUID → Bool) → ((x : EntityUID) → g x ≡ true)
     → set.empty ≡ set.retain s (λ p. not (g p))
 all_retained s g h = set.same_set uid_order_total one_equal _ _ (λ x.

@@ -1,4 +1,4 @@
--- That entities stand under their uids in the map of a store, after a change.
+-- The entities of a map are stored under their uids after a change.
 use Rattle.std.specs.Prelude.{◌≡◌, Bool, true, false, cond, Option, Some, None}
 use Rattle.std.proofs.Common.{sym, subst, ◌∙◌}
 use Rattle.std.specs.Option.{option_map, IfSome}
@@ -10,13 +10,13 @@ use Rattle.cedar_entity.specs.declared.node.SharedEntity.{SharedEntity}
 use Rattle.cedar_entity_maps.specs.laws.Held.{held, shared, UidsMatch}
 use Rattle.cedar_entity.specs.View.{EntityView}
 
--- and what is held, from the keys
+-- If the keys are the uids of the entities, each entity is stored under its uid.
 pub key_at : (q : EntityUID) (o : Option SharedEntity) → IfSome o (λ n. same_uid q (shared n).uid ≡ true)
     → IfSome (option_map shared o) (λ e. e.uid ≡ q)
 key_at q None h = tt
 key_at q (Some n) h = sym ((same_uid_decides q (shared n).uid).0 h)
 
--- the keys, read from what is held
+-- If each entity is stored under its uid, the keys are the uids of the entities.
 key_back : (q : EntityUID) (o : Option SharedEntity) → IfSome (option_map shared o) (λ e. e.uid ≡ q)
     → IfSome o (λ n. same_uid q (shared n).uid ≡ true)
 key_back q None h = tt
@@ -31,7 +31,7 @@ pub cond_holds : (P : EntityView → Type 0) (b : Bool) (o : Option EntityView) 
 cond_holds P true o h = tt
 cond_holds P false o h = h
 
--- entities that are changed, but for their uids, by what may hang on these, stand under their uids
+-- Changing entities, but not their uids, keeps them under their uids.
 pub changed_match : {S : Type 0} (m n : HashMap EntityUID SharedEntity S) (f : EntityUID → EntityView → EntityView)
     → ((q : EntityUID) (e : EntityView) → (f q e).uid ≡ e.uid)
     → ((q : EntityUID) → held n q ≡ option_map (f q) (held m q)) → UidsMatch m → UidsMatch n
@@ -39,7 +39,7 @@ changed_match m n f keeps is h q =
     key_back q (get same_uid n q) (subst (λ o. IfSome o (λ e. e.uid ≡ q)) (sym (is q))
     (map_keyed (f q) (keeps q) q (held m q) (key_at q (get same_uid m q) (h q))))
 
--- what is left after some are taken out does too
+-- Removing entities keeps the others under their uids.
 pub left_match : {S : Type 0} (m n : HashMap EntityUID SharedEntity S) (gone : EntityUID → Bool)
     → ((q : EntityUID) → held n q ≡ cond (gone q) None (held m q)) → UidsMatch m → UidsMatch n
 left_match m n gone step h q =

@@ -1,4 +1,4 @@
--- What is read of the store once for all uids of an edit, and what that comes to.
+-- The stale ancestors of all edited uids, which are read before the first change.
 use Rattle.std.specs.Prelude.{◌≡◌, ◌+◌, Bool, true, false, not, ◌&&◌, ◌||◌, List, [], ◌∷◌, Option, Some, None, length}
 use Rattle.std.proofs.Common.{ap, arith, sym, refl, ◌∙◌, get_or, take_all}
 use Rattle.std.proofs.lemmas.Bool.{and_parts, and_from}
@@ -46,7 +46,7 @@ pub within : (b l : Bool) → (l ≡ true → b ≡ true) → (b && l) ≡ l
 within b true h = ap (λ c. c && true) (h refl)
 within b false h = and_off b
 
--- what is stripped is touched
+-- An entity with stale ancestors is affected.
 pub stripped_touched : (m l : Bool) → ((m || l) && (not m && l)) ≡ (not m && l)
 stripped_touched true l = refl
 stripped_touched false true = refl
@@ -57,7 +57,7 @@ touched_alone true l = refl
 touched_alone false true = refl
 touched_alone false false = refl
 
--- of the hits T holds for one where it does for one of the list that is hit
+-- A test on the uids that are ancestors, as a test on all uids.
 pub any_hit : (h T : EntityUID → Bool) (hits A : List EntityUID)
     → ((q : EntityUID) → is_member same_uid hits q ≡ (is_member same_uid A q && h q))
     → list_any T hits ≡ list_any (λ u. h u && T u) A
@@ -67,12 +67,12 @@ any_hit h T hits A is = same_bool (list_any T hits) (list_any (λ u. h u && T u)
     (λ t. let r = any_found (λ u. h u && T u) A t in let p = and_parts (h r.0) (T r.0) r.2 in
     any_member T hits r.0 (is r.0 ∙ and_from (is_member same_uid A r.0) (h r.0) r.1 p.0) p.1)
 
--- what a test says of a list of one
+-- The test of a list with one element.
 pub any_one : (T : EntityUID → Bool) (xs : List EntityUID) (k : EntityUID) → length xs ≡ 1 → k ≡ get_or xs 0 k
     → T k ≡ list_any T xs
 any_one T xs k one is = sym (any_more T xs 0 k (omega arith) is) ∙ ap (list_any T) (take_all (0 + 1) xs (omega arith))
 
--- a difference keeps what the other set lacks
+-- A difference keeps the members that are not in the other set.
 pub difference_kept : (s t : UidValues) → set.difference s t ≡ set.retain s (λ p. not (set.contains t p))
 difference_kept s t =
     set.same_set uid_order_total one_equal _ _
@@ -84,7 +84,7 @@ absorb true false = refl
 absorb false true = refl
 absorb false false = refl
 
--- one that is none of the uids loses where it has one of them
+-- An entity that is not one of the uids has stale ancestors if it has one of them as an ancestor.
 pub loses_below : (D : Held) (A : List EntityUID) (R : List Loss)
     → ((q : EntityUID) → loses R q ≡ is_stripped A q (ancestry D q)) → (q : EntityUID) → is_member same_uid A q ≡ false
     → loses R q ≡ list_any (ancestry D q) A
@@ -113,7 +113,7 @@ module _ (D : Held) (A : List EntityUID) (R : List Loss)
           ∙ absorb (loses S q) (list_any (goes_with D e w) A)
       at false t more = more
 
-  -- what goes from it is what goes with one of them
+  -- The listed ancestors of an entity are its stale ancestors.
   pub goes_by_loss : is_member same_uid A q ≡ false → (e : EntityView) → finmap.get D q ≡ Some e → (w : EntityUID)
       → loses_uid R q w ≡ list_any (goes_with D e w) A
   goes_by_loss out e is w =
@@ -126,14 +126,14 @@ module _ (D : Held) (A : List EntityUID) (R : List Loss)
       (and_parts (is_some (finmap.get D r.0) && has_ancestor e r.0)
       (same_uid r.0 w || ancestry D r.0 w) r.2).0).1)
 
--- where all goes from each of a list, each uid does
+-- If all indirect ancestors of each listed entity are stale, every uid is.
 pub loses_whole : (R : List Loss) → AllByRecursion IsWhole R → (q w : EntityUID) → loses_uid R q w ≡ loses R q
 loses_whole [] h q w = refl
 loses_whole (a ∷ R) h q w =
     (λ i. (same_uid q a.uid && is_lost (h.0 i) w) || loses_whole R h.1 q w i)
     ∙ ap (λ b. b || loses R q) (and_on (same_uid q a.uid))
 
--- what loses nothing is as it was
+-- An entity that is not listed does not change.
 pub still : (R : List Loss) → AllByRecursion IsWhole R → (gone : UidValues) (q : EntityUID) → loses R q ≡ false
     → (o : Option EntityView) → option_map (left_by gone R q) o ≡ o
 still R whole gone q t None = refl

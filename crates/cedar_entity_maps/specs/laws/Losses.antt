@@ -1,4 +1,4 @@
--- What goes from each entity by all uids that an edit applies, read before anything changes.
+-- The stale ancestors of each entity, read before anything changes.
 use Rattle.std.specs.Prelude.{◌≡◌, Bool, true, false, ◌&&◌, ◌||◌, not, List, Option}
 use Rattle.std.specs.Option.{is_some}
 use Rattle.std.specs.List.{AllByRecursion, list_any}
@@ -14,40 +14,42 @@ use Rattle.cedar_entity_maps.specs.declared.touching.Loss.{Loss}
 use Rattle.cedar_entity_maps.specs.declared.touching.Lost.{Lost}
 use Rattle.cedar_entity_maps.specs.declared.touching.Lost.TheVariants as lost
 
--- whether w goes with u: u is held, and w is u or an ancestor of u
+-- Whether an edit of u makes w stale: u has an entity, and w is u or an ancestor of u.
 abbrev pub takes : (EntityUID → Option EntityView) → EntityUID → EntityUID → Bool
 takes f u w = is_some (f u) && (same_uid u w || is_ancestor_in (f u) w)
 
--- whether an edit by these uids strips q, of which f says what is an ancestor: it is none of them, and has one of them
+-- Whether an edit of the uids A gives q stale ancestors: q is not one of them, and has one of them as an ancestor, as f
+-- states.
 abbrev pub is_stripped : List EntityUID → EntityUID → (EntityUID → Bool) → Bool
 is_stripped A q f = not (is_member same_uid A q) && list_any f A
 
--- whether a uid is of what goes
+-- Whether a uid is stale.
 abbrev pub is_lost : Lost → EntityUID → Bool
 is_lost lost.All w = true
 is_lost (lost.These s) w = set.contains s w
 
--- all indirect ancestors go
+-- Holds if all indirect ancestors are stale.
 abbrev pub IsWhole : Loss → Type 0
 IsWhole a = a.lost ≡ lost.All
 
--- what goes from an entity is what goes with one of the uids that it has among its ancestors
+-- Holds if the uid w is stale exactly if an edit of one of the uids A that are ancestors of the entity makes it stale.
 abbrev pub IsLossOf : (EntityUID → Option EntityView) → List EntityUID → Loss → Type 0
 IsLossOf f A a = (w : EntityUID) → is_lost a.lost w ≡ list_any (λ u. is_ancestor_in (f a.uid) u && takes f u w) A
 
--- from each of the list so much goes, or all
+-- Holds if all indirect ancestors of each listed entity are stale, if the Boolean is true. Otherwise the list has the
+-- exact stale ancestors.
 abbrev pub AreLossesOf : Bool → (EntityUID → Option EntityView) → List EntityUID → List Loss → Type 0
 AreLossesOf true f A R = AllByRecursion IsWhole R
 AreLossesOf false f A R = AllByRecursion (IsLossOf f A) R
 
--- whether the list has a loss of q
+-- Whether the list has stale ancestors of q.
 abbrev pub loses : List Loss → EntityUID → Bool
 loses R q = list_any (λ a. same_uid q a.uid) R
 
--- whether w goes from q by the list
+-- Whether the list has w as a stale ancestor of q.
 abbrev pub loses_uid : List Loss → EntityUID → EntityUID → Bool
 loses_uid R q w = list_any (λ a. same_uid q a.uid && is_lost a.lost w) R
 
--- what the steps of an edit leave of an entity at q
+-- The entity at q after the removal of its stale ancestors and of the removed parents.
 abbrev pub left_by : UidValues → List Loss → EntityUID → EntityView → EntityView
 left_by gone R q = stripped (λ p. loses R q && set.contains gone p) (loses_uid R q)

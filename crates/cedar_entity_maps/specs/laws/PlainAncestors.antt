@@ -1,4 +1,4 @@
--- The ancestors in the plain store of a world.
+-- The ancestors in the plain store of an input store.
 use Rattle.std.specs.Prelude.{◌≡◌, ◌↔◌, true, List, [], ◌∷◌, Option, Some, None, is_some}
 use Rattle.std.proofs.Common.{ap, sym, refl, ◌∙◌}
 use Rattle.std.proofs.lemmas.Bool.{false≢true}
@@ -15,7 +15,7 @@ has_parts : (o : Option Parts) (b : EntityUID) → is_parent_in o b ≡ true →
 has_parts None b h = absurd (false≢true h)
 has_parts (Some p) b h = refl
 
--- the first of a path is a key of the world
+-- The first uid of a path has an entity in the input store.
 pub first_key : (W : World) (a b : EntityUID) (xs : List EntityUID) → Path (graph W) a xs b
     → finmap.contains_key W.entities a ≡ true
 first_key W a b [] p = has_parts (finmap.get W.entities a) b p
@@ -32,6 +32,6 @@ module _ (W : World) (S : StoreView) (plain : IsPlainStore W S) where
         ∙ first_key W a b r.0 r.1)),
   )
 
-  -- they are what is reached over the parents
+  -- The ancestors are exactly the uids that are reached over parents.
   pub ancestry_plain : (a b : EntityUID) → (ancestry S.held a b ≡ true) ↔ Reach (graph W) a b
   ancestry_plain a b = ancestor_at a b (finmap.get S.held a) refl (plain.reached a)

@@ -1,4 +1,4 @@
--- A refusal of a store's call, taken by its cases, and what follows of one.
+-- Case distinctions on the errors of a store's calls.
 use Rattle.cedar_graph.specs.declared.err.TcError.{TcError}
 use Rattle.cedar_ids.specs.declared.entity.EntityUID.{EntityUID}
 use Rattle.cedar_entity_maps.specs.Refusals.{MatchRefusal, NamesOneOf}
@@ -7,8 +7,8 @@ use Rattle.cedar_entity.specs.declared.err.EntitiesError.TheVariants as errors
 use Rattle.std.specs.Prelude.{Bool}
 use Rattle.cedar_entity.specs.declared.err.EntitiesError.TheVariants.{Memory}
 
--- what holds of a duplicate that D tells of, of the closure that C tells of, and of want of memory, holds of each
--- refusal that D and C match
+-- A property of each duplicate that satisfies D, of each closure error that satisfies C, and of `Memory` is a property
+-- of each error that they match.
 pub refusal_cases : (D : EntityUID → Type 0) (C : TcError EntityUID → Type 0) (P : EntitiesError → Type 0)
     → ((u : EntityUID) → D u → P (errors.Duplicate u))
     → ((t : TcError EntityUID) → C t → P (errors.TransitiveClosureError t)) → P errors.Memory
@@ -21,12 +21,12 @@ refusal_cases D C P d c m (errors.ActionParentIsNotAction u p) h = absurd h
 refusal_cases D C P d c m (errors.ReservedKey k) h = absurd h
 refusal_cases D C P d c m errors.Memory h = m
 
--- a refusal of the closure for one reason is one for another that follows
+-- If C implies F, an error that matches C matches F.
 pub refused_for : (C F : TcError EntityUID → Type 0) → ((t : TcError EntityUID) → C t → F t) → (e : EntitiesError)
     → MatchRefusal e (λ _. ⊥) C → MatchRefusal e (λ _. ⊥) F
 refused_for C F f e h = refusal_cases (λ _. ⊥) C (λ r. MatchRefusal r (λ _. ⊥) F) (λ u n. absurd n) f tt e h
 
--- a refusal that is no closure's names none
+-- An error that is not a closure error names no uid of a cycle.
 pub none_named : (D : EntityUID → Type 0) (touched : EntityUID → Bool) (e : EntitiesError) → MatchRefusal e D (λ _. ⊥)
     → NamesOneOf touched e
 none_named D touched e h = refusal_cases D (λ _. ⊥) (NamesOneOf touched) (λ u n. tt) (λ t k. absurd k) tt e h

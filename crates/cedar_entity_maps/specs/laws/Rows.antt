@@ -1,4 +1,4 @@
--- Laws of what is said of modes by their rows, and that it says of each of the three what can be said by its name.
+-- Laws of the edit rules. They state the definitions for each of the three modes by name.
 use Rattle.std.specs.Prelude.{◌≡◌, ◌↔◌, Bool, true, false}
 use Rattle.std.proofs.Common.{subst, sym, inl, inr}
 use Rattle.std.proofs.lemmas.Bool.{false≢true}
@@ -11,7 +11,7 @@ use Rattle.cedar_entity_maps.specs.Touching.{IsAcyclicAt, IsMended, IsMendRefuse
 use Rattle.cedar_entity_maps.specs.Touching.{IsSettleRefused, WhereTaken}
 use Rattle.cedar_entity_maps.specs.declared.modes.TCComputation.TheVariants as modes
 
--- what holds anyway holds where it is asked for
+-- P implies P under a condition.
 pub where_so : (b : Bool) (P : Type 0) → P → OnTrue b P
 where_so true P p = p
 where_so false P p = tt
@@ -45,7 +45,7 @@ one_second true true P Q t q = inr q
 one_second false true P Q t q = q
 one_second a false P Q t q = absurd (false≢true t)
 
--- where more is asked for it is one of those still
+-- A disjunction still holds if another case is added.
 pub one_more : (a b : Bool) (P Q R : Type 0) → OneOf a P false R → OneOf a P b Q
 one_more true true P Q R h = inl h
 one_more true false P Q R h = h
@@ -58,7 +58,7 @@ one_cases true false P Q R f g p = f p
 one_cases false true P Q R f g q = g q
 one_cases false false P Q R f g h = absurd h
 
--- each mode by its name: how it ends an adding or an overwriting, and a removal, and why it refuses these
+-- For each mode by its name: the result of finalizing an addition, an overwriting and a removal, and the errors.
 module _ (touched : EntityUID → Bool) (D N : Held) (t : TcError EntityUID) where
   pub assumed : (IsSettled modes.AssumeAlreadyComputed touched D N ↔ (N ≡ D))
       × (IsSettleRefused modes.AssumeAlreadyComputed touched D t ↔ ⊥)
@@ -79,7 +79,7 @@ module _ (touched : EntityUID → Bool) (D N : Held) (t : TcError EntityUID) whe
       × (IsMendRefused modes.ComputeNow touched D t ↔ (TellsCycle D t))
   computed = ((λ h. h, λ h. h), (λ h. h, λ h. h), (λ h. h, λ h. h), (λ h. h, λ h. h))
 
--- and where it computes, or takes what is put in as it is
+-- For each mode by its name: whether it computes the closure, and whether added entities are stored without changes.
 module _ (P : Type 0) where
   pub where_assumed : (WhereComputed modes.AssumeAlreadyComputed P ↔ Unit {0})
       × (WhereTaken modes.AssumeAlreadyComputed P ↔ P)

@@ -1,4 +1,4 @@
--- The hashed map of a store as the finite map that callers see.
+-- The hash map of a store as the finite map in contracts.
 use Rattle.std.specs.Prelude.{◌≡◌, cond, List, [], ◌∷◌, Option, None, Some, map}
 use Rattle.std.proofs.Common.{ap, sym, refl, ◌∙◌}
 use Rattle.std.specs.Option.{option_map, is_some}
@@ -19,23 +19,22 @@ found [] q = refl
 found (e ∷ es) q = ap (λ f. cond (f q e.0) (Some e.1) (finmap.find uid_order q es)) same_tests
     ∙ ap (cond (same_uid q e.0) (Some e.1)) (found es q)
 
--- the finite map that is seen has what the map has
+-- The finite map has the same entities as the map.
 pub get_seen : {S : Type 0} (m : HashMap EntityUID SharedEntity S) (q : EntityUID)
     → finmap.get (held_map m) q ≡ held m q
 get_seen m q =
     finmap.get-from_entries uid_order_total (map (λ e. (e.0, shared e.1)) m.entries) q
     ∙ find-mapped shared m.entries q ∙ ap (option_map shared) (found m.entries q)
 
--- a map that has at each uid what a finite map has is seen as that
+-- A map with the entities of a finite map is described by that finite map.
 pub seen_as : {S : Type 0} (m : HashMap EntityUID SharedEntity S) (D : Held)
     → ((q : EntityUID) → held m q ≡ finmap.get D q) → held_map m ≡ D
 seen_as m D h = finmap.same_map uid_order_total one_equal (held_map m) D (λ q. get_seen m q ∙ h q)
 
--- what the map of a store has, as what the store holds
+-- The entities of the map of a store, from its entity map.
 pub stored : {S : Type 0} (m : HashMap EntityUID SharedEntity S) (D : Held) → held_map m ≡ D → held m ≡ finmap.get D
 stored m D is = (λ i q. sym (get_seen m q) i) ∙ ap (λ (E : Held). finmap.get E) is
 
--- something is there where something is shared
 pub some_shared : (o : Option SharedEntity) → is_some o ≡ is_some (option_map shared o)
 some_shared None = refl
 some_shared (Some n) = refl

@@ -1,4 +1,4 @@
--- What a world says of a uid after an edit.
+-- The input store at a uid after an edit.
 use Rattle.std.specs.Prelude.{◌≡◌, Bool, true, false, cond, not, List, [], ◌∷◌, ◌++◌, Option, Some, None, map}
 use Rattle.std.proofs.Common.{ap, sym, refl, ◌∙◌}
 use Rattle.std.specs.Option.{option_or, option_map}
@@ -23,19 +23,19 @@ find-append (e ∷ es) fs q =
     ap (cond (eq_by_cmp uid_order q e.0) (Some e.1)) (find-append es fs q)
     ∙ found_or (eq_by_cmp uid_order q e.0) e.1 (finmap.find uid_order q es) (finmap.find uid_order q fs)
 
--- of two lists of entries the first counts
+-- In two appended lists of entries, the first entry with a uid is used.
 pub get_joined : {X : Type 0} (es fs : List (EntityUID × X)) (q : EntityUID)
     → finmap.get (finmap.from_entries {R = uid_order} (es ++ fs)) q
     ≡ option_or (finmap.find uid_order q es) (finmap.find uid_order q fs)
 get_joined es fs q = finmap.get-from_entries uid_order_total (es ++ fs) q ∙ find-append es fs q
 
--- what W has, or else the first of the list
+-- After an addition, a uid has its entity in W or, if there is none, the first entity of the list.
 pub get_added : (W : World) (L : List Given) (q : EntityUID)
     → finmap.get (added W L).entities q ≡ option_or (finmap.get W.entities q) (first L q)
 get_added W L q = get_joined (finmap.entries W.entities) (map entry_of L) q
     ∙ ap (λ o. option_or o (first L q)) (sym (finmap.get-entries W.entities q))
 
--- the last of the list, or else what W has
+-- After an overwriting, a uid has the last entity of the list or, if there is none, its entity in W.
 pub get_overwritten : (W : World) (L : List Given) (q : EntityUID)
     → finmap.get (overwritten W L).entities q ≡ option_or (finmap.find uid_order q (reversed (map entry_of L)))
     (finmap.get W.entities q)
@@ -47,14 +47,14 @@ found_mapped : {X Y : Type 0} (f : X → Y) (b : Bool) (x : X) (o : Option X)
 found_mapped f true x o = refl
 found_mapped f false x o = refl
 
--- what is found among entries that were changed under their keys
+-- A lookup among entries whose values were changed.
 pub find-mapped : {X Y : Type 0} (f : X → Y) (es : List (EntityUID × X)) (q : EntityUID)
     → finmap.find uid_order q (map (λ e. (e.0, f e.1)) es) ≡ option_map f (finmap.find uid_order q es)
 find-mapped f [] q = refl
 find-mapped f (e ∷ es) q = ap (cond (eq_by_cmp uid_order q e.0) (Some (f e.1))) (find-mapped f es q)
     ∙ found_mapped f (eq_by_cmp uid_order q e.0) e.1 (finmap.find uid_order q es)
 
--- nothing at a key that goes, and else what was there, changed
+-- A lookup after some keys were removed and the other values changed.
 pub get_reduced : {X Y : Type 0} (f : X → Y) (m : finmap.FinMap uid_order X) (gone : EntityUID → Bool) (q : EntityUID)
     → finmap.get (finmap.from_entries {R = uid_order} (map (λ e. (e.0, f e.1))
     (finmap.entries (finmap.retain_keys m (λ k. not (gone k)))))) q
@@ -66,7 +66,7 @@ get_reduced f m gone q =
     ∙ ap (option_map f) (sym (finmap.get-entries left q)
     ∙ finmap.get-retain_keys m (λ k. not (gone k)) q (λ x t. ap (λ k. not (gone k)) (sym (one_equal q x t))))
 
--- nothing at a uid that goes, and else what W has without the parents that go
+-- After a removal, a removed uid has no entity. Every other uid has its entity in W without the removed parents.
 pub get_deleted : (W : World) (U : List EntityUID) (q : EntityUID)
     → finmap.get (deleted W U).entities q ≡ option_map (λ p. (without (goes W U) (q, p)).1)
     (cond (not (goes W U q)) (finmap.get W.entities q) None)

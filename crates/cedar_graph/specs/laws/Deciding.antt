@@ -1,5 +1,5 @@
--- A finite graph, closed by a test: which key reaches which, and whether one reaches itself. No function runs it; it
--- shows that reach is settled by looking over a list of keys.
+-- A finite graph, closed by a computable test. No function runs this test. It shows that reachability can be decided by
+-- examining a list of keys.
 use Rattle.std.proofs.Common.{◌≡◌, Bool, true, false, List, [], ◌∷◌, ◌||◌, ◌&&◌, ◌⊎◌, inl, inr, refl, sym, ◌∙◌}
 use Rattle.std.specs.Bool.{Decides}
 use Rattle.std.specs.List.{list_any}
@@ -8,15 +8,15 @@ use Rattle.std.proofs.lemmas.Bool.{false≢true, or_cases, or_left, or_right, an
 use Rattle.cedar_graph.specs.Graph.{Path, Reach, IsClosure, AddsOnlyReached}
 use Rattle.cedar_graph.specs.laws.Reaches.{reach_trans}
 
--- the edges by way of one key
+-- The edges that result from two edges over the key `via`.
 abbrev edges_by : {K : Type 0} → (K → K → Bool) → K → K → K → Bool
 edges_by G via a b = G a via && G via b
 
--- the graph, and its edges by way of one key
+-- The graph together with the edges over the key `via`.
 abbrev over : {K : Type 0} → (K → K → Bool) → K → K → K → Bool
 over G via a b = G a b || edges_by G via a b
 
--- the graph, closed over one key of the list after another
+-- The graph, closed over the keys of the list one after another.
 pub closure : {K : Type 0} → (K → K → Bool) → List K → K → K → Bool
 closure G [] = G
 closure G (k ∷ ks) = closure (over G k) ks
@@ -25,7 +25,7 @@ or_turn : (a b c : Bool) → (a || (b || c)) ≡ true → ((a || b) || c) ≡ tr
 or_turn true b c h = refl
 or_turn false b c h = h
 
--- the edges by way of a key that is reached over lead to what is reached
+-- If a graph has only edges to reached keys, so has the graph with the edges over one more key.
 reached_over : {K : Type 0} (G : K → K → Bool) (via : K) (H : K → K → Bool) → AddsOnlyReached H G
     → AddsOnlyReached H (over G via)
 reached_over G via H only a b h =
@@ -34,7 +34,7 @@ reached_over G via H only a b h =
       | inr p ↦ let q = and_parts (G a via) (G via b) p in reach_trans H a via b (only a via q.0) (only via b q.1)
     ]
 
--- equal keys have the same edges
+-- Holds if equal keys have the same edges.
 pub record Respects {K : Type 0} (eq : K → K → Bool) (G : K → K → Bool) : Type 0 where
   pub to : (a b c : K) → eq b c ≡ true → G a b ≡ G a c
   pub from : (a b c : K) → eq a b ≡ true → G a c ≡ G b c
@@ -62,7 +62,7 @@ unfolding closure
 closure_only [] G H only a b h = only a b h
 closure_only (k ∷ ks) G H only a b h = closure_only ks (over G k) H (reached_over G k H only) a b h
 
--- a graph that is closed over the keys that pass is so over one more key, once it has the edges by way of that
+-- If a graph is closed over the keys that pass, it is closed over one more key after the edges over it are added.
 closed_over : {K : Type 0} (eq : K → K → Bool) (G : K → K → Bool) (via : K) → Respects eq G → (P : K → Bool)
     → ((a b c : K) → P b ≡ true → G a b ≡ true → G b c ≡ true → G a c ≡ true)
     → (a b c : K) → (P b ≡ true) ⊎ (eq b via ≡ true) → over G via a b ≡ true → over G via b c ≡ true
@@ -90,7 +90,7 @@ closed_over eq G via r P closed a b c (inr e) h k =
     ] in
     or_right (G a c) (edges_by G via a c) (and_from _ _ first second)
 
--- closed over the keys that pass, and over those of the list
+-- If a graph is closed over the keys that pass, its closure is closed over these and over the keys of the list.
 closure_closed : {K : Type 0} (eq : K → K → Bool) (ks : List K) (G : K → K → Bool) → Respects eq G
     → (P : K → Bool) → ((a b c : K) → P b ≡ true → G a b ≡ true → G b c ≡ true → G a c ≡ true)
     → (a b c : K) → (P b || is_member eq ks b) ≡ true → closure G ks a b ≡ true → closure G ks b c ≡ true
@@ -111,11 +111,11 @@ module _ {K : Type 0} (G : K → K → Bool) (N : K → K → Bool) (closed : (a
   path_in_closed a b [] p = has a b p
   path_in_closed a b (x ∷ xs) p = closed a x b p.0 (path_in_closed x b xs p.1)
 
-  -- a closed graph that has the edges of another has an edge to all that is reached there
+  -- A closed graph that contains another graph has an edge to every key reached in the other graph.
   reach_in_closed : (a b : K) → Reach G a b → N a b ≡ true
   reach_in_closed a b p = path_in_closed a b p.0 p.1
 
--- what reaches anything has an edge
+-- A key that reaches another has an edge.
 first_edge : {K : Type 0} (G : K → K → Bool) (a b : K) (xs : List K) → Path G a xs b → (c : K) × (G a c ≡ true)
 first_edge G a b [] p = (b, p)
 first_edge G a b (x ∷ xs) p = (x, p.0)
@@ -124,17 +124,17 @@ last_edge : {K : Type 0} (G : K → K → Bool) (a b : K) (xs : List K) → Path
 last_edge G a b [] p = (a, p)
 last_edge G a b (x ∷ xs) p = last_edge G x b xs p.1
 
--- what is reached has an edge to it
+-- A reached key has an edge that leads to it.
 pub reached_from : {K : Type 0} (G : K → K → Bool) (a b : K) → Reach G a b → (c : K) × (G c b ≡ true)
 reached_from G a b p = last_edge G a b p.0 p.1
 
--- no key outside of the list has an edge
+-- Holds if only keys of the list have edges.
 abbrev pub LeaveOnly : {K : Type 0} → (K → K → Bool) → List K → (K → K → Bool) → Type 0
 LeaveOnly {K} eq keys G = (a b : K) → G a b ≡ true → is_member eq keys a ≡ true
 
 module _ {K : Type 0} (eq : K → K → Bool) (G : K → K → Bool) (respects : Respects eq G) (keys : List K)
     (leave : LeaveOnly eq keys G) where
-  -- what the closure has is what is reached
+  -- The computed closure is the closure of the graph, if only keys of the list have edges.
   pub closure_is : IsClosure G (closure G keys)
   closure_is a b = (
     closure_only keys G G (λ x y h. ([], h)) a b,
@@ -162,7 +162,7 @@ any_member eq test same q h (k ∷ ks) m = elim (or_cases (eq q k) (is_member eq
   | inr r ↦ or_right (test k) (list_any test ks) (any_member eq test same q h ks r)
 ]
 
--- whether a key reaches itself
+-- Whether one of the keys reaches itself.
 pub has_cycle : {K : Type 0} → (K → K → Bool) → List K → Bool
 has_cycle G keys = list_any (λ k. closure G keys k k) keys
 

@@ -1,4 +1,4 @@
--- Laws that a node type and a caller cite: of sets of keys, and of maps that keep their nodes.
+-- Laws for node types and callers: sets of keys, and maps whose nodes keep their keys.
 use Rattle.std.specs.Prelude.{◌≡◌, Bool, true, List, [], ◌∷◌, ◌||◌, Option, Some, None}
 use Rattle.std.specs.Cmp.{IsEquivalence}
 use Rattle.std.specs.List.{list_any}
@@ -13,16 +13,15 @@ module _ {K : Type 0} {eq : K → K → Bool} (laws : IsEquivalence eq) (x y : K
   any_is_both_or_none [] = refl
   any_is_both_or_none (k ∷ ks) = rw (laws.congr x y k same, any_is_both_or_none ks)
 
-  -- a set has both of two equal keys, or none
+  -- A set contains both of two equal keys, or neither.
   pub contains_both_or_none : {S : Type 0} (s : HashSet K S) → contains eq s x ≡ contains eq s y
   contains_both_or_none s = any_is_both_or_none s.keys
 
-  -- one of two sets has both of two equal keys, or none
+  -- The union of two sets contains both of two equal keys, or neither.
   pub either_contains_both_or_none : {S : Type 0} (s t : HashSet K S)
       → (contains eq s x || contains eq t x) ≡ (contains eq s y || contains eq t y)
   either_contains_both_or_none s t = rw (contains_both_or_none s, contains_both_or_none t)
 
--- what is in the first set is in one of the two
 pub first_of_either : (x y : Bool) → x ≡ true → (x || y) ≡ true
 first_of_either x y h = rw h
 
@@ -33,7 +32,7 @@ module _ {K V : Type 0} (key : V → K) (P : K → Type 0) where
   if_same_key None (Some v) same h = cc
   if_same_key (Some u) (Some v) same h = let keys : key u ≡ key v = cc in subst P keys h
 
--- where the nodes are kept, each map key still is its node's key
+-- If the nodes keep their keys, each map key is still its node's key.
 pub keys_match_kept : {K V R S : Type 0} (eq : K → K → Bool) (key : V → K) (rest : V → R) (old new : HashMap K V S)
     → KeepsNodes eq key rest old new → KeysMatch eq key old → KeysMatch eq key new
 keys_match_kept eq key rest old new kept match q = if_same_key key (λ k. eq q k

@@ -1,4 +1,4 @@
--- What is read of a map of nodes: numbers for keys, and arcs between them.
+-- The reading of a map of nodes: numbers for keys, and arcs between numbers.
 use Rattle.std.specs.Prelude.{◌≡◌, ℕ, List, ◌<◌, ◌≤◌, ◌+◌, ◌^◌, ◌++◌, ◌∷◌, [], ◌⊎◌, Bool, true, length, take, slice_get}
 use Rattle.std.specs.Prelude.{Some, IsSomeAnd, is_some}
 use Rattle.std.specs.Borrow.{Bor}
@@ -7,13 +7,15 @@ use Rattle.std.specs.HashMap.{HashMap, get, hash_map_len}
 use Rattle.std.specs.HashSet.{HashSet, contains, hash_set_len}
 use Rattle.indexmap.specs.IndexSet.{IndexSet, IsUnique}
 use Rattle.cedar_components.specs.Reach.{HasArc, AreArcs}
+use Rattle.cedar_graph.specs.Calls.{IsNear}
 use Rattle.cedar_graph.specs.Graph.{graph_of}
 use Rattle.cedar_graph.specs.laws.Arcs.{AreArcsOf, AreEdges, AreSameEdges, Ascends, HasNumber, HasNumberBelow}
 use Rattle.cedar_graph.specs.laws.Arcs.{IsPrefix, near_graph}
 use Rattle.cedar_graph.specs.declared.arcs.Reading.{Reading}
 use Rattle.cedar_graph.specs.declared.arcs.FixReading.{FixReading}
 
--- the set of keys goes on by at most a copy of this key, which has number i there
+-- Holds if key has number i in the new set. The new set begins with the old one, and has at most one further key, which
+-- equals `key`.
 pub record HasPut {K S : Type 0} (eq : K → K → Bool) (key : K) (old new : IndexSet K S) (i : ℕ) : Type 0 where
   pub unique : IsUnique eq new
   pub found : IsSomeAnd (slice_get new.keys i) (λ k. eq key k ≡ true)
@@ -21,11 +23,11 @@ pub record HasPut {K S : Type 0} (eq : K → K → Bool) (key : K) (old new : In
   pub fresh : (j : ℕ) (k : K) → slice_get new.keys j ≡ Some k → (slice_get old.keys j ≡ Some k) ⊎ (eq key k ≡ true)
   pub more : IsPrefix old.keys new.keys
 
--- an arc was read from one number to another
+-- Holds if an arc from one number to another was read.
 abbrev pub IsArc : {K S H : Type 0} → Reading K S H → ℕ → ℕ → Type 0
 IsArc s = HasArc s.from.items s.to.items
 
--- one more arc is read, from number a to b, which is the number of a key
+-- Holds if one more arc was read, from number a to the number b of the key.
 pub record ReadsArc {K S H : Type 0} (eq : K → K → Bool) (a : ℕ) (key : K) (old new : Reading K S H)
     (b : ℕ) : Type 0 where
   pub unique : IsUnique eq new.keys
@@ -33,19 +35,29 @@ pub record ReadsArc {K S H : Type 0} (eq : K → K → Bool) (a : ℕ) (key : K)
   pub from : new.from.items ≡ old.from.items ++ a ∷ []
   pub to : new.to.items ≡ old.to.items ++ b ∷ []
   pub found : (k : K) × (slice_get new.keys.keys b ≡ Some k) × (eq key k ≡ true)
+  pub fresh : (i : ℕ) → length old.keys.keys ≤ i → i < length new.keys.keys → i ≡ b
 
--- no two keys are equal, and the arcs of the numbers below `done` are the edges of their keys, and all arcs
+-- Holds if the keys are different, all arcs are edges between their keys, and every edge of the first `done` keys is an
+-- arc.
 pub record IsReadBelow {K S H : Type 0} (eq : K → K → Bool) (G : K → K → Bool) (done : ℕ)
     (s : Reading K S H) : Type 0 where
   pub unique : IsUnique eq s.keys
   pub arcs : AreArcsOf eq G done s.keys.keys s.from.items s.to.items
 
--- the keys keep their numbers, and at most n more nodes were read
+-- Whether some arc leads to number i. The list `to` has the numbers to which arcs lead.
+abbrev pub IsTarget : List ℕ → ℕ → Type 0
+IsTarget to i = (k : ℕ) × (slice_get to k ≡ Some i)
+
+-- Holds if the keys keep their numbers and the arcs their places, at most n more nodes were read, and an arc leads to
+-- each new number.
 pub record ReadsOn {K S H : Type 0} (n : ℕ) (old new : Reading K S H) : Type 0 where
   pub keys : IsPrefix old.keys.keys new.keys.keys
   pub reads : new.reads ≤ old.reads + n
+  pub arcs : IsPrefix old.to.items new.to.items
+  pub targets : (i : ℕ) → length old.keys.keys ≤ i → i < length new.keys.keys → IsTarget new.to.items i
 
--- a node was put in under its key, unless it has no edges: keys and nodes go on by at most one, at the same place
+-- Holds if the node was appended under its key, unless it has no edges. At most one key and one node are added, at the
+-- same place.
 pub record PutsEdged {K V S : Type 0} (eq : K → K → Bool) (edges : V → K → Bool) (key : K) (node : V)
     (old new : IndexSet K S) (rows more : List (Bor V)) : Type 0 where
   pub unique : IsUnique eq new
@@ -56,13 +68,13 @@ pub record PutsEdged {K V S : Type 0} (eq : K → K → Bool) (edges : V → K �
   pub nodes : (i : ℕ) (k : K) (r : Bor V) → slice_get new.keys i ≡ Some k → slice_get more i ≡ Some r
       → ((slice_get old.keys i ≡ Some k) × (slice_get rows i ≡ Some r)) ⊎ ((eq key k ≡ true) × (r.now ≡ node))
 
--- at the place of each key stands the node that the map has under it
+-- Holds if the node at each place is the node of the map at the key with the same place.
 abbrev pub AreNodesAt : {K V S : Type 0} → (K → K → Bool) → HashMap K V S → List K → List (Bor V) → Type 0
 AreNodesAt {K} {V} eq nodes keys rows = (i : ℕ) (k : K) (r : Bor V) → slice_get keys i ≡ Some k
     → slice_get rows i ≡ Some r → get eq nodes k ≡ Some r.now
 
--- in each graph in which the key of number a has these edges, one more row of arcs is read, and counted where the count
--- can go on
+-- Holds if the arcs of one more number were read, in each graph in which its key has these edges. The read is counted
+-- unless the counter is full.
 pub record ReadsNode {K S H : Type 0} (eq : K → K → Bool) (row : K → Bool) (a : ℕ) (old new : Reading K S H)
     : Type 0 where
   pub unique : IsUnique eq new.keys
@@ -71,7 +83,7 @@ pub record ReadsNode {K S H : Type 0} (eq : K → K → Bool) (row : K → Bool)
   pub read : (G : K → K → Bool) → IsReadBelow eq G a old
       → ((x q : K) → slice_get old.keys.keys a ≡ Some x → row q ≡ G x q) → IsReadBelow eq G (a + 1) new
 
--- in each graph in which the first keys have the edges of these nodes, their rows of arcs are read
+-- Holds if the arcs of these nodes were read, in each graph in which the first keys have the edges of the nodes.
 pub record ReadsNodes {K V S H : Type 0} (eq : K → K → Bool) (edges : V → K → Bool) (rows : List (Bor V))
     (old new : Reading K S H) : Type 0 where
   pub on : ReadsOn (length rows) old new
@@ -79,8 +91,8 @@ pub record ReadsNodes {K V S H : Type 0} (eq : K → K → Bool) (edges : V → 
   pub read : (G : K → K → Bool) → ((i : ℕ) (x q : K) (r : Bor V) → slice_get old.keys.keys i ≡ Some x
       → slice_get rows i ≡ Some r → edges r.now q ≡ G x q) → IsReadBelow eq G (length rows) new
 
--- the arcs are edges of the graph, between numbers of keys, of which the first are to be fixed: of these they are all
--- edges. They stand in the order of the numbers that they come from, and no two keys are equal
+-- Holds if the keys are different and all arcs are edges of the graph between numbered keys. Every edge of the first
+-- `fixed` keys is an arc. The arcs are in the order of the numbers from which they lead.
 pub record AreRead {K S H : Type 0} (eq : K → K → Bool) (G : K → K → Bool) (read : FixReading K S H) : Type 0 where
   pub unique : IsUnique eq read.reading.keys
   pub arcs : AreArcs read.reading.from.items read.reading.to.items (length read.reading.keys.keys)
@@ -90,7 +102,8 @@ pub record AreRead {K S H : Type 0} (eq : K → K → Bool) (G : K → K → Boo
   pub complete : (a : ℕ) (x q : K) → a < read.fixed → slice_get read.reading.keys.keys a ≡ Some x → G x q ≡ true
       → (b : ℕ) × (y : K) × IsArc read.reading a b × (slice_get read.reading.keys.keys b ≡ Some y) × (eq q y ≡ true)
 
--- the arcs are all edges of a map, and its keys with edges are to be fixed, each of which was read and counted
+-- Holds if the arcs are exactly the edges of the map. The keys with edges are to be fixed, and each of them was read
+-- and counted.
 pub record ReadsAll {K V S H : Type 0} (eq : K → K → Bool) (edges : V → K → Bool) (nodes : HashMap K V S)
     (read : FixReading K S H) : Type 0 where
   pub unique : IsUnique eq read.reading.keys
@@ -104,7 +117,8 @@ pub record ReadsAll {K V S H : Type 0} (eq : K → K → Bool) (edges : V → K 
   pub few : read.fixed ≤ hash_map_len nodes
   pub reads : read.reading.reads ≡ read.fixed
 
--- the arcs are the edges of the keys to fix, which come first, and of those that these have an edge to
+-- Holds if the arcs are exactly the edges of the keys to fix, which come first, and of the keys to which these have an
+-- edge.
 pub record ReadsFix {K V S F H : Type 0} (eq : K → K → Bool) (edges : V → K → Bool) (fix : HashSet K F)
     (nodes : HashMap K V S) (read : FixReading K S H) : Type 0 where
   pub unique : IsUnique eq read.reading.keys
@@ -120,3 +134,7 @@ pub record ReadsFix {K V S F H : Type 0} (eq : K → K → Bool) (edges : V → 
   pub near : (x u : K) → contains eq fix x ≡ true → graph_of eq edges nodes x u ≡ true
       → is_member eq (take read.near read.reading.keys.keys) u ≡ true
   pub near_fixed : (x : K) → contains eq fix x ≡ true → is_member eq (take read.near read.reading.keys.keys) x ≡ true
+  pub only_near : (i : ℕ) (k : K) → i < read.near → slice_get read.reading.keys.keys i ≡ Some k
+      → IsNear (contains eq fix) (graph_of eq edges nodes) k
+  pub within : read.near ≤ length read.reading.keys.keys
+  pub reads : read.reading.reads ≤ read.near

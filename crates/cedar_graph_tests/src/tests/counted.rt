@@ -1,4 +1,4 @@
-// How much the calls do: nodes visited, and how often their edges are listed.
+// The work of the functions: the visited nodes, and the number of listings of their edges.
 ghost use Rattle.std.specs.Prelude.{nat_eq};
 ghost use Rattle.cedar_graph.specs.Graph.{KeysMatch};
 
@@ -9,12 +9,13 @@ use cedar_graph::Work;
 use std::alloc::Global;
 use std::hash::BuildHasher;
 
-// Whether a call did so much.
+// Checks whether a call did exactly this work.
 fn did(work: Option<Work>, reads: usize, closings: usize) -> bool {
     work == Some(Work { reads, closings })
 }
 
-// Whether a graph is closed to so many edges, and each of so many nodes is visited and listed once.
+// Checks whether a graph is closed to this number of edges, and each of this number of nodes is visited and listed
+// once.
 fn takes<S: BuildHasher + Copy>(
     alloc: Global,
     nodes: &mut Graph<S>,
@@ -27,7 +28,7 @@ fn takes<S: BuildHasher + Copy>(
     did(work, count, count) && listed(nodes) == (count, 1) && edge_count(nodes) == edges
 }
 
-// Whether the edges of a cycle of three with a way in are listed once.
+// Checks whether the edges of a cycle of three nodes, with an edge into it, are listed once.
 fn are_listed_once<S: BuildHasher + Copy>(alloc: Global, hasher: S) -> bool {
     match graph(alloc, hasher, "12 23 31 41") {
         Ok(mut nodes) => {
@@ -39,7 +40,7 @@ fn are_listed_once<S: BuildHasher + Copy>(alloc: Global, hasher: S) -> bool {
     }
 }
 
-// Whether a chain of two thousand keys is closed so.
+// Checks this for a chain of two thousand keys.
 fn chain_takes(alloc: Global) -> bool {
     match chain(alloc, 1, 2001) {
         Ok(mut nodes) => {
@@ -63,7 +64,7 @@ fn chain_of_two_thousand(rt: HostRuntime) {
     assert!(rt; chain_takes(rt.alloc()));
 }
 
-// Whether nothing is done for no nodes.
+// Checks whether there is no work for no nodes.
 fn nothing_is_done(alloc: Global) -> bool {
     match graph(alloc, fixed(), "") {
         Ok(mut nodes) => {
@@ -76,7 +77,7 @@ fn nothing_is_done(alloc: Global) -> bool {
     }
 }
 
-// Whether repair visits each of three keys, at most those between them twice, and counts what it reads.
+// Checks whether a repair visits each of three keys once or twice, and counts its reads.
 fn visits_each(work: Option<Work>, after: usize) -> bool {
     match work {
         Some(work) => work.closings >= 3 && work.closings <= 6 && after == work.reads,
@@ -84,7 +85,7 @@ fn visits_each(work: Option<Work>, after: usize) -> bool {
     }
 }
 
-// Whether the keys to fix of a chain of which three nodes lack edges are visited, and no absent ones.
+// Checks whether the keys to fix of a chain are visited, and no absent keys. Three nodes of the chain need edges.
 fn are_visited(alloc: Global) -> bool {
     let text = "0123456789 123 23456789 34 456789 56789 6789 78 89";
     match graph(alloc, fixed(), text) {

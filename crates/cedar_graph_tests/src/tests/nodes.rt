@@ -1,4 +1,4 @@
-// A node type with number keys, and graphs of such nodes.
+// A node type with numbers as keys, and graphs of such nodes.
 ghost use Rattle.std.specs.Prelude.{◌≡◌, map, nat_eq, IfOk, List};
 ghost use Rattle.std.specs.HashSet.{contains};
 ghost use Rattle.std.specs.Set.{is_member};
@@ -11,8 +11,8 @@ use std::cell::Cell;
 use std::collections::{HashMap, HashSet};
 use std::hash::BuildHasher;
 
-/// A node that keeps its direct edges and the others apart, and counts the calls that list its edges. No contract
-/// speaks of these.
+/// A node that stores its direct edges and its other edges separately, and counts the calls that list its edges. No
+/// contract mentions the count.
 #[derive(Drop)]
 pub struct Node {
     pub number: u64,
@@ -78,15 +78,15 @@ impl TCNode<u64> for Node {
         first_of_either (contains nat_eq n.own q) (contains nat_eq n.further q) h };
 }
 
-/// A graph with number keys, in a map that hashes by what an `S` builds.
+/// A graph with numbers as keys, in a map with the hasher builder `S`.
 pub type Graph<S> = HashMap<u64, Node, S>;
 
-// The number of a digit.
+// Returns the number of a digit.
 fn digit(byte: u8) -> u64 {
     u64::from(byte.wrapping_sub(b'0'))
 }
 
-// The numbers of some digits.
+// Returns the numbers of the digits.
 fn digits(alloc: Global, text: &[u8]) -> Result<HashSet<u64>, AllocError> {
     let mut all = HashSet::new(alloc);
     for byte in text {
@@ -95,7 +95,7 @@ fn digits(alloc: Global, text: &[u8]) -> Result<HashSet<u64>, AllocError> {
     Ok(all)
 }
 
-// Puts in a node with these edges.
+// Inserts a node with these edges.
 fn put<S: BuildHasher + Copy>(
     alloc: Global,
     nodes: &mut Graph<S>,
@@ -115,7 +115,12 @@ fn put<S: BuildHasher + Copy>(
     Ok(())
 }
 
-/// The graph of a text: each word is a node, its key and the keys that it has edges to, a digit each.
+/// Creates the graph of a text. Each word is a node: the first digit is its key, and the other digits are the keys to
+/// which it has edges.
+///
+/// # Errors
+///
+/// Returns `AllocError` if an allocation fails.
 pub fn graph<S: BuildHasher + Copy>(
     alloc: Global,
     hasher: S,
@@ -132,7 +137,11 @@ pub fn graph<S: BuildHasher + Copy>(
     Ok(nodes)
 }
 
-/// The keys of some digits, in a set that hashes by what `hasher` builds.
+/// Creates the set of the keys of the digits, with the hasher builder `hasher`.
+///
+/// # Errors
+///
+/// Returns `AllocError` if an allocation fails.
 pub fn keys<S: BuildHasher + Copy>(
     alloc: Global,
     hasher: S,
@@ -145,7 +154,11 @@ pub fn keys<S: BuildHasher + Copy>(
     Ok(all)
 }
 
-/// The keys from `first` to before `end`, each with an edge to the next one.
+/// Creates the chain of the keys from `first` up to `end`, without `end`. Each has an edge to the next one.
+///
+/// # Errors
+///
+/// Returns `AllocError` if an allocation fails.
 pub fn chain(alloc: Global, first: u64, end: u64) -> Result<Graph<Fixed>, AllocError>
     ensures { IfOk result (λ m. KeysMatch nat_eq (λ n. n.number) m) }
 {
@@ -158,7 +171,7 @@ pub fn chain(alloc: Global, first: u64, end: u64) -> Result<Graph<Fixed>, AllocE
     Ok(nodes)
 }
 
-/// How often edges were listed in all, and the most often of one node.
+/// Returns the total number of listings of edges, and the greatest number for one node.
 pub fn listed<S: BuildHasher>(nodes: &Graph<S>) -> (usize, usize) {
     let mut all: usize = 0;
     let mut most: usize = 0;
@@ -170,7 +183,7 @@ pub fn listed<S: BuildHasher>(nodes: &Graph<S>) -> (usize, usize) {
     (all, most)
 }
 
-/// How many edges there are in all.
+/// Returns the total number of edges.
 pub fn edge_count<S: BuildHasher>(nodes: &Graph<S>) -> usize {
     let mut all: usize = 0;
     for node in nodes.values() {

@@ -1,5 +1,5 @@
-// The counted calls on graphs with number keys. Each is called here alone: what a call promises is long, and no test
-// needs it.
+// The counted functions on graphs with numbers as keys. Each is called only here, because its contract is long and no
+// test needs it.
 ghost use Rattle.std.specs.Prelude.{nat_eq};
 ghost use Rattle.cedar_graph.specs.Graph.{KeysMatch};
 
@@ -8,7 +8,7 @@ use cedar_graph::{Work, compute_tc_counted, repair_tc_counted};
 use std::alloc::Global;
 use std::hash::BuildHasher;
 
-/// Closes a graph, and tells how much was done, if it was closed.
+/// Closes a graph. Returns the work, if that succeeds.
 pub fn close_counted<S: BuildHasher + Copy>(alloc: Global, nodes: &mut Graph<S>) -> Option<Work>
     requires { KeysMatch nat_eq (λ n. n.number) nodes.old }
     ensures { KeysMatch nat_eq (λ n. n.number) nodes.new }
@@ -16,7 +16,7 @@ pub fn close_counted<S: BuildHasher + Copy>(alloc: Global, nodes: &mut Graph<S>)
     compute_tc_counted(alloc, nodes, false).ok()
 }
 
-/// Repairs a graph that may have no cycle at the keys of some digits, and tells how much was done, if it was repaired.
+/// Repairs a graph that must not have a cycle, at the keys of the digits. Returns the work, if that succeeds.
 pub fn repair_counted<S: BuildHasher + Copy>(
     alloc: Global,
     to_fix: &str,

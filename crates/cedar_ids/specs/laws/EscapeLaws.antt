@@ -1,4 +1,4 @@
--- An escaped text is read back.
+-- Decoding an escaped text returns the original text.
 use Rattle.std.proofs.Common.{◌≡◌, ◌≢◌, ℕ, zero, suc, ◌<◌, List, [], ◌∷◌, ◌++◌, Bool, true, false, ◌&&◌, refl, sym, ap}
 use Rattle.std.proofs.Common.{◌∙◌, arith, append_assoc, inl, inr, Some}
 use Rattle.std.proofs.lemmas.Bool.Decides.{eqb_tells}
@@ -12,7 +12,7 @@ use Rattle.cedar_ids.specs.declared.decode.Scan.TheVariants.{Plain, Slash, Digit
 use Rattle.cedar_ids.specs.Escape.{escape, escaped, is_ascii, is_ascii_byte}
 use Rattle.cedar_ids.specs.laws.Decode.{next_scan, emits, decode_from, decode, eid_of}
 
--- where the bytes lead
+-- The state of the decoder after these bytes.
 scan_after : Scan → List ℕ → Scan
 scan_after s [] = s
 scan_after s (b ∷ bs) = scan_after (next_scan s b) bs
@@ -24,7 +24,7 @@ decode_from-append s [] ys = refl
 decode_from-append s (b ∷ xs) ys = ap (λ z. emits s b ++ z) (decode_from-append (next_scan s b) xs ys)
     ∙ sym (append_assoc (emits s b) _ _)
 
--- no escape has begun
+-- Whether the decoder is outside an escape.
 is_outside_escapes : Scan → Bool
 is_outside_escapes Plain = true
 is_outside_escapes Slash = false
@@ -36,7 +36,7 @@ plain_is Plain e = refl
 plain_is Slash e = absurd (cc)
 plain_is (Digits n) e = absurd (cc)
 
--- the escape of c is read as c, and leads back to where it began
+-- Whether the escape of `c` decodes to `c` and leaves the decoder outside an escape.
 reads_back : ℕ → Bool
 reads_back c = bytes_eq (decode_from Plain (escape c)) (c ∷ []) && is_outside_escapes (scan_after Plain (escape c))
 
@@ -53,7 +53,7 @@ below_at p (suc n) c e l =
       | inr w ↦ let ne : c ≢ n = w.1 in below_at p n c (second_so (p n) (all_below p n) e) (omega arith)
     ]
 
--- a check of each ASCII character
+-- `reads_back` is true of every ASCII character.
 ascii_reads_back : all_below reads_back 128 ≡ true
 unfolding all_below reads_back is_outside_escapes scan_after decode_from digits
 ascii_reads_back = refl
@@ -72,7 +72,7 @@ escape_back c l =
 below : (c : ℕ) → is_ascii_byte c ≡ true → c < 128
 below c h = ltb-true c 128 h
 
--- an ASCII text is read back from its escape
+-- The escaped form of an ASCII text decodes to that text.
 decode_escaped : (e : List ℕ) → is_ascii e ≡ true → decode_from Plain (escaped e) ≡ e
 unfolding decode_from
 decode_escaped [] h = refl
@@ -88,7 +88,7 @@ pub decode-escaped : (e : List ℕ) → is_ascii e ≡ true → decode (escaped 
 unfolding decode
 decode-escaped e h = decode_escaped e h
 
--- the escape of an ASCII text is read as that text
+-- The eid with the escaped form of an ASCII text is that text.
 pub eid_of-escaped : (e : List ℕ) → is_ascii e ≡ true → eid_of (escaped e) ≡ Some e
 unfolding eid_of
 eid_of-escaped e h =

@@ -1,4 +1,4 @@
--- What is read as an escaped text is one.
+-- An eid that is parsed from a text has that text as its escaped form.
 use Rattle.std.proofs.Common.{◌≡◌, ℕ, List, Bool, true, false, ◌&&◌, cond, refl, sym, ap, ◌∙◌, Some, None}
 use Rattle.std.specs.Cmp.{first_so, second_so}
 use Rattle.std.specs.Str.{bytes_eq}
@@ -10,7 +10,7 @@ chosen : (b : Bool) (d e : List ℕ) → cond b (Some d) None ≡ Some e → (b 
 chosen true d e h = (refl, cc)
 chosen false d e h = absurd (cc)
 
--- what an escaped text is read as, it is the escape of
+-- An eid that is parsed from a text is ASCII and has that text as its escaped form.
 pub eid_found : (t e : List ℕ) → eid_of t ≡ Some e → (is_ascii e ≡ true) × (t ≡ escaped e)
 unfolding eid_of
 eid_found t e h =

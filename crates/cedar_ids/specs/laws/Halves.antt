@@ -1,4 +1,4 @@
--- Where the first `::"` and the last `"` stand.
+-- The positions of the first `::"` and of the final `"`.
 use Rattle.std.proofs.Common.{◌≡◌, ◌≢◌, ℕ, zero, suc, ◌<◌, ◌≤◌, List, [], ◌∷◌, ◌++◌, length, take, drop, true, false}
 use Rattle.std.proofs.Common.{refl, sym, ap, arith, Option, Some, None, MatchOption, inl, inr, length-append}
 use Rattle.std.proofs.lemmas.Bool.{false_from_ne_true}
@@ -42,7 +42,7 @@ first_text-at p (b ∷ bs) (suc i) rest l h e =
       first_text-at p bs i rest l (λ k m r. h (suc k) (omega arith) r) e,
     ) refl
 
--- what `split_once` says, as `first_text`
+-- The result of `split_once`, in terms of `first_text`.
 pub split_found : (p s : List ℕ) (r : Option (Bor (List ℕ) × Bor (List ℕ))) → 0 < length p
     → MatchOption r (FindsText p s None) (λ x. SplitsAroundMatch (FindsText p) s x.0.now x.1.now)
     → option_map (λ x. (x.0.now, x.1.now)) r ≡ first_text p s

@@ -1,4 +1,4 @@
--- The text of a name is read back, and so is that of one name alone.
+-- The printed text of a name parses to that name, and belongs to no other name.
 use Rattle.std.proofs.Common.{◌≡◌, ℕ, List, [], ◌∷◌, ◌++◌, Bool, true, false, ◌&&◌, cond, refl, sym, ap, ◌∙◌}
 use Rattle.std.proofs.Common.{append_assoc, Some, None, inl, inr}
 use mathlib.Core.List.{append-nil}
@@ -22,7 +22,7 @@ if_piece : (t : Bool) (x y : List (List ℕ)) → (d : List ℕ) × (ds : List (
 if_piece true x y p q = p
 if_piece false x y p q = q
 
--- a text has at least one piece
+-- A text has at least one component.
 pub some_piece : (s : List ℕ) → (d : List ℕ) × (ds : List (List ℕ)) × (components s ≡ d ∷ ds)
 unfolding components
 some_piece [] = ([], [], refl)
@@ -100,16 +100,16 @@ pieces_back acc (c ∷ cs) b h k =
     ∙ pieces_back (acc ++ c ∷ []) cs b j k
     ∙ ap (λ z. Some (record { path = z; basename = b })) (append_assoc acc (c ∷ []) cs)
 
--- the printed text of a name is read as that name
+-- The printed text of a name parses to that name.
 pub name_of-printed : (n : NameParts) → IsName n → name_of (printed_name n) ≡ Some n
 unfolding name_of
 name_of-printed n h = pieces_back [] n.path n.basename h.0 h.1
 
--- the text of a name is read as that name
+-- The text of a name parses to that name.
 pub name_of_text : (t : List ℕ) (n : NameParts) → IsNameText n t → name_of t ≡ Some n
 name_of_text t n h = ap name_of h.1 ∙ name_of-printed n h.0
 
--- no text is that of two names
+-- No text is the printed text of two names.
 pub printed_name_injective : (n m : NameParts) (t : List ℕ) → IsNameText n t → IsNameText m t → n ≡ m
 printed_name_injective n m t h k =
     let i : name_of t ≡ Some n = name_of_text t n h in

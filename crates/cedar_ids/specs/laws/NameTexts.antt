@@ -1,4 +1,4 @@
--- What is read as a name is its text.
+-- A name that is parsed from a text has that text.
 use Rattle.std.proofs.Common.{◌≡◌, ℕ, List, [], ◌∷◌, ◌++◌, Bool, true, false, ◌&&◌, cond, refl, sym, ap, ◌∙◌}
 use Rattle.std.proofs.Common.{append_assoc, subst, Option, Some, None}
 use Rattle.std.proofs.lemmas.Bool.{eqb-true}
@@ -13,7 +13,7 @@ use Rattle.cedar_ids.specs.Reads.{IsTextOfOne, IsTextOfNone}
 use Rattle.cedar_ids.specs.TextOf.{IsName, IsNameText}
 use Rattle.cedar_ids.specs.laws.NameTextLaws.{some_piece, name_of_text}
 
--- the pieces, joined by the mark
+-- The components, separated by `::`.
 pub joined : List (List ℕ) → List ℕ
 joined [] = []
 joined (c ∷ []) = c
@@ -29,12 +29,12 @@ joined_if : (t : Bool) (s : List ℕ) (x y : List (List ℕ)) → (t ≡ true �
 joined_if true s x y p q = p refl
 joined_if false s x y p q = q refl
 
--- the mark in front of a text's pieces
+-- Writing an empty first component writes `::` before the other components.
 joined_mark : (d : List ℕ) (ds : List (List ℕ)) → joined ([] ∷ d ∷ ds) ≡ 58 ∷ 58 ∷ joined (d ∷ ds)
 unfolding joined
 joined_mark d ds = refl
 
--- the pieces of a text, joined again, are the text
+-- Writing the components of a text with `::` between them gives the text.
 pub joined-components : (s : List ℕ) → joined (components s) ≡ s
 unfolding components joined
 joined-components [] = refl
@@ -60,7 +60,7 @@ split_more : (b : Bool) (o : Option NameParts) (m : NameParts) → cond b o None
 split_more true o m e = (refl, e)
 split_more false o m e = absurd (cc)
 
--- one component more
+-- Appending an id to a path of ids gives a path of ids.
 pub all_push : (p : List (List ℕ)) (c : List ℕ) → list_all is_id p ≡ true → is_id c ≡ true
     → list_all is_id (p ++ c ∷ []) ≡ true
 all_push [] c h k = rw k refl
@@ -75,7 +75,7 @@ marks_push (x ∷ xs) c rest =
     ∙ ap (λ z. before_mark x ++ z) (marks_push xs c rest)
     ∙ sym (append_assoc (before_mark x) (flat_map before_mark xs) (c ++ (58 ∷ 58 ∷ rest)))
 
--- a name that is read from pieces after a path is their text
+-- A name parsed from a path and the components after it has their text.
 read_pieces : (path cs : List (List ℕ)) (n : NameParts) → list_all is_id path ≡ true
     → name_of_components path cs ≡ Some n → IsName n × (flat_map before_mark path ++ joined cs ≡ printed_name n)
 unfolding name_of_components joined
@@ -89,14 +89,14 @@ read_pieces path (c ∷ d ∷ cs) n h e =
     let r = read_pieces (path ++ c ∷ []) (d ∷ cs) n (all_push path c h p.0) p.1 in
     (r.0, sym (marks_push path c (joined (d ∷ cs))) ∙ r.1)
 
--- what is read as a name is its printed text
+-- A name that is parsed from a text is valid and has that text as its printed text.
 pub name_found : (t : List ℕ) (n : NameParts) → name_of t ≡ Some n → IsName n × (t ≡ printed_name n)
 unfolding name_of
 name_found t n e =
     let r = read_pieces [] (components t) n refl e in
     (r.0, sym (joined-components t) ∙ r.1)
 
--- what reading a text answers
+-- A name that is parsed from a text is the only name with that text.
 pub name_some : (t : List ℕ) (n : NameParts) → name_of t ≡ Some n → IsTextOfOne IsNameText n t
 name_some t n e = (name_found t n e, λ m h. let f : name_of t ≡ Some m = name_of_text t m h in cc)
 

@@ -1,4 +1,4 @@
--- Uids with an ASCII eid and their texts correspond one to one.
+-- Uids with an ASCII eid and their printed texts correspond one to one.
 use Rattle.std.proofs.Common.{◌≡◌, ℕ, List, [], ◌∷◌, ◌++◌, Bool, true, false, ◌&&◌, refl, sym, ap, ◌∙◌, append_assoc}
 use Rattle.std.proofs.Common.{Some, Ok, inl, inr, codes, IsTrue}
 use Rattle.std.proofs.lemmas.Bool.{false≢true}
@@ -16,7 +16,7 @@ use Rattle.cedar_ids.specs.TextOf.{IsName, IsPrinted}
 use Rattle.cedar_ids.specs.laws.EscapeLaws.{eid_of-escaped}
 use Rattle.cedar_ids.specs.laws.NameTextLaws.{name_of-printed, id_parts}
 
--- ---- what stands before a last quote, and before the first mark
+-- ---- The text before a final quote, and before the first mark
 
 before_quote-end : (x : List ℕ) → before_quote (x ++ 34 ∷ []) ≡ Some x
 unfolding before_quote
@@ -44,7 +44,7 @@ and_false true true = refl
 and_false true false = refl
 and_false false b = refl
 
--- no mark `::"` begins in a text with no quote
+-- A mark `::"` does not begin at `b` if the third byte is not a quote.
 no_start : (b c d : ℕ) (bs : List ℕ) → (34 == d) ≡ false → starts_with nat_eq (b ∷ c ∷ d ∷ bs) (codes "::\"") ≡ false
 no_start b c d bs h = rw h (and_false _ _)
 
@@ -99,22 +99,22 @@ halves-printed u h =
     ∙ first_text-found (printed_name u.name) (escaped u.eid)
     (marks_no_quote u.name.path u.name.basename h.0 (parts_no_quote u.name.basename (id_parts u.name.basename h.1)))
 
--- the printed text of a uid is read as that uid
+-- The printed text of a uid parses to that uid.
 pub uid_reading-printed : (u : UidParts) (t : List ℕ) → IsPrinted u t → uid_reading t ≡ Ok (Some u)
 unfolding uid_reading
 uid_reading-printed u t h = rw (h.2, halves-printed u h.0, name_of-printed u.name h.0, eid_of-escaped u.eid h.1) refl
 
--- ---- the laws
+-- ---- The laws
 
--- each such uid has a text
+-- Every uid with a valid name and an ASCII eid has a printed text.
 pub printed_uid_has_text : (u : UidParts) → IsName u.name → IsTrue (is_ascii u.eid) → IsPrinted u (printed_uid u)
 printed_uid_has_text u n e = (n, e, refl)
 
--- it has one text
+-- A uid has only one printed text.
 pub printed_text_unique : (u : UidParts) (s t : List ℕ) → IsPrinted u s → IsPrinted u t → s ≡ t
 printed_text_unique u s t h k = h.2 ∙ sym k.2
 
--- no text is that of two uids
+-- No text is the printed text of two uids.
 pub printed_uid_injective : (u v : UidParts) (t : List ℕ) → IsPrinted u t → IsPrinted v t → u ≡ v
 printed_uid_injective u v t h k =
     let i : uid_reading t ≡ Ok (Some u) = uid_reading-printed u t h in

@@ -1,4 +1,4 @@
--- The laws of a uid's equality, order and hash.
+-- Laws of the equality, order and hash of a uid's parts.
 use Rattle.std.specs.Prelude.{◌≡◌, true}
 use Rattle.std.proofs.Common.{sym, ap, ◌∙◌}
 use Rattle.std.specs.Bool.{Decides}
@@ -23,7 +23,7 @@ uid_ties x y = both _ _ _ _ (name_ties x.name y.name) (texts_ties x.eid y.eid)
 pub uid_po : IsPartialOrder uid_eq (as_partial_cmp uid_cmp)
 uid_po = po uid_cmp_total uid_ties
 
--- two uids are equal exactly where they are the same
+-- `uid_eq` decides whether two uids have identical parts.
 pub uid_eq-Decides : (x y : UidParts) → Decides (uid_eq x y) (x ≡ y)
 uid_eq-Decides x y = (
   λ e.

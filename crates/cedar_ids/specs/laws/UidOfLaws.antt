@@ -1,4 +1,4 @@
--- The laws of the equality, order and hash of a uid.
+-- Laws of the equality, order and hash of uids.
 use Rattle.std.specs.Prelude.{◌≡◌, true}
 use Rattle.std.proofs.Common.{ap}
 use Rattle.std.specs.Bool.{Decides}
@@ -9,26 +9,26 @@ use Rattle.cedar_ids.specs.declared.entity.EntityUID.{EntityUID}
 use Rattle.cedar_ids.specs.declared.entity.EntityUID.TheVariants as uids
 use Rattle.cedar_ids.specs.UidOf.{same_uid, uid_hash, uid_order, uid_parts}
 
--- `==` is an equivalence
+-- `==` is an equivalence.
 pub same_uid_equiv : IsEquivalence same_uid
 same_uid_equiv = on_equiv uid_parts uid_eq_equiv
 
--- the order is total
+-- The order is total.
 pub uid_order_total : IsTotalOrder uid_order
 uid_order_total = on_total uid_parts uid_cmp_total
 
--- `==` holds of what the order does not tell apart
+-- Two uids are equal if the order reports `Equal`, and only then.
 pub uid_order_ties : (x y : EntityUID) → same_uid x y ≡ eq_by_cmp uid_order x y
 uid_order_ties x y = uid_ties (uid_parts x) (uid_parts y)
 
--- and so it is a partial order
+-- The order is a partial order.
 pub uid_order_po : IsPartialOrder same_uid (as_partial_cmp uid_order)
 uid_order_po = po uid_order_total uid_order_ties
 
 same_parts : (x y : EntityUID) → uid_parts x ≡ uid_parts y → x ≡ y
 same_parts (uids.EntityUID u) (uids.EntityUID v) e = ap uids.EntityUID e
 
--- two uids are equal exactly where they are the same value
+-- `==` decides whether two uids are identical.
 pub same_uid_decides : (x y : EntityUID) → Decides (same_uid x y) (x ≡ y)
 same_uid_decides x y = (
   λ e. same_parts x y ((uid_eq-Decides (uid_parts x) (uid_parts y)).0 e),
@@ -36,6 +36,6 @@ same_uid_decides x y = (
       (uid_eq-Decides (uid_parts x) (uid_parts y)).1 (ap uid_parts e),
 )
 
--- equal uids hash alike
+-- Equal uids have equal hashes.
 pub uid_hash_respects : (x y : EntityUID) → same_uid x y ≡ true → uid_hash x ≡ uid_hash y
 uid_hash_respects x y e = ap uid_hash ((same_uid_decides x y).0 e)

@@ -1,4 +1,4 @@
--- What is read as a uid is its text; and where the first mark of a text stands.
+-- A uid that is parsed from a text has that text. Laws of the first mark of a text.
 use Rattle.std.proofs.Common.{◌≡◌, ◌<◌, ◌≤◌, ℕ, arith, lit<, length-append, List, [], ◌∷◌, ◌++◌, length, drop, Bool}
 use Rattle.std.proofs.Common.{true, false, cond, refl, sym, ap, ◌∙◌, append_assoc, subst, Option, Some, None, Ok, inl}
 use Rattle.std.proofs.Common.{inr, ◌⊎◌, codes}
@@ -38,7 +38,7 @@ onto_some b (Some p) x y e =
     let q : onto_front b p ≡ (x, y) = cc in
     (p.0, ap (λ z. Some (p.0, z)) (ap (λ (z : List ℕ × List ℕ). z.1) q), sym (ap (λ (z : List ℕ × List ℕ). z.0) q))
 
--- what stands around the first p
+-- A text is the part before the first `p`, then `p`, then the part after it.
 first_text_sound : (p s x y : List ℕ) → first_text p s ≡ Some (x, y) → s ≡ x ++ (p ++ y)
 unfolding first_text
 first_text_sound p [] x y e = absurd (cc)
@@ -80,7 +80,7 @@ then_some : (o : Option (List ℕ)) (p : List ℕ) (h : List ℕ × List ℕ) �
 then_some None p h e = absurd (cc)
 then_some (Some x) p h e = (x, refl, e)
 
--- the two halves of a uid's text
+-- The two halves of a text, with the mark and the quote, are the text.
 pub halves_sound : (t n e : List ℕ) → uid_halves t ≡ Some (n, e) → t ≡ n ++ (codes "::\"" ++ (e ++ codes "\""))
 unfolding uid_halves
 halves_sound t n e h =
@@ -107,7 +107,7 @@ halves_some : (o : Option (List ℕ × List ℕ)) (u : UidParts) → reading_of_
 halves_some None u h = absurd (cc)
 halves_some (Some p) u h = (p, refl, h)
 
--- a uid that is read has that text
+-- A uid that is parsed from a text has that text as its printed text.
 pub uid_found : (t : List ℕ) (u : UidParts) → uid_reading t ≡ Ok (Some u) → IsPrinted u t
 unfolding uid_reading
 uid_found t u h =
@@ -124,7 +124,7 @@ uid_found t u h =
           ∙ ap (λ z. printed_name r.0 ++ (codes "::\"" ++ (z ++ codes "\""))) d.1,
     )
 
--- ---- the first mark
+-- ---- The first mark
 
 onto_none : (b : ℕ) (o : Option (List ℕ × List ℕ)) → option_map (onto_front b) o ≡ None → o ≡ None
 onto_none b None e = refl
@@ -133,7 +133,7 @@ onto_none b (Some p) e = absurd (cc)
 no_room : (f p b : List ℕ) → 0 < length p → [] ≡ f ++ (p ++ b) → ⊥
 no_room f p b l e = absurd (omega (arith, length-append f (p ++ b), length-append p b, ap length e))
 
--- a text with no first p has no p
+-- A text without a first `p` contains no `p`.
 first_text_nowhere : (p s f b : List ℕ) → 0 < length p → s ≡ f ++ (p ++ b) → first_text p s ≡ None → ⊥
 unfolding first_text
 first_text_nowhere p [] f b l e h = no_room f p b l e
@@ -150,7 +150,7 @@ first_text_nowhere p (c ∷ cs) (d ∷ ds) b l e h =
       | inr w ↦ let k : cs ≡ ds ++ (p ++ b) = cc in first_text_nowhere p cs ds b l k (onto_none c (first_text p cs) w.1)
     ]
 
--- no p stands before the first one
+-- No occurrence of `p` is before the first one.
 first_text_least : (p s x y f b : List ℕ) → 0 < length p → s ≡ f ++ (p ++ b) → first_text p s ≡ Some (x, y)
     → length x ≤ length f
 unfolding first_text
@@ -179,17 +179,17 @@ first_text_least p (c ∷ cs) x y (d ∷ ds) b l e h =
           omega arith
     ]
 
--- the text before the last quote, at a split
+-- `uid_halves` of a split text splits the text before the final quote at its first mark.
 split_text : (t f b : List ℕ) → IsSplit f b t → first_text (codes "::\"") (f ++ (codes "::\"" ++ b)) ≡ uid_halves t
 split_text t f b h = halves_quote t (f ++ (codes "::\"" ++ b)) (h ∙ sym (append_assoc f (codes "::\"" ++ b) (34 ∷ [])))
 
--- a text with no halves lacks its marks
+-- A text without halves does not contain the marks.
 pub no_marks : (t : List ℕ) → uid_halves t ≡ None → HasMarks t → ⊥
 no_marks t e h =
     first_text_nowhere (codes "::\"") (h.0 ++ (codes "::\"" ++ h.1)) h.0 h.1 (lit< tt) refl (split_text t h.0 h.1 h.2
     ∙ e)
 
--- the halves are those at the first mark
+-- The two halves are those at the first mark.
 pub first_split : (t n e : List ℕ) → uid_halves t ≡ Some (n, e) → IsFirstSplit n e t
 first_split t n e h = (
   halves_sound t n e h,
@@ -197,13 +197,13 @@ first_split t n e h = (
       ∙ h),
 )
 
--- the first half, where it is the text of a name
+-- If the first half is the text of a name, then the text before the first mark is that name.
 pub starts_named : (t m e : List ℕ) (n : NameParts) → uid_halves t ≡ Some (m, e) → IsNameText n m → StartsWithName n t
 starts_named t m e n h k =
     let P : List ℕ → Type 0 = λ x. IsFirstSplit x e t in
     (k.0, (e, subst P k.1 (first_split t m e h)))
 
--- a name before the first mark is the first half
+-- If the text before the first mark is a name, then the first half is the text of that name.
 pub named_half : (t m e : List ℕ) (n : NameParts) → uid_halves t ≡ Some (m, e) → StartsWithName n t → IsNameText n m
 named_half t m e n h k =
     let q : ◌≡◌ {A = Option (List ℕ × List ℕ)} (Some (m, e)) (Some (printed_name n, k.1.0)) =

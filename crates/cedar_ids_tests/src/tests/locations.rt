@@ -1,5 +1,5 @@
-// Where things lie: a row asks what lies where, and is told the start and the end of each place and the text that it is
-// of.
+// Tests of locations. Each case names values. The expected text has the start, the end and the source text of each
+// location.
 use super::{is_equal, is_other};
 use cedar_ids::entity::{Eid, EntityType, EntityUID, EntityUIDImpl};
 use cedar_ids::err::ParseErrors;
@@ -13,7 +13,7 @@ use std::fmt::Write;
 use std::rc::RcStr;
 use std::test::Fail;
 
-// The places of some things, in turn.
+// Writes some locations, one after another.
 fn places(alloc: Global, all: &[Option<&Loc>]) -> Result<String, Fail> {
     let mut text = String::new(alloc);
     for one in all {
@@ -25,14 +25,14 @@ fn places(alloc: Global, all: &[Option<&Loc>]) -> Result<String, Fail> {
     Ok(text)
 }
 
-// A text and a further one behind it.
+// Appends a further text, if it is `Ok`.
 fn with(text: String, more: Result<String, Fail>) -> Result<String, Fail> {
     let mut text = text;
     text.push_str(more?.as_str())?;
     Ok(text)
 }
 
-// A copy of a thing that could be made.
+// Returns a copy of a value, if it is `Ok`.
 fn copied<T: Clone + Drop>(made: Result<T, ParseErrors>) -> Result<T, ParseErrors> {
     match made {
         Ok(x) => {
@@ -44,7 +44,7 @@ fn copied<T: Clone + Drop>(made: Result<T, ParseErrors>) -> Result<T, ParseError
     }
 }
 
-// Where a name that could be made lies.
+// Writes the location of a name.
 fn of_name(alloc: Global, made: Result<Name, ParseErrors>) -> Result<String, Fail> {
     match made {
         Ok(name) => {
@@ -56,7 +56,7 @@ fn of_name(alloc: Global, made: Result<Name, ParseErrors>) -> Result<String, Fai
     }
 }
 
-// Where a type that could be made lies, and its name, by itself too.
+// Writes the locations of a type and of its name, twice: borrowed and moved out.
 fn of_type(alloc: Global, made: Result<EntityType, ParseErrors>) -> Result<String, Fail> {
     match made {
         Ok(ty) => {
@@ -69,7 +69,7 @@ fn of_type(alloc: Global, made: Result<EntityType, ParseErrors>) -> Result<Strin
     }
 }
 
-// Where a uid that could be made lies, its type and what it holds.
+// Writes the locations of a uid, of its type and of its content.
 fn of_uid(alloc: Global, made: Result<EntityUID, ParseErrors>) -> Result<String, Fail> {
     match made {
         Ok(uid) => {
@@ -83,7 +83,7 @@ fn of_uid(alloc: Global, made: Result<EntityUID, ParseErrors>) -> Result<String,
     }
 }
 
-// Where what a uid holds lies, and a copy of it.
+// Writes the locations of a uid's content and of a copy of it.
 fn of_inner(alloc: Global, inner: EntityUIDImpl) -> Result<String, Fail> {
     let copy: Result<EntityUIDImpl, AllocError> = inner.clone();
     let told = match copy {
@@ -103,7 +103,7 @@ fn located(alloc: Global, start: usize, end: usize, src: &str) -> Result<Loc, Al
     Ok(Loc::new(start, end, src))
 }
 
-// The uid `A::"a"` at a place within a text, its type at a place of its own.
+// Creates the uid `A::"a"` with a location inside a text, and with a type that has a location of its own.
 fn told_place(alloc: Global) -> Result<EntityUID, ParseErrors> {
     let eid = Eid::new(String::from_str(alloc, "a")?);
     let ty = EntityType::from_normalized_str(alloc, "A");
@@ -116,13 +116,13 @@ fn told_place(alloc: Global) -> Result<EntityUID, ParseErrors> {
     }
 }
 
-// That uid, of its parts alone.
+// Creates the same uid without a location, from its parts.
 fn bare(alloc: Global) -> Result<EntityUID, ParseErrors> {
     let (ty, eid) = told_place(alloc)?.components();
     Ok(EntityUID::from_components(ty, eid, None))
 }
 
-// A type and the same at another place and at none: where each lies, if they are equal.
+// Writes the locations of a type, of the type with another location, and of the type without one, if all are equal.
 fn of_moved(alloc: Global, ty: &EntityType, loc: &Loc) -> Result<String, Fail> {
     match both(ty.with_loc(Some(loc)).ok(), ty.with_loc(None).ok()) {
         Some((moved, bare)) => {
@@ -139,7 +139,7 @@ fn of_moved(alloc: Global, ty: &EntityType, loc: &Loc) -> Result<String, Fail> {
     }
 }
 
-// Where the type of a text lies that takes another place.
+// Writes the locations of a type, before and after its location is changed.
 fn moved(alloc: Global, text: &str) -> Result<String, Fail> {
     let loc = located(alloc, 1, 5, " A::B")?;
     match EntityType::from_normalized_str(alloc, text) {
@@ -156,7 +156,7 @@ fn moved(alloc: Global, text: &str) -> Result<String, Fail> {
     }
 }
 
-// The name of a text, in the namespace of another or in none.
+// Returns the name with this text, inside an optional namespace.
 fn qualified(alloc: Global, namespace: &str, text: &str) -> Result<Name, ParseErrors> {
     let name = Name::from_normalized_str(alloc, text)?;
     let namespace = Name::from_normalized_str(alloc, namespace).ok();
@@ -166,7 +166,7 @@ fn qualified(alloc: Global, namespace: &str, text: &str) -> Result<Name, ParseEr
     Ok(made?)
 }
 
-// The type of a text, in the namespace of another.
+// Returns the type with this text, inside an optional namespace.
 fn qualified_type(alloc: Global, namespace: &str, text: &str) -> Result<EntityType, ParseErrors> {
     let ty: EntityType = Name::from_normalized_str(alloc, text)?.into();
     let namespace = Name::from_normalized_str(alloc, namespace).ok();
@@ -223,7 +223,7 @@ fn things_lie_where_they_are_read_or_told(rt: HostRuntime) -> Result<(), Fail> {
     all_hold(rt.alloc(), ROWS, row)
 }
 
-// Whether a location that could be made is equal to its copy, and differs in each part.
+// Returns whether a location equals its copy, and differs from locations with one other field.
 fn holds_its_parts(alloc: Global) -> bool {
     match located(alloc, 2, 5, "ab A") {
         Ok(loc) => {

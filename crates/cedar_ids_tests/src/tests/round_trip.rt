@@ -1,4 +1,4 @@
-// Uids that are printed and read back: nothing is lost but where they stood.
+// Uids that are printed and parsed again are equal to the original. Only locations are lost.
 ghost use Rattle.std.specs.Prelude.{◌≡◌, IfOk, IsTrue};
 ghost use Rattle.cedar_ids.specs.UidOf.{uid_parts};
 ghost use Rattle.cedar_ids.specs.Escape.{is_ascii};
@@ -8,8 +8,7 @@ use cedar_ids::entity::EntityUID;
 use cedar_ids::err::ParseErrors;
 use std::alloc::Global;
 
-// Prints a uid and reads it again. That this gives the uid back follows from the contracts of the three
-// calls alone.
+// Prints a uid and parses the text. That the result is the uid follows from the contracts of the three calls.
 fn read_again(alloc: Global, uid: &EntityUID) -> Result<EntityUID, ParseErrors>
     ensures { IsTrue (is_ascii (uid_parts uid.now).eid) → IfOk result (λ u. u ≡ uid.now) }
 {
@@ -18,7 +17,7 @@ fn read_again(alloc: Global, uid: &EntityUID) -> Result<EntityUID, ParseErrors>
     EntityUID::from_normalized_str(alloc, text.as_str())
 }
 
-// Whether the uid of type `A` with this eid reads back.
+// Returns whether the uid of type `A` with this eid is parsed back from its text.
 fn reads_back(alloc: Global, eid: &str) -> bool {
     match EntityUID::with_eid_and_type(alloc, "A", eid) {
         Ok(uid) => {

@@ -1,5 +1,4 @@
-// What texts are read as, how things are written, and how they are ordered: a word, the texts that are asked, and what
-// is told.
+// Tests of parsing, printing and order. Each case has a word, the input texts and the expected text.
 use super::is_equal;
 use cedar_ids::entity::{ACTION_ENTITY_TYPE, Eid, EntityType, EntityUID};
 use cedar_ids::err::ParseErrors;
@@ -14,7 +13,7 @@ use std::cmp::Ordering;
 use std::fmt::Display;
 use std::test::Fail;
 
-// The text of a thing that could be made, or of the refusal.
+// Writes a value or an error.
 fn told<T: Display + Drop>(alloc: Global, made: Result<T, ParseErrors>) -> Result<String, Fail> {
     match made {
         Ok(x) => written(alloc, x),
@@ -22,7 +21,7 @@ fn told<T: Display + Drop>(alloc: Global, made: Result<T, ParseErrors>) -> Resul
     }
 }
 
-// What a thing is written as, if all is right of it.
+// Writes a value if `right` is true, else a failure text.
 fn shown<T: Display>(alloc: Global, x: &T, right: bool) -> Result<String, Fail> {
     if right {
         return Ok(x.to_string(alloc)?);
@@ -30,7 +29,7 @@ fn shown<T: Display>(alloc: Global, x: &T, right: bool) -> Result<String, Fail> 
     owned(alloc, "another text, or another copy")
 }
 
-// The text of an identifier, if it has it and its copy is equal, or of the refusal.
+// Parses an identifier and writes it, if it has the right text and equals its copy. Writes the error otherwise.
 fn id(alloc: Global, text: &str) -> Result<String, Fail> {
     match Id::from_normalized_str(alloc, text) {
         Ok(id) => {
@@ -43,7 +42,7 @@ fn id(alloc: Global, text: &str) -> Result<String, Fail> {
     }
 }
 
-// The same of any identifier, reserved ones too.
+// Does the same with an identifier that may be reserved.
 fn any_id(alloc: Global, text: &str) -> Result<String, Fail> {
     match AnyId::from_normalized_str(alloc, text) {
         Ok(id) => {
@@ -56,7 +55,7 @@ fn any_id(alloc: Global, text: &str) -> Result<String, Fail> {
     }
 }
 
-// A name and the type that it is, each within a namespace, or in none.
+// Writes a name and the type with this name, each inside an optional namespace.
 fn qualified(name: Name, alloc: Global, namespace: Option<&Name>) -> Result<String, AllocError> {
     let ty: EntityType = name.into();
     let named = ty.name().qualify_with_name(alloc, namespace);
@@ -73,7 +72,7 @@ fn qualified(name: Name, alloc: Global, namespace: Option<&Name>) -> Result<Stri
     }
 }
 
-// The name and the type of a text within the namespace of another.
+// Writes the name and the type with this text, inside a namespace.
 fn within(alloc: Global, namespace: &str, text: &str) -> Result<String, Fail> {
     let namespace = Name::from_normalized_str(alloc, namespace)?;
     let told = match Name::from_normalized_str(alloc, text) {
@@ -84,7 +83,7 @@ fn within(alloc: Global, namespace: &str, text: &str) -> Result<String, Fail> {
     told
 }
 
-// The name and the type of a text within no namespace.
+// Writes the name and the type with this text, without a namespace.
 fn alone(alloc: Global, text: &str) -> Result<String, Fail> {
     let name = Name::from_normalized_str(alloc, text)?;
     Ok(qualified(name, alloc, None)?)
@@ -101,14 +100,14 @@ fn basename(alloc: Global, text: &str) -> Result<String, Fail> {
     }
 }
 
-// Whether a policy id has this text, and is equal to one that takes a text over, and to its copy.
+// Returns whether a policy id has this text, and equals an id made from an owned text and its own copy.
 fn is_policy(id: &PolicyID, text: &str, other: PolicyID) -> bool {
     let told = id.as_ref() == text && other == *id && is_equal(id.clone(), id);
     drop(other);
     told
 }
 
-// What the policy id of a text is written as, if it has the text in each way, and hands it out.
+// Writes the policy id with this text, if all its accessors return the text.
 fn policy(alloc: Global, text: &str) -> Result<String, Fail> {
     let id = PolicyID::from_string(alloc, text)?;
     match String::from_str(alloc, text) {
@@ -148,7 +147,7 @@ fn escaped(alloc: Global, text: &str) -> Result<String, Fail> {
     }
 }
 
-// The uid of a type and an eid.
+// Creates the uid with this type and eid.
 fn made(alloc: Global, ty: &str, text: &str) -> Result<EntityUID, ParseErrors> {
     let eid = eid(alloc, text)?;
     match EntityType::from_normalized_str(alloc, ty) {
@@ -160,8 +159,7 @@ fn made(alloc: Global, ty: &str, text: &str) -> Result<EntityUID, ParseErrors> {
     }
 }
 
-// The text, the type and the eid of a uid that could be made, and whether it and its type are an action's; or the
-// refusal.
+// Writes the text, type and eid of a uid, and whether the uid and its type are an action's. Writes the error otherwise.
 fn parts(alloc: Global, made: Result<EntityUID, ParseErrors>) -> Result<String, Fail> {
     match made {
         Ok(uid) => {
@@ -179,7 +177,7 @@ fn parts(alloc: Global, made: Result<EntityUID, ParseErrors>) -> Result<String, 
     }
 }
 
-// The type and the eid that a uid is taken apart into.
+// Writes the type and the eid that a uid is split into.
 fn apart(alloc: Global, text: &str) -> Result<String, Fail> {
     let (ty, eid) = EntityUID::from_normalized_str(alloc, text)?.components();
     let told = format!(in alloc; "{ty} {}", eid.as_ref());
@@ -204,7 +202,7 @@ fn refusal(alloc: Global, word: &str) -> Result<String, Fail> {
     written(alloc, error)
 }
 
-// What is told of a word and the texts behind it.
+// Runs one case: a word and its input texts.
 fn answer(alloc: Global, word: &str, text: &str) -> Result<String, Fail> {
     let (one, other) = text.split_once('|').unwrap_or((text, ""));
     match word {
@@ -229,7 +227,7 @@ fn answer(alloc: Global, word: &str, text: &str) -> Result<String, Fail> {
     }
 }
 
-// What is told of a row.
+// Runs one case, given as one text.
 fn row(alloc: Global, asked: &str) -> Result<String, Fail> {
     let asked = meant(alloc, asked)?;
     let (word, text) = asked.split_once('|').unwrap_or((asked.as_str(), ""));
@@ -238,7 +236,7 @@ fn row(alloc: Global, asked: &str) -> Result<String, Fail> {
     told
 }
 
-// How two things stand, if each way to compare them says so.
+// Returns the order of two values, if all comparison operators agree.
 fn order<T: Ord + Drop, E: Drop>(x: Result<T, E>, y: Result<T, E>) -> Option<Ordering> {
     match both(x.ok(), y.ok()) {
         Some((x, y)) => {
@@ -252,7 +250,7 @@ fn order<T: Ord + Drop, E: Drop>(x: Result<T, E>, y: Result<T, E>) -> Option<Ord
     }
 }
 
-// How the things of two texts stand.
+// Returns the order of the values that two texts are parsed to.
 fn stand(alloc: Global, word: &str, x: &str, y: &str) -> Option<Ordering> {
     match word {
         "id" => order(
@@ -284,7 +282,7 @@ fn stand(alloc: Global, word: &str, x: &str, y: &str) -> Option<Ordering> {
     }
 }
 
-// Whether the things of some texts, parted by commas, stand as their places do.
+// Checks that the values of some texts, separated by commas, are in ascending order.
 fn ascend(alloc: Global, word: &str, texts: &str) -> Result<String, Fail> {
     for (i, x) in texts.split(',').enumerate() {
         for (j, y) in texts.split(',').enumerate() {

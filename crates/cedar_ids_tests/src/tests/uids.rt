@@ -1,4 +1,4 @@
-// What takes more than a row: things in several forms, in sets, past a length.
+// Tests that do not fit into a case: values in several forms, values in sets, and long texts.
 use super::{is_equal, is_other};
 use cedar_ids::entity::{Eid, EntityType, EntityUID, EntityUIDImpl};
 use cedar_ids::err::ParseErrors;
@@ -10,7 +10,7 @@ use std::collections::HashSet;
 use std::hash::Hash;
 use std::test::Fail;
 
-// Whether the list of 1, 2 and 3 is written at all, and has its head and its tail.
+// Returns whether the list of 1, 2 and 3 can be printed, and has the right head and tail.
 fn has_head_and_tail(alloc: Global) -> bool {
     match vec![in alloc; 2, 3] {
         Ok(tail) => {
@@ -33,13 +33,13 @@ fn a_list_that_is_not_empty_has_a_head_and_a_tail(rt: HostRuntime) {
     assert!(rt; has_head_and_tail(rt.alloc()));
 }
 
-// Whether a name that ends in `B` keeps that as a type, lent as a name too.
+// Returns whether a name that ends in `B` is unchanged as a type, and also when borrowed as a name.
 fn keeps_as_a_type(ty: &EntityType) -> bool {
     let lent: &Name = ty.as_ref();
     ty.name().basename().as_ref() == "B" && lent.basename().as_ref() == "B"
 }
 
-// Whether `A::B` stays what it is as a type and as a name again.
+// Returns whether `A::B` is unchanged when converted to a type and back to a name.
 fn goes_and_comes(alloc: Global) -> bool {
     match Name::from_normalized_str(alloc, "A::B") {
         Ok(name) => {
@@ -61,7 +61,7 @@ fn a_type_and_its_name_become_each_other(rt: HostRuntime) {
     assert!(rt; goes_and_comes(rt.alloc()));
 }
 
-// The uid of a type and an eid, at no place.
+// Creates the uid with this type and eid, without a location.
 fn made(alloc: Global, ty: &str, eid: &str) -> Result<EntityUID, ParseErrors> {
     let eid = Eid::new(String::from_str(alloc, eid)?);
     match EntityType::from_normalized_str(alloc, ty) {
@@ -73,7 +73,7 @@ fn made(alloc: Global, ty: &str, eid: &str) -> Result<EntityUID, ParseErrors> {
     }
 }
 
-// Whether a uid is equal to itself, to the same made of parts, and differs in its type and in its eid.
+// Returns whether a uid equals itself and a uid with the same parts, and differs from uids with another type or eid.
 fn is_told_by_its_parts(alloc: Global, first: EntityUID) -> bool {
     let told = first == first
         && is_equal(made(alloc, "test_entity_type", "foo"), &first)
@@ -84,7 +84,7 @@ fn is_told_by_its_parts(alloc: Global, first: EntityUID) -> bool {
     told
 }
 
-// Whether that is so of a uid that could be made.
+// Returns whether that is true of a uid, if it is `Ok`.
 fn is_told<E: Drop>(alloc: Global, first: Result<EntityUID, E>) -> bool {
     match first {
         Ok(first) => is_told_by_its_parts(alloc, first),
@@ -106,7 +106,7 @@ fn equal_uids_have_equal_parts(rt: HostRuntime) {
     );
 }
 
-// Whether two things are the same in each way of comparing, and a set takes the first and the second no more.
+// Returns whether two values are equal in each comparison, and a set accepts only the first of them.
 fn set_takes_one<T: Ord + Hash + Drop>(alloc: Global, first: T, second: T) -> bool {
     let same = first == second && first.cmp(&second).is_eq();
     let mut set = HashSet::new(alloc);
@@ -117,7 +117,7 @@ fn set_takes_one<T: Ord + Hash + Drop>(alloc: Global, first: T, second: T) -> bo
     same && told
 }
 
-// Whether the location of `A::"a"`, as it is read, is looked at by no way of comparing and by no set.
+// Returns whether all comparisons and sets ignore the location of `A::"a"` as it is parsed.
 fn locations_are_ignored(alloc: Global) -> bool {
     let placed = EntityUID::from_normalized_str(alloc, "A::\"a\"");
     match both(placed.ok(), made(alloc, "A", "a").ok()) {
@@ -134,7 +134,7 @@ fn equality_order_and_hash_ignore_the_location(rt: HostRuntime) {
     assert!(rt; locations_are_ignored(rt.alloc()));
 }
 
-// Whether a copy of what a uid holds is the same in each way of comparing, and lies where that lies.
+// Returns whether a copy of a uid's content is equal in each comparison, and has the same location.
 fn is_copied(inner: EntityUIDImpl) -> bool {
     let told = match inner.clone() {
         Ok(copy) => {
@@ -155,7 +155,7 @@ fn what_a_uid_holds_is_copied(rt: HostRuntime) -> Result<(), Fail> {
     Ok(())
 }
 
-// A uid of a thousand names and a thousand escapes.
+// Returns the text of a uid with a thousand names and a thousand escapes.
 fn long_text(alloc: Global) -> Result<String, AllocError> {
     let mut text = String::new(alloc);
     for _ in 0..1000 {
@@ -169,7 +169,7 @@ fn long_text(alloc: Global) -> Result<String, AllocError> {
     Ok(text)
 }
 
-// Whether the uid of a text has an eid of so many bytes, and is written as the text.
+// Returns whether the uid with this text has an eid of this length in bytes, and is printed as the text.
 fn reads_with_length(alloc: Global, text: &str, length: usize) -> bool {
     match EntityUID::from_normalized_str(alloc, text) {
         Ok(uid) => {

@@ -1,4 +1,4 @@
--- What `is_ascii` says, as a test of each byte.
+-- `is_ascii` as a test of each byte.
 use Rattle.std.proofs.Common.{◌≡◌, ℕ, zero, suc, ◌<◌, List, [], ◌∷◌, get_or, Bool, true, false, ◌&&◌, refl, sym, arith}
 use Rattle.std.proofs.Common.{MatchBool}
 use Rattle.std.proofs.lemmas.Bool.{false_from_ne_true}

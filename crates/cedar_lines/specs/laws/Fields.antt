@@ -1,28 +1,29 @@
--- Where tabs stand in a line, and where a field ends.
+-- The places of tabs in a line, and the ends of its fields.
 use Rattle.std.specs.Prelude.{◌≡◌, ℕ, zero, suc, ◌+◌, ◌-◌, ◌<◌, ◌≤◌, List, [], ◌∷◌, ◌==◌, true, false, length, min, take, drop, slice_index}
 use Rattle.std.proofs.Common.{ap, subst, sym, ◌∙◌, refl, arith, length-drop, get_or-drop, drop-drop}
 use Rattle.std.specs.Int.{bit_at}
 use Rattle.std.specs.List.{slice_split, onto_first}
 use Rattle.std.proofs.lemmas.List.Splits.{slice_split-cons_yes, slice_split-cons_no}
 
--- a tab stands at this place
+-- Whether there is a tab at a place.
 abbrev pub HasTabAt : List ℕ → ℕ → Type 0
 HasTabAt xs k = (slice_index xs k == 9) ≡ true
 
--- no byte from a place up to another is a tab
+-- Whether there is no tab from one place up to another.
 abbrev pub HasNoTabIn : List ℕ → ℕ → ℕ → Type 0
 HasNoTabIn xs from to = (k : ℕ) → from ≤ k → k < to → (slice_index xs k == 9) ≡ false
 
--- of the places from one up to another, bit k of a mask is set where a tab stands k places on, and no other bit is
+-- Whether a mask marks the tabs from one place up to another. Bit `k` is set exactly if there is a tab at the place
+-- `from + k`.
 pub record MarksTabs (xs : List ℕ) (from to m : ℕ) : Type 0 where
   pub each : (k : ℕ) → from + k < to → HasTabAt xs (from + k) → bit_at m k ≡ 1
   pub only : (k : ℕ) → bit_at m k ≡ 1 → (from + k < to) × HasTabAt xs (from + k)
 
--- where a look at 64 bytes from a place on ends
+-- The end of a block of 64 bytes from a place on.
 abbrev pub block_end : List ℕ → ℕ → ℕ
 block_end xs from = min (length xs) (from + 64)
 
--- the bytes before the first tab are the first field, and those after it the others
+-- The bytes before the first tab are the first field. The bytes after it are the other fields.
 ends_before : (xs : List ℕ) (i : ℕ) → i < length xs → HasTabAt xs i → HasNoTabIn xs 0 i
     → slice_split (λ b. b == 9) xs ≡ take i xs ∷ slice_split (λ b. b == 9) (drop (suc i) xs)
 ends_before [] i l t n = absurd (omega arith)
@@ -31,7 +32,7 @@ ends_before (x ∷ xs) (suc i) l t n =
     slice_split-cons_no (λ b. b == 9) x xs (n 0 (omega arith) (omega arith))
     ∙ ap (onto_first x) (ends_before xs i (omega arith) t (λ k low high. n (suc k) (omega arith) (omega arith)))
 
--- bytes without a tab are one field
+-- Bytes without a tab are one field.
 only_field : (xs : List ℕ) → HasNoTabIn xs 0 (length xs) → slice_split (λ b. b == 9) xs ≡ xs ∷ []
 only_field [] n = refl
 only_field (x ∷ xs) n = slice_split-cons_no (λ b. b == 9) x xs (n 0 (omega arith) (omega arith))
@@ -41,7 +42,7 @@ later : (xs : List ℕ) (from to n : ℕ) → n + from ≤ to → HasNoTabIn xs 
 later xs from to n l none k low high =
     ap (λ b. b == 9) (get_or-drop from xs k 0) ∙ none (from + k) (omega arith) (omega arith)
 
--- the bytes from a place up to the first tab behind it are a field, and those after the tab the others
+-- The bytes from a place up to the next tab are a field. The bytes after the tab are the other fields.
 pub next_field : (xs : List ℕ) (from tab : ℕ) → from ≤ tab → tab < length xs → HasTabAt xs tab → HasNoTabIn xs from tab
     → slice_split (λ b. b == 9) (drop from xs)
     ≡ take (tab - from) (drop from xs) ∷ slice_split (λ b. b == 9) (drop (tab + 1) xs)
@@ -55,13 +56,13 @@ next_field xs from tab low high t none =
     ∙ ap (λ ys. take (tab - from) (drop from xs) ∷ slice_split (λ b. b == 9) ys)
     (drop-drop (suc (tab - from)) from xs ∙ ap (λ k. drop k xs) next)
 
--- the bytes from a place on are the last field, if there is no tab among them
+-- The bytes from a place on are the last field, if there is no tab among them.
 pub last_field : (xs : List ℕ) (from : ℕ) → from ≤ length xs → HasNoTabIn xs from (length xs)
     → slice_split (λ b. b == 9) (drop from xs) ≡ drop from xs ∷ []
 last_field xs from l none =
     only_field (drop from xs) (later xs from (length xs) _ (omega (arith, length-drop from xs)) none)
 
--- from a place on, the tabs before another are those that a mask marks
+-- Whether a mask marks the tabs from the place `start` up to `to`. Bit `k` belongs to the place `from + k`.
 pub record MarksTabsFrom (xs : List ℕ) (start from to m : ℕ) : Type 0 where
   pub each : (k : ℕ) → start ≤ k → k < to → HasTabAt xs k → (from ≤ k) × (bit_at m (k - from) ≡ 1)
   pub only : (k : ℕ) → bit_at m k ≡ 1 → (start ≤ from + k) × (from + k < to) × HasTabAt xs (from + k)

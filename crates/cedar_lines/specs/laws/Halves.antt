@@ -3,11 +3,11 @@ use Rattle.std.specs.Prelude.{◌≡◌, ◌++◌, List, ℕ, codes}
 use Rattle.cedar_ids.specs.Name.{NameParts}
 use Rattle.cedar_ids.specs.TextOf.{IsNameText}
 
--- this is a text of the name, and `::"`
+-- Whether a text is a text of the name, and `::"`.
 abbrev pub IsMarked : NameParts → List ℕ → Type 0
 IsMarked n marked = (name : List ℕ) × IsNameText n name × (marked ≡ name ++ codes "::\"")
 
--- the text is a text of the name, `::"`, what is between the quotes, and a `"`
+-- Whether a text is a text of the name, `::"`, the text `between`, and a `"`.
 abbrev pub IsMadeOf : NameParts → List ℕ → List ℕ → Type 0
 IsMadeOf n between text =
     (name : List ℕ) × IsNameText n name × (text ≡ name ++ (codes "::\"" ++ (between ++ codes "\"")))

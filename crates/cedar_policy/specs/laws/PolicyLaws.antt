@@ -1,4 +1,4 @@
--- The laws of the equality of policies.
+-- Laws of the equality of policies.
 use Rattle.std.specs.Prelude.{◌≡◌, ℕ, List, true, Option, Some, None, refl}
 use Rattle.std.proofs.Common.{sym, ap, ◌∙◌}
 use Rattle.std.specs.Bool.{Decides}
@@ -13,7 +13,7 @@ use Rattle.cedar_binding.specs.laws.EnvLaws.{same_env_equiv, same_env_decides}
 use Rattle.cedar_policy.specs.Policies.{PolicyParts}
 use Rattle.cedar_policy.specs.PolicyEquality.{same_policy}
 
--- it is an equivalence
+-- `==` is an equivalence.
 pub same_policy_equiv : IsEquivalence same_policy
 same_policy_equiv =
     and_equiv (on_equiv (λ (p : PolicyParts). p.template) same_body_equiv)
@@ -26,7 +26,7 @@ same_link None (Some j) e = absurd (cc)
 same_link (Some i) None e = absurd (cc)
 same_link (Some i) (Some j) e = ap Some ((same_text_decides i j).0 e)
 
--- two policies are equal exactly where they are the same
+-- `==` decides whether two policies are identical.
 pub same_policy_decides : (p q : PolicyParts) → Decides (same_policy p q) (p ≡ q)
 same_policy_decides p q = (
   λ e.

@@ -1,4 +1,4 @@
--- The slots of a policy's template, and what filling them leaves.
+-- The slots of a policy's template, and the constraints with filled slots.
 use Rattle.std.specs.Prelude.{◌≡◌, List, [], ◌∷◌, ◌++◌, Bool, true, false, ◌||◌, Option, Some, None, if◌then◌else◌}
 use Rattle.std.specs.Prelude.{is_some, refl}
 use Rattle.std.proofs.Common.{ap, subst, sym, ◌∙◌}
@@ -50,7 +50,7 @@ not_there : (s : SlotId) (h : Bool) → list_any (same_slot s) (if h then s ∷ 
 not_there s true e = absurd (false≢true (sym (neither_left (same_slot s s) false e) ∙ (same_slot_decides s s).1 refl))
 not_there s false e = refl
 
--- the clause's slots, with the resource's, the action's and then the principal's behind them, are those of the body
+-- The slots of the clause, followed by the resource's, the action's and the principal's, are the slots of the body.
 pub slots_in_turn : (b : BodyParts) →
     ((clause_slots b.clause ++ constraint_slots variables.Resource b.resource) ++ rule_slots b.action)
     ++ constraint_slots variables.Principal b.principal ≡ body_slots b
@@ -61,14 +61,14 @@ slots_in_turn b =
     ++ constraint_slots variables.Principal b.principal)
     ∙ sym (body_slots-parts b)
 
--- what is none of a body's slots is none of those behind the clause's
+-- A slot that is not in the body is not in the constraints.
 behind_clause : (s : SlotId) (b : BodyParts) → is_among (body_slots b) s ≡ false →
     list_any (same_slot s) (constraint_slots variables.Resource b.resource
     ++ (rule_slots b.action ++ constraint_slots variables.Principal b.principal)) ≡ false
 behind_clause s b h = not_after (same_slot s) (clause_slots b.clause) _
     (ap (λ xs. is_among xs s) (sym (body_slots-parts b)) ∙ h)
 
--- where the principal's slot is none of a body's slots its constraint does not refer to it
+-- If the principal's slot is not in the body, the principal's constraint does not refer to it.
 principal_without_slot : (b : BodyParts) → is_among (body_slots b) Principal ≡ false → has_slot b.principal ≡ false
 principal_without_slot b h =
     not_there Principal (has_slot b.principal)
@@ -76,14 +76,14 @@ principal_without_slot b h =
     (not_after (same_slot Principal) (constraint_slots variables.Resource b.resource) _
     (behind_clause Principal b h)))
 
--- and so with the action's
+-- If the action's slot is not in the body, the action's constraint does not refer to it.
 action_without_slot : (b : BodyParts) → is_among (body_slots b) Action ≡ false → rule_has_slot b.action ≡ false
 action_without_slot b h =
     not_there Action (rule_has_slot b.action)
     (not_before (same_slot Action) (rule_slots b.action) _
     (not_after (same_slot Action) (constraint_slots variables.Resource b.resource) _ (behind_clause Action b h)))
 
--- and so with the resource's
+-- If the resource's slot is not in the body, the resource's constraint does not refer to it.
 resource_without_slot : (b : BodyParts) → is_among (body_slots b) Resource ≡ false → has_slot b.resource ≡ false
 resource_without_slot b h =
     not_there Resource (has_slot b.resource) (not_before (same_slot Resource)
@@ -94,12 +94,12 @@ filled_where : (o : Option UidParts) (c : Constraint) → (o ≡ None → has_sl
 filled_where None c f = f refl
 filled_where (Some u) c f = has_slot-filled u c
 
--- where a policy binds no uid to the principal's slot its template does not refer to that
+-- If a policy binds no principal, its template's constraint on the principal has no slot.
 pub principal_unbound : (p : PolicyParts) → BindsExactly (body_slots p.template) p.env → p.env Principal ≡ None
     → has_slot p.template.principal ≡ false
 principal_unbound p f e = principal_without_slot p.template (sym (f Principal) ∙ ap is_some e)
 
--- so what the principal of a policy has to be holds no slot
+-- The constraint on a policy's principal has no slot.
 pub principal_holds_no_slot : (p : PolicyParts) → BindsExactly (body_slots p.template) p.env
     → has_slot (principal_of p) ≡ false
 principal_holds_no_slot p f = filled_where (p.env Principal) p.template.principal (principal_unbound p f)
@@ -109,7 +109,7 @@ filled_rule_where : (o : Option UidParts) (a : ActionRule) → (o ≡ None → r
 filled_rule_where None a f = f refl
 filled_rule_where (Some u) a f = rule_has_slot-filled u a
 
--- and so with the action
+-- If a policy binds no action, its template's constraint on the action has no slot.
 pub action_unbound : (p : PolicyParts) → BindsExactly (body_slots p.template) p.env → p.env Action ≡ None
     → rule_has_slot p.template.action ≡ false
 action_unbound p f e = action_without_slot p.template (sym (f Action) ∙ ap is_some e)
@@ -118,7 +118,7 @@ pub action_holds_no_slot : (p : PolicyParts) → BindsExactly (body_slots p.temp
     → rule_has_slot (action_of p) ≡ false
 action_holds_no_slot p f = filled_rule_where (p.env Action) p.template.action (action_unbound p f)
 
--- and so with the resource
+-- If a policy binds no resource, its template's constraint on the resource has no slot.
 pub resource_unbound : (p : PolicyParts) → BindsExactly (body_slots p.template) p.env → p.env Resource ≡ None
     → has_slot p.template.resource ≡ false
 resource_unbound p f e = resource_without_slot p.template (sym (f Resource) ∙ ap is_some e)
@@ -127,7 +127,7 @@ pub resource_holds_no_slot : (p : PolicyParts) → BindsExactly (body_slots p.te
     → has_slot (resource_of p) ≡ false
 resource_holds_no_slot p f = filled_where (p.env Resource) p.template.resource (resource_unbound p f)
 
--- a body that constrains nothing has the slots of its clause
+-- A body whose constraints allow any request, and whose clause has no slots, has no slots.
 pub unconstrained_slots : (b : BodyParts) (e : ExprTree) → b.principal ≡ any → b.action ≡ any_action → b.resource ≡ any
     → b.clause ≡ Some e → slots_of e ≡ [] → body_slots b ≡ []
 unconstrained_slots b e p a r c h =
@@ -137,7 +137,7 @@ unconstrained_slots b e p a r c h =
     ∙ append-nil (slots_of e)
     ∙ h
 
--- what is no link is the static policy of its template
+-- A policy without a link is the static policy of its template.
 pub unlinked_is_static : (p : PolicyParts) → IsPolicy p → p.link ≡ None → p ≡ static_policy p.template
 unlinked_is_static p h e =
     let nothing = nothing_bound p.env (subst (λ slots. BindsExactly slots p.env) (h.unlinked e) h.total.exactly) in

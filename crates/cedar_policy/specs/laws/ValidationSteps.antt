@@ -1,4 +1,4 @@
--- What each check of a template answers.
+-- The results of each check of a template.
 use Rattle.std.specs.Prelude.{◌≡◌, List, [], map, Option, Some, None, Result, Ok, Err}
 use Rattle.cedar_ids.specs.Name.{NameParts}
 use Rattle.cedar_ids.specs.NonEmpties.{all_of}
@@ -15,7 +15,8 @@ use Rattle.cedar_terms.specs.ExprTree.{ExprTree}
 use Rattle.cedar_action.specs.Rules.{ActionRule}
 use Rattle.cedar_policy.specs.Validation.{HasActions, IsTemplateFault, clause_fault}
 
--- a check that refuses the first of some slots, and nothing but that
+-- Whether a check returns `Ok` if there are no slots, else the first of them. `Memory` is always possible, and other
+-- errors are not.
 abbrev pub HasNoSlot : {A : Type 0} → Result A TemplateValidationError → List SlotId → Type 0
 HasNoSlot (Ok x) slots = slots ≡ []
 HasNoSlot (Err (SlotsInConditionClause s)) slots = IsFirst s slots
@@ -24,7 +25,8 @@ HasNoSlot (Err SlotCacheMismatch) slots = ⊥
 HasNoSlot (Err (InvalidExpression e)) slots = ⊥
 HasNoSlot (Err Memory) slots = Unit {0}
 
--- a check that refuses some uids, all of them, and nothing but that
+-- Whether a check returns `Ok` if there are no uids, else all of them. `Memory` is always possible, and other errors
+-- are not.
 abbrev pub HasOnlyActions : {A : Type 0} → Result A TemplateValidationError → List UidParts → Type 0
 HasOnlyActions (Ok x) uids = uids ≡ []
 HasOnlyActions (Err (SlotsInConditionClause s)) uids = ⊥
@@ -33,7 +35,8 @@ HasOnlyActions (Err SlotCacheMismatch) uids = ⊥
 HasOnlyActions (Err (InvalidExpression e)) uids = ⊥
 HasOnlyActions (Err Memory) uids = Unit {0}
 
--- a check that refuses a function, if there is one, and nothing but that
+-- Whether a check returns `Ok` if there is no function, else the function. `Memory` is always possible, and other
+-- errors are not.
 abbrev pub HasOnlyKnown : {A : Type 0} → Result A TemplateValidationError → Option NameParts → Type 0
 HasOnlyKnown (Ok x) fault = fault ≡ None
 HasOnlyKnown (Err (SlotsInConditionClause s)) fault = ⊥
@@ -43,7 +46,7 @@ HasOnlyKnown (Err (InvalidExpression (exprs.UnknownFunction f))) fault = fault �
 HasOnlyKnown (Err (InvalidExpression exprs.Memory)) fault = ⊥
 HasOnlyKnown (Err Memory) fault = Unit {0}
 
--- `Ok` where there is no fault, else the first one
+-- Whether a check returns `Ok` if there is no error, else the first one.
 abbrev pub TellsFirstFault : {A : Type 0} → Result A TemplateValidationError → Option ExprTree → ActionRule → Type 0
 TellsFirstFault (Ok x) c a = HasActions c a × (clause_fault c ≡ None)
 TellsFirstFault (Err e) c a = IsTemplateFault e c a

@@ -1,4 +1,4 @@
--- Which slots the fields of a line have named, and the bindings of those alone.
+-- The slots that the fields of a line have named, and the bindings of only these slots.
 use Rattle.std.specs.Prelude.{◌≡◌, List, [], ◌∷◌, Bool, true, false, not, ◌||◌, ◌&&◌, Option, Some, None, is_some, refl}
 use Rattle.std.specs.Prelude.{if◌then◌else◌}
 use Rattle.std.specs.List.{list_all}
@@ -15,31 +15,31 @@ use Rattle.cedar_binding.specs.Bindings.{EnvParts, binds}
 use Rattle.cedar_policy_lines.specs.PolicyCommand.{bound_more}
 use Rattle.cedar_policy_lines.specs.declared.named.NamedSlots.{NamedSlots}
 
--- whether a slot is named
+-- Whether a slot is named.
 abbrev pub is_named : NamedSlots → SlotId → Bool
 is_named n Principal = n.principal
 is_named n Action = n.action
 is_named n Resource = n.resource
 
--- the bindings of the slots that are named
+-- The bindings of the named slots.
 abbrev pub named_alone : NamedSlots → EnvParts → EnvParts
 named_alone n e s = if is_named n s then e s else None
 
--- bindings in which a slot is not bound, unless it is named
+-- The bindings without this slot, unless it is named.
 abbrev pub bound_if : Bool → SlotId → EnvParts → EnvParts
 bound_if v s e r = if same_slot r s && not v then None else e r
 
--- a slot that is named and bound is bound among those that are named
+-- A slot that is named and bound is bound in the bindings of the named slots.
 pub named_is_bound : (n : NamedSlots) (e : EnvParts) (s : SlotId) → is_named n s ≡ true → binds e s ≡ true
     → binds (named_alone n e) s ≡ true
 named_is_bound n e s v b = ap (λ w. is_some (if w then e s else None)) v ∙ b
 
--- a slot that is not named is not bound among those that are
+-- A slot that is not named is not bound in the bindings of the named slots.
 pub unnamed_is_unbound : (n : NamedSlots) (e : EnvParts) (s : SlotId) → is_named n s ≡ false
     → binds (named_alone n e) s ≡ false
 unnamed_is_unbound n e s v = ap (λ w. is_some (if w then e s else None)) v
 
--- where a slot is named and bound more, each that is named is bound
+-- If all named slots are bound, they stay bound when one more slot is named and bound.
 pub still_bound : (a b : Bool) (x : Option UidParts) (u : UidParts) → (a || b) ≡ true → (b ≡ true → is_some x ≡ true)
     → is_some (if a then Some u else x) ≡ true
 still_bound true b x u n h = refl
@@ -50,7 +50,7 @@ more_at : (a b : Bool) (x y : Option UidParts)
 more_at true b x y = refl
 more_at false b x y = refl
 
--- one more slot that is named and bound is bound more among those that are named
+-- To name and bind one more slot binds it in the bindings of the named slots.
 pub named_more : (n m : NamedSlots) (e : EnvParts) (s : SlotId) (u : UidParts)
     → ((r : SlotId) → is_named m r ≡ (same_slot r s || is_named n r))
     → named_alone m (bound_more e s u) ≡ bound_more (named_alone n e) s u
@@ -68,7 +68,7 @@ others_at n e Principal = unless_at n.principal (e Principal)
 others_at n e Action = unless_at n.action (e Action)
 others_at n e Resource = unless_at n.resource (e Resource)
 
--- where each slot is bound only if it is named, what is bound are the bindings of those that are named
+-- Without the slots that are not named, the bindings are the bindings of the named slots.
 pub others_unbound : (n : NamedSlots) (e : EnvParts)
     → bound_if n.resource Resource (bound_if n.action Action (bound_if n.principal Principal e)) ≡ named_alone n e
 others_unbound n e = λ i s. others_at n e s i
@@ -91,7 +91,7 @@ module _ {V : Type 0} where
       ap (λ v. if v then Some e.1 else lookup (same_slot s) es) (differs n s e.0 (same_slot s e.0) refl p.0 g)
       ∙ not_found n es s p.1 g
 
-  -- where the keys of entries are named, what is found at a slot is found among those that are named
+  -- If all keys are named, a lookup finds the same in the bindings of the named slots.
   pub all_named : {W : Type 0} (f : V → W) (n : NamedSlots) (es : List (SlotId × V))
       → list_all (is_named n) (keys_of es) ≡ true → (s : SlotId) → option_map f (lookup (same_slot s) es)
       ≡ (if is_named n s then option_map f (lookup (same_slot s) es) else None)

@@ -1,4 +1,4 @@
--- Each command on policy sets leaves one pair of policy sets, and writes one text.
+-- Each command on policy sets has exactly one effect and one output.
 use Rattle.std.specs.Prelude.{◌≡◌, ℕ, List, [], ◌∷◌, Bool, true, false, Result, Ok, Err}
 use Rattle.std.proofs.Common.{ap, sym, refl, ◌∙◌, inl, inr}
 use Rattle.std.proofs.lemmas.Bool.{false≢true}
@@ -11,7 +11,7 @@ use Rattle.cedar_policy_lines.specs.PolicyOutput.{Joins, UnlinkGives, MergeGives
 use Rattle.cedar_policy_lines.specs.PolicyOutput.{template_body, ok_line, refused_line, merged_line, ids_lines}
 use Rattle.cedar_policy_lines.specs.laws.OneMerge.{one_renaming, renaming_of}
 
--- what is given, whatever it is
+-- Some effect and some output with a property.
 abbrev Given : (TwoSets → List ℕ → Type 0) → Type 0
 Given P = (new : TwoSets) × (out : List ℕ) × P new out
 
@@ -48,7 +48,7 @@ merges : (rename : Bool) (old : TwoSets) → Given (MergeGives rename old)
 merges false old = kept old (conflicts old.current old.aside) refl
 merges true old = renamed old (renaming_of old.current old.aside)
 
--- each gives some
+-- Each command has an effect and an output.
 pub policy_gives : (c : PolicyCommand) (old : TwoSets) → (new : TwoSets) × (out : List ℕ) × PolicyGives c old new out
 policy_gives (Static i e) old = joins (add_static_step old.current (static_body i e)) old
 policy_gives (Template i w) old = joins (add_template_step old.current (template_body i w)) old
@@ -90,7 +90,7 @@ one_merges rename old m n o p (inr a) (inr b) =
           ∙ ap merged_line same ∙ sym b.4,
     )
 
--- and no other
+-- No command has two effects or outputs.
 pub one_policy_gives : (c : PolicyCommand) (old m n : TwoSets) (o p : List ℕ) → PolicyGives c old m o
     → PolicyGives c old n p → (m ≡ n) × (o ≡ p)
 one_policy_gives (Static i e) old m n o p h k = one_joins

@@ -1,4 +1,4 @@
--- The renaming of a merge is there, and it is one.
+-- A merge has exactly one renaming.
 use Rattle.std.specs.Prelude.{◌≡◌, ◌⊎◌, ℕ, zero, suc, ◌+◌, ◌<◌, List, [], ◌∷◌, ◌++◌, Bool, true, false, if◌then◌else◌}
 use Rattle.std.specs.Prelude.{length}
 use Rattle.std.proofs.Common.{◌≤◌, ap, sym, refl, subst, ◌∙◌, inl, inr, arith}
@@ -12,7 +12,7 @@ use Rattle.cedar_policy_merge.specs.Merge.{conflicts, IsRenaming, ids_of}
 use Rattle.cedar_policy_merge.specs.laws.FreshLaws.{free_more, none_free_below, passed, counted, free_within}
 use Rattle.cedar_policy_merge.specs.laws.FreshLaws.{either_among_ids}
 
--- ---- one
+-- ---- At most one
 
 ordered_more : (m n : ℕ) → (m < n) ⊎ ((m ≡ n) ⊎ (n < m)) → (suc m < suc n) ⊎ ((suc m ≡ suc n) ⊎ (suc n < suc m))
 ordered_more m n (inl l) = inl (omega arith)
@@ -41,7 +41,7 @@ grows_by bound m n l e before (inr (inl same)) = let c = counted bound m e in
     subst (λ x. free_below bound m < free_below bound (suc x)) same (omega arith)
 grows_by bound m n l e before (inr (inr k)) = absurd (omega arith)
 
--- past the number of a free id there are more
+-- A larger number has more free ids below it, if the id of the smaller number is free.
 grows : (bound : List ℕ → Bool) (m n : ℕ) → m < n → bound (numbered m) ≡ false → free_below bound m < free_below bound n
 grows bound m zero l e = absurd (omega arith)
 grows bound m (suc n) l e = grows_by bound m n l e (λ k. grows bound m n k e) (ordered m n)
@@ -53,7 +53,7 @@ one_by bound k m n f g (inr (inl e)) = e
 one_by bound k m n f g (inr (inr l)) = let h = grows bound n m l g.0 in let a = f.1 in let b = g.1 in
     absurd (omega arith)
 
--- the k-th free id is one
+-- There is only one free id at position `k`.
 one_free : (bound : List ℕ → Bool) (k m n : ℕ) → IsFree bound k m → IsFree bound k n → m ≡ n
 one_free bound k m n f g = one_by bound k m n f g (ordered m n)
 
@@ -83,7 +83,7 @@ same_pairs (x ∷ r) (y ∷ s) k v =
     let rest = same_pairs r s (tails k) (tails v) in
     λ t. (key t, value t) ∷ rest t
 
--- the renaming of a merge is one
+-- A merge has at most one renaming.
 pub one_renaming : (h o : SetParts) (r s : List (List ℕ × List ℕ)) → IsRenaming h o r → IsRenaming h o s → r ≡ s
 one_renaming h o r s a b =
     let keys = a.0 ∙ sym b.0 in
@@ -91,9 +91,9 @@ one_renaming h o r s a b =
     ∙ sym (length-values_of s) in
     same_pairs r s keys (same_lists (is_bound_in_either h o) 0 (values_of r) (values_of s) counts a.1 b.1)
 
--- ---- some
+-- ---- At least one
 
--- the last of the numbers below one, or an earlier one
+-- The free id at position `k` is the id of the number before the bound or of an earlier one.
 at_or_before : (bound : List ℕ → Bool) (k m : ℕ) → (k < free_below bound m → (n : ℕ) × IsFree bound k n)
     → k < free_below bound (suc m) → (b : Bool) → bound (numbered m) ≡ b →
     (free_below bound m < k) ⊎ ((free_below bound m ≡ k) ⊎ (k < free_below bound m)) → (n : ℕ) × IsFree bound k n
@@ -103,13 +103,13 @@ at_or_before bound k m before l true e (inr (inl s)) = absurd (let p = passed bo
 at_or_before bound k m before l false e (inl s) = absurd (let c = counted bound m e in omega arith)
 at_or_before bound k m before l false e (inr (inl s)) = (m, (e, s))
 
--- where more ids are free below a number than k, one of them is the k-th
+-- If more than `k` ids are free below a number, one of them is the free id at position `k`.
 free_before : (bound : List ℕ → Bool) (k m : ℕ) → k < free_below bound m → (n : ℕ) × IsFree bound k n
 free_before bound k zero l = absurd (let z = none_free_below bound in omega arith)
 free_before bound k (suc m) l = at_or_before bound k m (λ s. free_before bound k m s) l (bound (numbered m)) refl
     (ordered (free_below bound m) k)
 
--- where some ids are those that are bound, there is a k-th free id
+-- If the used ids are the ids of a list, there is a free id at each position.
 kth_free : (bound : List ℕ → Bool) (xs : List (List ℕ)) → ((i : List ℕ) → bound i ≡ list_any (same_text i) xs) → (k : ℕ)
     → (n : ℕ) × IsFree bound k n
 kth_free bound xs q k = free_before bound k (suc (k + length xs))
@@ -123,7 +123,7 @@ free_list bound xs q k (suc c) =
     let r = free_list bound xs q (k + 1) c in
     (numbered f.0 ∷ r.0, ap suc r.1, ((f.0, refl, f.1), r.2))
 
--- keys with their values
+-- Two lists of equal length are the keys and values of a list of pairs.
 paired : (ks vs : List (List ℕ)) → length vs ≡ length ks → (r : List (List ℕ × List ℕ)) × (keys_of r ≡ ks)
     × (values_of r ≡ vs)
 paired [] [] e = ([], refl, refl)
@@ -132,7 +132,7 @@ paired (k ∷ ks) [] e = absurd (omega arith)
 paired (k ∷ ks) (v ∷ vs) e = let p = paired ks vs (omega arith) in
     ((k, v) ∷ p.0, ap (λ l. k ∷ l) p.1, ap (λ l. v ∷ l) p.2)
 
--- there is a renaming of a merge
+-- A merge has a renaming.
 pub renaming_of : (h o : SetParts) → (r : List (List ℕ × List ℕ)) × IsRenaming h o r
 renaming_of h o =
     let v = free_list (is_bound_in_either h o) (ids_of h ++ ids_of o) (either_among_ids h o) 0

@@ -1,4 +1,4 @@
--- Fields are read as a command exactly where they are those of that command.
+-- Fields are read as a command exactly if they are the fields of the command.
 use Rattle.std.specs.Prelude.{◌≡◌, ◌⊎◌, ℕ, List, [], ◌∷◌, ◌++◌, length, drop, nat_eq, Bool, true, false, Option, Some}
 use Rattle.std.specs.Prelude.{None, if◌then◌else◌, codes, option_and_then, Result, Ok, Err}
 use Rattle.std.proofs.Common.{ap, sym, refl, subst, ◌∙◌, inl, inr}
@@ -32,13 +32,13 @@ use Rattle.cedar_policy_lines.specs.laws.PolicyReading.{bindings_from, bindings_
 use Rattle.cedar_policy_lines.specs.laws.PolicyReading.{link_of, unlink_of, merge_of, bare_of, command_by}
 use Rattle.cedar_policy_lines.specs.laws.PolicyReading.{policy_command}
 
--- ---- the fields of a command are read as it
+-- ---- The fields of a command are read as the command
 
--- the text of a uid is read as that uid
+-- The text of a uid is read as the uid.
 pub uid_is : (t : List ℕ) (u : UidParts) → IsPrinted u t → uid_read t ≡ Some u
 uid_is t u h = ap read_uid (uid_reading-printed u t h)
 
--- a field that binds is read so
+-- The field of a binding is read as the binding.
 binding_is : (s : SlotId) (u : UidParts) (f : List ℕ) → IsBinding s u f → binding_of f ≡ Some (s, u)
 binding_is Principal u f h = ap binding_of h.2 ∙ ap (option_map {T = UidParts} {U = SlotId
     × UidParts} (λ v. (Principal, v))) (uid_is h.0 u h.1)
@@ -51,7 +51,7 @@ free_is : (b : Bool) (x : EnvParts) → b ≡ false → (if b then None else Som
 free_is true x e = absurd (cc)
 free_is false x e = refl
 
--- and so are fields that bind further slots
+-- Fields that extend bindings are read as the extended bindings.
 more_is : (d : EnvParts) (fs : List (List ℕ)) (e : EnvParts) → BindMore d fs e → bindings_from (Some d) fs ≡ Some e
 more_is d [] e h = ap Some (sym h)
 more_is d (f ∷ fs) e h =
@@ -59,7 +59,7 @@ more_is d (f ∷ fs) e h =
     ∙ ap (λ o. bindings_from o fs) (free_is (binds d h.0) (bound_more d h.0 h.1) h.3)
     ∙ more_is (bound_more d h.0 h.1) fs e h.4
 
--- the fields of a command are read as that command
+-- The fields of a command are read as the command.
 pub command_is_read : (c : PolicyCommand) (fs : List (List ℕ)) → IsPolicyCommand c fs → policy_command fs ≡ Some c
 command_is_read (Static i Permit) fs h = ap policy_command h
 command_is_read (Static i Forbid) fs h = ap policy_command h
@@ -76,7 +76,7 @@ command_is_read (Merge true) fs h = ap policy_command h
 command_is_read (Merge false) fs h = ap policy_command h
 command_is_read Ids fs h = ap policy_command h
 
--- ---- fields that are read as a command are its fields
+-- ---- Fields that are read as a command are fields of the command
 
 not_some : {X : Type 0} {x : X} → None ≡ Some x → ⊥
 not_some e = cc
@@ -169,7 +169,7 @@ among_found : (ss : List SlotId) (f : List ℕ) (b : SlotId × UidParts) → bin
 among_found [] f b h = absurd (not_some h)
 among_found (s ∷ ss) f b h = by_mark s f b (behind (slot_mark s) f) (binding_among ss f) refl (among_found ss f b) h
 
--- where one field is no further binding the fields are none
+-- If one field is not a further binding, the fields are not bindings.
 pub none_goes_on : (fs : List (List ℕ)) → bindings_from None fs ≡ None
 none_goes_on [] = refl
 none_goes_on (f ∷ fs) = none_goes_on fs
@@ -269,7 +269,7 @@ by_word w fs c h1 = elim (chosen (same_text w (codes "static")) (static_of fs) _
   ]
 ]
 
--- fields that are read as a command are those of that command
+-- Fields that are read as a command are the fields of the command.
 pub read_is_command : (fs : List (List ℕ)) (c : PolicyCommand) → policy_command fs ≡ Some c → IsPolicyCommand c fs
 read_is_command [] c h = absurd (not_some h)
 read_is_command (w ∷ fs) c h = by_word w fs c h

@@ -1,5 +1,5 @@
--- Ids of links that are gathered under those of their templates: lists that grow by them hold what they would hold if
--- each link was listed in turn.
+-- Collecting the ids of new links by template. Appending the collected ids has the same result as appending the ids one
+-- by one.
 use Rattle.std.specs.Prelude.{◌≡◌, ℕ, List, [], ◌∷◌, ◌++◌, Bool, true, false, not, ◌||◌, ◌&&◌, Option, Some, None, refl, map}
 use Rattle.std.specs.Prelude.{is_some, fold, if◌then◌else◌}
 use Rattle.std.proofs.Common.{cond, sym, ap, ◌∙◌, subst}
@@ -29,33 +29,33 @@ body_id t = t.id
 abbrev own_body : PolicyParts → List ℕ
 own_body p = p.template.id
 
--- an id goes last in the list under a key, which goes last itself where there is none
+-- The lists with an id appended to the list under a key. If there is no such list, one is appended.
 abbrev pub with_gathered : List ℕ → List ℕ → List (List ℕ × List (List ℕ)) → List (List ℕ × List (List ℕ))
 with_gathered k i [] = (k, i ∷ []) ∷ []
 with_gathered k i (u ∷ us) = if same_text k u.0 then (u.0, insert_key same_text u.1 i) ∷ us else u ∷ with_gathered k i us
 
--- and does nothing where it is listed elsewhere
+-- The same, or no change if the Boolean is true.
 abbrev pub gathered_unless : Bool → List ℕ → List ℕ → List (List ℕ × List (List ℕ)) → List (List ℕ × List (List ℕ))
 gathered_unless v k i us = if v then us else with_gathered k i us
 
--- the ids of policies are gathered one after another
+-- The lists with the ids of policies appended, one after another.
 abbrev pub gathered : List (List ℕ × List (List ℕ)) → List PolicyParts → List (List ℕ × List (List ℕ))
 gathered us ps = fold (λ (done : List (List ℕ × List (List ℕ))) (p : PolicyParts). with_gathered p.template.id
     (policy_id p) done) us ps
 
--- the links
+-- The links among some policies.
 abbrev pub links_in : List PolicyParts → List PolicyParts
 links_in ps = filter (λ p. is_some p.link) ps
 
--- whether a policy is a link whose template has none of these ids
+-- Whether a policy is a link whose template has none of these ids.
 abbrev pub is_elsewhere : List (List ℕ) → PolicyParts → Bool
 is_elsewhere ks p = is_some p.link && not (list_any (same_text p.template.id) ks)
 
--- those that are
+-- The links whose templates have none of these ids.
 abbrev pub elsewhere_in : List (List ℕ) → List PolicyParts → List PolicyParts
 elsewhere_in ks ps = filter (is_elsewhere ks) ps
 
--- ---- lists that change
+-- ---- Lists that change
 
 changed_none : (t : List ℕ → Bool) (f : List (List ℕ) → List (List ℕ)) (ls : List (List ℕ × List (List ℕ)))
     → list_any t (keys_of ls) ≡ false → changed t f ls ≡ ls
@@ -101,7 +101,7 @@ changed_apart s t f g [] n = refl
 changed_apart s t f g (e ∷ ls) n =
     apart_at (s e.0) (t e.0) s t f g e ls refl refl (n e.0) (changed_apart s t f g ls n)
 
--- ---- one more id in a list that grows
+-- ---- One more id in a list that grows
 
 any_more : (v : Bool) (t : List ℕ → Bool) (ks : List (List ℕ)) (u : List ℕ) → list_any t ks ≡ true
     → list_any t (cond v ks (ks ++ u ∷ [])) ≡ true
@@ -146,7 +146,7 @@ insert_more : (i : List ℕ) (ks us : List (List ℕ))
     → insert_all same_text ks (insert_key same_text us i) ≡ insert_key same_text (insert_all same_text ks us) i
 insert_more i ks us = more_at (list_any (same_text i) us) i ks us refl
 
--- ---- lists that grow by what is gathered
+-- ---- Lists that grow by the collected ids
 
 other_key : (v : Bool) (a k j : List ℕ) → same_text a k ≡ false → same_text k j ≡ true → same_text a j ≡ v → v ≡ false
 other_key true a k j n e f =
@@ -208,14 +208,14 @@ own_gathered k i us h =
     subst (AreOnce (λ (j : List ℕ). j)) (sym (gathered_keys k i us))
     (own_at (list_any (same_text k) (keys_of us)) (keys_of us) k h refl)
 
--- no two lists of what is gathered stand under one key
+-- The collected lists have different keys.
 pub gathered_own : (us : List (List ℕ × List (List ℕ))) (ps : List PolicyParts) → HaveOwnKeys us
     → HaveOwnKeys (gathered us ps)
 gathered_own us [] h = h
 gathered_own us (p ∷ ps) h =
     gathered_own (with_gathered p.template.id (policy_id p) us) ps (own_gathered p.template.id (policy_id p) us h)
 
--- lists that grow by what is gathered of policies are those in which each is listed
+-- Appending the collected ids of policies has the same result as appending the ids one by one.
 pub gathered_listed : (us ls : List (List ℕ × List (List ℕ))) (ps : List PolicyParts) → HaveOwnKeys us
     → grown_by ls (gathered us ps) ≡ all_listed (grown_by ls us) ps
 gathered_listed us ls [] h = refl
@@ -224,9 +224,9 @@ gathered_listed us ls (p ∷ ps) h =
     (own_gathered p.template.id (policy_id p) us h)
     ∙ ap (λ xs. all_listed xs ps) (grown_gathered p.template.id (policy_id p) us ls h)
 
--- ---- policies that are on none of the lists
+-- ---- Policies that use none of the bodies
 
--- what fails a test is on none of these keys
+-- Whether the policies that fail a test use none of these keys.
 abbrev pub AreSkipped : (PolicyParts → Bool) → List (List ℕ) → List PolicyParts → Type 0
 AreSkipped x ks [] = Unit {0}
 AreSkipped x ks (p ∷ ps) = (x p ≡ false → list_any (same_text p.template.id) ks ≡ false) × AreSkipped x ks ps
@@ -240,7 +240,7 @@ skipped_at false ls xs p qs ps n ih =
     ap (λ xs. all_listed xs qs)
     (sym (changed_none (same_text p.template.id) (λ ks. insert_key same_text ks (policy_id p)) ls (n refl))) ∙ ih
 
--- so it need not be listed
+-- Such policies need not be listed.
 skipped : (x : PolicyParts → Bool) (ls : List (List ℕ × List (List ℕ))) (ps : List PolicyParts)
     → AreSkipped x (keys_of ls) ps → all_listed ls (filter x ps) ≡ all_listed ls ps
 skipped x ls [] h = refl
@@ -250,7 +250,7 @@ skipped x ls (p ∷ ps) h =
     (skipped x more ps (subst (λ ks. AreSkipped x ks ps)
     (sym (changed_keys (same_text p.template.id) (λ ks. insert_key same_text ks (policy_id p)) ls)) h.1))
 
--- the keys stay where policies are listed
+-- Appending ids to lists does not change the keys.
 pub all_listed_keys : (ls : List (List ℕ × List (List ℕ))) (ps : List PolicyParts)
     → keys_of (all_listed ls ps) ≡ keys_of ls
 all_listed_keys ls [] = refl
@@ -258,7 +258,7 @@ all_listed_keys ls (p ∷ ps) =
     all_listed_keys (with_listed p.template.id (policy_id p) ls) ps
     ∙ changed_keys (same_text p.template.id) (λ ks. insert_key same_text ks (policy_id p)) ls
 
--- ---- which policies those are
+-- ---- The skipped policies
 
 once_before : {A : Type 0} (id : A → List ℕ) (xs ys : List A) → AreOnce id (xs ++ ys) → AreOnce id xs
 once_before id [] ys h = tt
@@ -268,7 +268,7 @@ once_before id (x ∷ xs) ys h =
 neither : (a b : Bool) → a ≡ false → b ≡ false → (a || b) ≡ false
 neither a b p q = cc
 
--- bodies have other ids than one policy, where their ids are free of it
+-- If the ids of bodies are not ids of some policies, they are not the id of the first policy.
 free_one : (ts : List BodyParts) (p : PolicyParts) (ps : List PolicyParts) → HaveIdsFreeOf ts (p ∷ ps)
     → (list_any (is_body_at (policy_id p)) ts ≡ false) × HaveIdsFreeOf ts ps
 free_one [] p ps h = (refl, tt)
@@ -282,7 +282,7 @@ free_kept : (v : Bool) (t : BodyParts) (us : List BodyParts) (ps : List PolicyPa
 free_kept true t us ps n h = h
 free_kept false t us ps n h = (n, h)
 
--- of templates no policy has the id
+-- No policy has the id of a template.
 templates_free : (ts : List BodyParts) (ps : List PolicyParts) → HaveIdsFreeOf (templates_in ps ts) ps
 templates_free [] ps = tt
 templates_free (t ∷ ts) ps =
@@ -303,7 +303,7 @@ own_by : (o : Option (List ℕ)) (p : PolicyParts) → o ≡ p.link → is_some 
 own_by None p e n = ap (λ o. unwrap_or o p.template.id) (sym e)
 own_by (Some l) p e n = absurd (cc)
 
--- a static policy is on none of these bodies
+-- A static policy whose id no body has uses none of the bodies.
 static_apart : (ts : List BodyParts) (p : PolicyParts) → list_any (is_body_at (policy_id p)) ts ≡ false
     → is_some p.link ≡ false → list_any (same_text p.template.id) (map body_id ts) ≡ false
 static_apart ts p n e =
@@ -326,7 +326,7 @@ elsewhere_at false w ks us p e f n s k = s e
 elsewhere_at true true ks us p e f n s k = k f
 elsewhere_at true false ks us p e f n s k = absurd (cc)
 
--- and a link whose template has one of the first ids is on none that have others
+-- A policy that is not a link, or a link whose template is among the first keys, uses none of the other bodies.
 elsewhere_skipped : (ks : List (List ℕ)) (ts : List BodyParts) (ps : List PolicyParts) → HaveIdsFreeOf ts ps
     → ((k : List ℕ) → list_any (same_text k) ks ≡ true → list_any (same_text k) (map body_id ts) ≡ false)
     → AreSkipped (is_elsewhere ks) (map body_id ts) ps
@@ -365,7 +365,7 @@ listed_from ts qs (p ∷ ps) h g =
     ap (λ ls. all_listed ls ps) one ∙ listed_from ts (qs ++ p ∷ []) ps h (subst (AreOnce policy_id) (sym more) g)
     ∙ ap (ids_by_body ts) more
 
--- under templates that join stand their links, where each link is listed
+-- Listing each link of new templates gives the lists of their links.
 pub links_listed : (ts : List BodyParts) (ps : List PolicyParts) → AreOnce body_id ts → AreOnce policy_id ps
     → all_listed (ids_by_body (templates_in ps ts) []) (links_in ps) ≡ ids_by_body (templates_in ps ts) ps
 links_listed ts ps h g =
@@ -374,7 +374,7 @@ links_listed ts ps h g =
     (static_skipped (templates_in ps ts) ps (templates_free ts ps)))
     ∙ listed_from (templates_in ps ts) [] ps (templates_once ts ps h) g
 
--- under others stand the links that stood there and those that join, where they grow by what is gathered
+-- The lists of existing templates, with the collected ids appended, contain the old and the new links.
 pub elsewhere_listed : (old new : List BodyParts) (qs ps : List PolicyParts) → AreOnce body_id (old ++ new)
     → AreOnce policy_id (qs ++ ps) → HaveIdsFreeOf old ps
     → grown_by (ids_by_body old qs) (gathered [] (elsewhere_in (map body_id new) ps)) ≡ ids_by_body old (qs ++ ps)

@@ -1,4 +1,4 @@
--- Lists of ids that grow: room for what goes last in them, and what stands in them then.
+-- Lists of ids that grow: reserved space, and the content afterwards.
 use Rattle.std.specs.Prelude.{◌≡◌, ◌≤◌, ℕ, List, [], ◌∷◌, ◌++◌, length, Bool, true, false, ◌||◌, Option, Some, None}
 use Rattle.std.specs.Prelude.{refl, map}
 use Rattle.std.proofs.Common.{cond, sym, ap, ◌∙◌, subst}
@@ -18,26 +18,26 @@ use Rattle.cedar_policy_maps.specs.Maps.{lists_of}
 use Rattle.cedar_policy_maps.specs.laws.ListedLaws.{changed, ids_on, under_each, none_on}
 use Rattle.cedar_policy_maps.specs.laws.OnceLaws.{any-map}
 
--- there is room for n more ids in a list, if there is one
+-- Whether a set, if there is one, has space for `n` more ids.
 abbrev pub HasRoom : {S : Type 0} → Option (IndexSet (List ℕ) S) → ℕ → Type 0
 HasRoom None n = Unit {0}
 HasRoom (Some s) n = n ≤ spare s
 
--- there is room in lists for what goes last in each
+-- Whether all lists have space for the ids to append to each.
 abbrev pub HaveRoom : {S : Type 0} → List (List ℕ × IndexSet (List ℕ) S) → List (List ℕ × List (List ℕ)) → Type 0
 HaveRoom es [] = Unit {0}
 HaveRoom es (a ∷ us) = HasRoom (lookup (same_text a.0) es) (length a.1) × HaveRoom es us
 
--- lists with what goes last in each
+-- The lists with ids appended to each.
 abbrev pub grown_by : List (List ℕ × List (List ℕ)) → List (List ℕ × List (List ℕ)) → List (List ℕ × List (List ℕ))
 grown_by ls [] = ls
 grown_by ls (a ∷ us) = grown_by (changed (same_text a.0) (λ ks. insert_all same_text ks a.1) ls) us
 
--- no key of some entries stands among them twice
+-- Whether no two entries have the same key.
 abbrev pub HaveOwnKeys : {V : Type 0} → List (List ℕ × V) → Type 0
 HaveOwnKeys es = AreOnce (λ (k : List ℕ). k) (keys_of es)
 
--- ---- room
+-- ---- Reserved space
 
 module _ {S : Type 0} where
   pub room_more : (es : List (List ℕ × IndexSet (List ℕ) S)) (us : List (List ℕ
@@ -46,14 +46,14 @@ module _ {S : Type 0} where
   room_more es [] i ks h r = (r, tt)
   room_more es (u ∷ us) i ks h r = (h.0, room_more es us i ks h.1 r)
 
-  -- room stays where no list has less
+  -- The space is sufficient in other lists if no list has less space.
   pub room_kept : (es fs : List (List ℕ × IndexSet (List ℕ) S)) (us : List (List ℕ × List (List ℕ))) →
       ((k : List ℕ) (n : ℕ) → HasRoom (lookup (same_text k) es) n → HasRoom (lookup (same_text k) fs) n)
       → HaveRoom es us → HaveRoom fs us
   room_kept es fs [] k h = tt
   room_kept es fs (u ∷ us) k h = (k u.0 (length u.1) h.0, room_kept es fs us k h.1)
 
-  -- and where other lists are as they were
+  -- The space is sufficient if only the list of another key changes.
   pub room_elsewhere : (es fs : List (List ℕ × IndexSet (List ℕ) S)) (us : List (List ℕ × List (List ℕ))) (i : List ℕ)
       → list_any (same_text i) (keys_of us) ≡ false →
       ((k : List ℕ) → same_text i k ≡ false → lookup (same_text k) fs ≡ lookup (same_text k) es) → HaveRoom es us
@@ -64,12 +64,12 @@ module _ {S : Type 0} where
     room_elsewhere es fs us i (or_parts _ _ n).1 k h.1,
   )
 
--- what is listed stands under the same keys
+-- The keys of the lists are those of the sets.
 pub listed_keys : {S : Type 0} (es : List (List ℕ × IndexSet (List ℕ) S)) → keys_of (lists_of es) ≡ keys_of es
 listed_keys [] = refl
 listed_keys (e ∷ es) = ap (λ ks. e.0 ∷ ks) (listed_keys es)
 
--- ---- entries with new keys
+-- ---- Entries with new keys
 
 neither : (a b : Bool) → a ≡ false → b ≡ false → (a || b) ≡ false
 neither a b p q = cc
@@ -96,7 +96,7 @@ module _ {V : Type 0} where
   keys-append : (es fs : List (List ℕ × V)) → keys_of (es ++ fs) ≡ keys_of es ++ keys_of fs
   keys-append es fs = map-append (λ (e : List ℕ × V). e.0) es fs
 
-  -- entries whose keys are new go last
+  -- Inserting entries with new keys appends them.
   pub all_last : (es fs : List (List ℕ × V)) → HaveOwnKeys (es ++ fs) → maps.insert_all same_text es fs ≡ es ++ fs
   all_last es [] h = sym (append-nil es)
   all_last es (f ∷ fs) h =
@@ -107,7 +107,7 @@ module _ {V : Type 0} where
       ap (λ gs. maps.insert_all same_text gs fs) (inserted_last es f.0 f.1 new)
       ∙ all_last (es ++ f ∷ []) fs (subst HaveOwnKeys (sym more) h) ∙ more
 
--- things with ids of their own stand under keys of their own
+-- Values with different ids have different keys.
 once_keys : {W : Type 0} (id : W → List ℕ) (xs : List W) → AreOnce id xs → AreOnce (λ (k : List ℕ). k) (map id xs)
 once_keys id [] h = tt
 once_keys id (x ∷ xs) h = (any-map id (same_text (id x)) xs ∙ h.0, once_keys id xs h.1)
@@ -118,7 +118,7 @@ own_keys id es fs xs ys p q h =
     subst (AreOnce (λ (k : List ℕ). k)) (sym (keys-append es fs ∙ (λ j. p j ++ q j)
     ∙ sym (map-append id xs ys))) (once_keys id (xs ++ ys) h)
 
--- lists that change stand under the same keys
+-- Changing a list does not change the keys.
 changed_keys_at : (v : Bool) (f : List (List ℕ) → List (List ℕ)) (e : List ℕ
     × List (List ℕ)) (es gs : List (List ℕ × List (List ℕ))) → keys_of gs ≡ keys_of es
     → keys_of (cond v ((e.0, f e.1) ∷ es) (e ∷ gs)) ≡ e.0 ∷ keys_of es
@@ -135,16 +135,16 @@ grown_keys ls [] = refl
 grown_keys ls (u ∷ us) = grown_keys (changed (same_text u.0) (λ ks. insert_all same_text ks u.1) ls) us
     ∙ changed_keys (same_text u.0) (λ ks. insert_all same_text ks u.1) ls
 
--- ---- lists under the ids of bodies
+-- ---- Lists of the ids of bodies
 
 module _ {T P : Type 0} (tid : T → List ℕ) (pid on : P → List ℕ) where
-  -- what is on an id among policies of two lists
+  -- The ids that use an id, among the elements of two lists.
   pub on_both : (i : List ℕ) (qs ps : List P) → ids_on tid pid on i (qs ++ ps)
       ≡ ids_on tid pid on i qs ++ ids_on tid pid on i ps
   on_both i qs ps = ap (map pid) (filter-append (λ p. same_text i (on p)) qs ps)
       ∙ map-append pid (filter (λ p. same_text i (on p)) qs) (filter (λ p. same_text i (on p)) ps)
 
-  -- what joins bodies on which nothing stood
+  -- Whether no element uses one of these bodies.
   abbrev pub AreBare : List T → List P → Type 0
   AreBare [] qs = Unit {0}
   AreBare (t ∷ ts) qs = (list_any (λ p. same_text (tid t) (on p)) qs ≡ false) × AreBare ts qs

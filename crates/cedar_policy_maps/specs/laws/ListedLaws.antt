@@ -1,5 +1,4 @@
--- What stands under ids: a look-up by a key is one by the id of a value, and lists of ids change with what joins and
--- leaves.
+-- Maps whose keys are the ids of their values, and the changes of lists of ids when a value is added or removed.
 use Rattle.std.specs.Prelude.{◌≡◌, ℕ, List, [], ◌∷◌, ◌++◌, Bool, true, false, not, ◌||◌, Some, refl, map, if◌then◌else◌}
 use Rattle.std.proofs.Common.{cond, sym, ap, ◌∙◌}
 use Rattle.std.specs.List.{filter, find, list_any}
@@ -14,25 +13,25 @@ use Rattle.cedar_ids.specs.laws.TextLaws.{same_text_equiv}
 use Rattle.cedar_policy_maps.specs.PolicySets.{AreOnce}
 use Rattle.cedar_policy_maps.specs.laws.OnceLaws.{is_at, no_other, filter_none, any-filter_none, any-map}
 
--- with another list for the first key that passes
+-- The lists with another list for the first key that passes a test.
 abbrev pub changed : (List ℕ → Bool) → (List (List ℕ) → List (List ℕ)) → List (List ℕ × List (List ℕ))
     → List (List ℕ × List (List ℕ))
 changed test f [] = []
 changed test f (e ∷ es) = if test e.0 then (e.0, f e.1) ∷ es else e ∷ changed test f es
 
--- an id goes last in the list under another, or is taken out of it
+-- The lists with an id appended to the list under a key.
 abbrev pub with_listed : List ℕ → List ℕ → List (List ℕ × List (List ℕ)) → List (List ℕ × List (List ℕ))
 with_listed under i es = changed (same_text under) (λ ks. insert_key same_text ks i) es
 
 abbrev pub without_listed : List ℕ → List ℕ → List (List ℕ × List (List ℕ)) → List (List ℕ × List (List ℕ))
 without_listed under i es = changed (same_text under) (remove_key (same_text i)) es
 
--- each key is the id of its value
+-- Whether each key is the id of its value.
 abbrev pub IsKeyed : {V : Type 0} → (V → List ℕ) → List (List ℕ × V) → Type 0
 IsKeyed id es = keys_of es ≡ map id (values_of es)
 
 module _ {V : Type 0} (id : V → List ℕ) where
-  -- a look-up by key is a search among the values
+  -- A lookup by key is a search among the values.
   pub lookup_is : (t : List ℕ → Bool) (es : List (List ℕ × V)) → IsKeyed id es
       → lookup t es ≡ find (λ v. t (id v)) (values_of es)
   lookup_is t [] h = refl
@@ -66,7 +65,7 @@ module _ {V : Type 0} (id : V → List ℕ) where
   left_at true e es gs vs n h = sym (n refl)
   left_at false e es gs vs n h = ap (λ x. e.1 ∷ x) h
 
-  -- the values without an id
+  -- The values after an entry is removed.
   pub values_removed : (i : List ℕ) (es : List (List ℕ × V)) → IsKeyed id es → AreOnce id (values_of es)
       → values_of (remove_entry (same_text i) es) ≡ filter (λ v. not (is_at id i v)) (values_of es)
   values_removed i [] h o = refl
@@ -78,7 +77,7 @@ module _ {V : Type 0} (id : V → List ℕ) where
       (λ q. filter_none (is_at id i) (values_of es) (no_other id i e.1 (values_of es) o q)) (values_removed i es r o.1)
 
 module _ {T P : Type 0} (tid : T → List ℕ) (pid on : P → List ℕ) where
-  -- the ids of what is on an id, and that under each id
+  -- The ids of the elements that use an id.
   abbrev pub ids_on : List ℕ → List P → List (List ℕ)
   ids_on i ps = map pid (filter (λ p. same_text i (on p)) ps)
 
@@ -107,7 +106,7 @@ module _ {T P : Type 0} (tid : T → List ℕ) (pid on : P → List ℕ) where
       → ids_on i (ps ++ p ∷ []) ≡ ids_on i ps
   not_joined_on i ps p h = on_last i ps p ∙ ap (λ x. ids_on i ps ++ x) (one_on i p false h) ∙ append-nil (ids_on i ps)
 
-  -- ids that are on no other body stay
+  -- Adding an element that uses no listed body does not change the lists.
   pub not_joined : (ts : List T) (ps : List P) (p : P) → list_any (is_at tid (on p)) ts ≡ false
       → under_each ts (ps ++ p ∷ []) ≡ under_each ts ps
   not_joined [] ps p h = refl
@@ -138,20 +137,20 @@ module _ {T P : Type 0} (tid : T → List ℕ) (pid on : P → List ℕ) where
   join_at false t ts ps p e n o ih =
       λ j. (tid t, sym (not_joined_on (tid t) ps p (same_text_equiv.symm (tid t) (on p) ∙ e)) j) ∷ ih j
 
-  -- an id is listed last under the one that it is on
+  -- Adding an element appends its id to the list of the body that it uses.
   pub join_listed : (ts : List T) (ps : List P) (p : P) → AreOnce tid ts → list_any (is_at pid (pid p)) ps ≡ false →
       with_listed (on p) (pid p) (under_each ts ps) ≡ under_each ts (ps ++ p ∷ [])
   join_listed [] ps p h n = refl
   join_listed (t ∷ ts) ps p h n =
       join_at (same_text (on p) (tid t)) t ts ps p refl n (no_other tid (on p) t ts h) (join_listed ts ps p h.1 n)
 
-  -- a body goes last, and nothing is on it
+  -- Adding a body that nothing uses appends an empty list.
   pub body_listed : (ts : List T) (ps : List P) (t : T) → list_any (λ p. same_text (tid t) (on p)) ps ≡ false
       → under_each (ts ++ t ∷ []) ps ≡ under_each ts ps ++ (tid t, []) ∷ []
   body_listed ts ps t n = map-append (λ t. (tid t, ids_on (tid t) ps)) ts (t ∷ [])
       ∙ ap (λ ks. under_each ts ps ++ (tid t, ks) ∷ []) (none_on (tid t) ps n)
 
-  -- and one goes last with it
+  -- Adding a body together with an element that uses it appends the list of that element.
   pub both_listed : (ts : List T) (ps : List P) (t : T) (p : P) → on p ≡ tid t → list_any (is_at tid (tid t)) ts ≡ false
       → list_any (λ p. same_text (tid t) (on p)) ps ≡ false →
       under_each (ts ++ t ∷ []) (ps ++ p ∷ []) ≡ under_each ts ps ++ (tid t, pid p ∷ []) ∷ []
@@ -162,9 +161,9 @@ module _ {T P : Type 0} (tid : T → List ℕ) (pid on : P → List ℕ) where
       map-append (λ t. (tid t, ids_on (tid t) (ps ++ p ∷ []))) ts (t ∷ [])
       ∙ (λ j. not_joined ts ps p (ap (λ i. list_any (is_at tid i) ts) e ∙ f) j ++ (tid t, ks j) ∷ [])
 
-  -- ---- what leaves
+  -- ---- Removals
 
-  -- the first of an id is the only one
+  -- The first element with an id is the only one.
   on_removed_at : (v w : Bool) (i j : List ℕ) (p : P) (ps : List P) → same_text i (pid p) ≡ v → same_text j (on p) ≡ w
       → (v ≡ true → list_any (is_at pid i) ps ≡ false)
       → remove_key (same_text i) (ids_on j ps) ≡ ids_on j (filter (λ q. not (is_at pid i q)) ps)
@@ -189,7 +188,7 @@ module _ {T P : Type 0} (tid : T → List ℕ) (pid on : P → List ℕ) where
       on_removed_at (same_text i (pid p)) (same_text j (on p)) i j p ps refl refl (no_other pid i p ps h)
       (on_removed i j ps h.1)
 
-  -- what is found under an id is on one body alone
+  -- An element uses only one body, so its id is in no other list.
   elsewhere_at : (v w : Bool) (i j : List ℕ) (p q : P) (ps : List P) → same_text i (pid q) ≡ v → same_text j (on q) ≡ w
       → cond v (Some q) (find (is_at pid i) ps) ≡ Some p → same_text j (on p) ≡ false
       → (v ≡ true → list_any (is_at pid i) ps ≡ false)
@@ -251,7 +250,7 @@ module _ {T P : Type 0} (tid : T → List ℕ) (pid on : P → List ℕ) where
         (stays_on i (tid t) p ps h g (same_text_equiv.symm (tid t) (on p) ∙ e)) j,
   ) ∷ ih j
 
-  -- an id leaves the list that it is on
+  -- Removing an element removes its id from the list of the body that it uses.
   pub leave_listed : (ts : List T) (i : List ℕ) (p : P) (ps : List P) → AreOnce tid ts → AreOnce pid ps
       → find (is_at pid i) ps ≡ Some p →
       without_listed (on p) i (under_each ts ps) ≡ under_each ts (filter (λ q. not (is_at pid i q)) ps)
@@ -266,7 +265,7 @@ module _ {T P : Type 0} (tid : T → List ℕ) (pid on : P → List ℕ) where
   out_at true t ts us ps gs n h = ap (λ (xs : List T). under_each xs ps) (sym (n refl))
   out_at false t ts us ps gs n h = ap (λ x. (tid t, ids_on (tid t) ps) ∷ x) h
 
-  -- a body leaves with its list
+  -- Removing a body removes its list.
   pub body_unlisted : (i : List ℕ) (ts : List T) (ps : List P) → AreOnce tid ts
       → remove_entry (same_text i) (under_each ts ps) ≡ under_each (filter (λ t. not (is_at tid i t)) ts) ps
   body_unlisted i [] ps h = refl

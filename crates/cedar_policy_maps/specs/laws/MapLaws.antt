@@ -1,4 +1,4 @@
--- How the three maps of a set change: what joins, what is taken out, and maps that are made from lists.
+-- Changes of the three maps: additions, removals, and maps created from lists.
 use Rattle.std.specs.Prelude.{◌≡◌, ℕ, List, [], ◌∷◌, ◌++◌, Bool, true, false, not, ◌||◌, ◌&&◌, Option, Some, None, refl}
 use Rattle.std.specs.Prelude.{map, is_some, fold}
 use Rattle.std.proofs.Common.{cond, sym, ap, ◌∙◌, subst}
@@ -40,23 +40,23 @@ pub templates_once : (ts : List BodyParts) (ps : List PolicyParts) → AreOnce b
     → AreOnce body_id (templates_in ps ts)
 templates_once ts ps h = once-filter body_id (λ t. not (list_any (is_policy_at t.id) ps)) ts h
 
--- what is listed once a policy is taken out, if one was
+-- The lists after the removal of an optional policy.
 abbrev pub unlisted : Option PolicyParts → List ℕ → List (List ℕ × List (List ℕ)) → List (List ℕ × List (List ℕ))
 unlisted None i ls = ls
 unlisted (Some p) i ls = without_listed p.template.id i ls
 
--- policies are listed one after another
+-- The lists with the ids of policies appended, one after another.
 abbrev pub all_listed : List (List ℕ × List (List ℕ)) → List PolicyParts → List (List ℕ × List (List ℕ))
 all_listed ls ps = fold (λ (done : List (List ℕ × List (List ℕ))) (p : PolicyParts). with_listed p.template.id
     (policy_id p) done) ls ps
 
--- whether there are ids
+-- Whether there is a non-empty list of ids.
 abbrev pub has_ids : Option (List (List ℕ)) → Bool
 has_ids None = false
 has_ids (Some []) = false
 has_ids (Some (k ∷ ks)) = true
 
--- ---- what is read
+-- ---- Lookups
 
 pub listed_at : (i : List ℕ) (ts : List BodyParts) (ps : List PolicyParts)
     → lookup (same_text i) (ids_by_body ts ps) ≡ option_map (λ t. ids_in t.id ps) (find (is_body_at i) ts)
@@ -100,7 +100,7 @@ found_any t (y ∷ ys) x h = any_at (t y) h (found_any t ys x)
     any_at true f ih = refl
     any_at false f ih = ih f
 
--- no policy is on what is no body
+-- No policy uses a body that is not in the set.
 pub none_on_it : (b : SetParts) (i : List ℕ) (ps : List PolicyParts) → list_any (is_body_at i) b.bodies ≡ false
     → AreHeld b ps → list_any (is_on i) ps ≡ false
 none_on_it b i [] n h = refl
@@ -111,7 +111,7 @@ link_on : (o : Option (List ℕ)) (i k : List ℕ) → same_text i (unwrap_or o 
 link_on None i k n = sym n
 link_on (Some l) i k n = refl
 
--- what is on an id that no policy has is a link
+-- If no policy has an id, the policies that use the body with the id are links.
 links_on : (i : List ℕ) (ps : List PolicyParts) → list_any (is_policy_at i) ps ≡ false
     → list_any (links_to i) ps ≡ list_any (is_on i) ps
 links_on i [] n = refl
@@ -147,14 +147,14 @@ linked_at : (v : Bool) (b : SetParts) (i : List ℕ) → IsPolicySet b → list_
 linked_at true b i h e = sym (policy_unlinked b i (find (is_policy_at i) b.policies) h refl e)
 linked_at false b i h e = linked_body b i (find (is_body_at i) b.bodies) h refl e
 
--- a template has links where ids stand under its own
+-- A template has links if its list is not empty, and only then.
 pub linked_is : (b : SetParts) (i : List ℕ) → IsPolicySet b → has_ids
     (option_map (λ t. ids_in t.id b.policies) (find (is_body_at i) (templates_in b.policies b.bodies))) ≡ has_links b i
 linked_is b i h =
     ap (λ o. has_ids (option_map (λ t. ids_in t.id b.policies) o)) (template_found i b.bodies b.policies)
     ∙ linked_at (list_any (is_policy_at i) b.policies) b i h refl
 
--- ---- the ids on a body, of a static policy its own
+-- ---- The ids of the policies that use a body
 
 is_own : (l : Option (List ℕ)) (b : SetParts) (i : List ℕ) (q : PolicyParts) → l ≡ q.link → IsHeldBy l b q
     → list_any (is_policy_at i) b.policies ≡ true → list_any (is_body_at i) b.bodies ≡ true →
@@ -219,7 +219,7 @@ held_found b i p [] h f = absurd (cc)
 held_found b i p (q ∷ ps) h f = held_at (is_policy_at i q) b q p (find (is_policy_at i) ps) f h.0
     (held_found b i p ps h.1)
 
--- where no policy is found the templates' lists are those of all bodies
+-- If no policy has an id, the body with the id is a template.
 pub on_template : (b : SetParts) (i : List ℕ) → find (is_policy_at i) b.policies ≡ None
     → find (is_body_at i) (templates_in b.policies b.bodies) ≡ find (is_body_at i) b.bodies
 on_template b i n = template_found i b.bodies b.policies
@@ -235,7 +235,7 @@ link_ids_by (Some l) b i p e s q h =
     find-unless (is_body_at i) b.bodies (ap (λ k. list_any (is_body_at k) b.bodies) (q
     ∙ ap (λ o. unwrap_or o p.template.id) (sym e)) ∙ h.0)
 
--- no body has the id of a link
+-- No body has the id of a link.
 pub link_ids : (b : SetParts) (i : List ℕ) (p : PolicyParts) → IsPolicySet b → find (is_policy_at i) b.policies ≡ Some p
     → is_some p.link ≡ true → None ≡ option_map (λ t. ids_in t.id b.policies) (find (is_body_at i) b.bodies)
 link_ids b i p h f s =
@@ -249,7 +249,7 @@ static_body_by None b i p e s q h =
     (ap (λ k. find (is_body_at k) b.bodies) own ∙ h.2, own)
 static_body_by (Some l) b i p e s q h = absurd (cc)
 
--- on the body of a static policy stands that policy alone
+-- Only a static policy uses its own body.
 pub static_ids : (b : SetParts) (i : List ℕ) (p : PolicyParts) → IsPolicySet b
     → find (is_policy_at i) b.policies ≡ Some p → is_some p.link ≡ false →
     Some (policy_id p ∷ []) ≡ option_map (λ t. ids_in t.id b.policies) (find (is_body_at i) b.bodies)
@@ -277,13 +277,13 @@ slotted_found b i t None h g f s = refl
 slotted_found b i t (Some p) h g f s = absurd
     (slotted_by p.link b i t p refl (own_id i p b.policies g) (held_found b i p b.policies h.held g) f s)
 
--- no policy has the id of a body with slots
+-- No policy has the id of a body with slots.
 pub slotted_free : (b : SetParts) (i : List ℕ) (t : BodyParts) → IsPolicySet b → find (is_body_at i) b.bodies ≡ Some t
     → is_slotless (body_slots t) ≡ false → list_any (is_policy_at i) b.policies ≡ false
 slotted_free b i t h f s =
     none_is (is_policy_at i) b.policies (slotted_found b i t (find (is_policy_at i) b.policies) h refl f s)
 
--- ---- what joins
+-- ---- Additions
 
 abbrev Becomes : Maps → SetParts → Type 0
 Becomes m b = DoAgree m × (set_in m ≡ b)
@@ -292,7 +292,7 @@ last_value : {V : Type 0} (es : List (List ℕ × V)) (k : List ℕ) (v : V)
     → values_of (es ++ (k, v) ∷ []) ≡ values_of es ++ v ∷ []
 last_value es k v = map-append (λ e. e.1) es ((k, v) ∷ [])
 
--- a template with a free id
+-- The maps agree after a template with an unused id is added.
 template_agrees : (m : Maps) (t : BodyParts) → DoAgree m → is_bound (set_in m) t.id ≡ false →
     Becomes (record {
       bodies = m.bodies ++ (t.id, t) ∷ [];
@@ -326,7 +326,7 @@ pub template_kept : (m : Maps) (t : BodyParts) (bs : List (List ℕ × BodyParts
     → Becomes (record { bodies = bs; policies = m.policies; listed = ls }) (with_template (set_in m) t)
 template_kept m t bs ls h n p q = rw (p, q) (template_agrees m t h n)
 
--- a link of a template that stands there
+-- The maps agree after a link of an existing template is added.
 policy_agrees : (m : Maps) (p : PolicyParts) → DoAgree m → CanJoin (set_in m) p →
     Becomes (record {
       bodies = m.bodies;
@@ -366,7 +366,7 @@ pub policy_kept : (m : Maps) (p : PolicyParts) (qs : List (List ℕ × PolicyPar
     → Becomes (record { bodies = m.bodies; policies = qs; listed = ls }) (with_policy (set_in m) p)
 policy_kept m p qs ls h c f g = rw (f, g) (policy_agrees m p h c)
 
--- a static policy and its body, which are not listed
+-- The maps agree after a static policy and its body are added. The body gets no list.
 static_agrees : (m : Maps) (p : PolicyParts) → DoAgree m → CanJoinBoth (set_in m) p → p.link ≡ None →
     Becomes (record {
       bodies = m.bodies ++ (p.template.id, p.template) ∷ [];
@@ -412,7 +412,7 @@ pub static_kept : (m : Maps) (p : PolicyParts) (bs : List (List ℕ × BodyParts
     Becomes (record { bodies = bs; policies = qs; listed = m.listed }) (with_both (set_in m) p.template p)
 static_kept m p bs qs h c e f g = rw (f, g) (static_agrees m p h c e)
 
--- a link and its template
+-- The id of a link that is added with its template differs from the template's id.
 link_apart : (o : Option (List ℕ)) (b : SetParts) (p : PolicyParts) → o ≡ p.link → (o ≡ None → ⊥) → CanJoinBothBy o b p
     → same_text p.template.id (policy_id p) ≡ false
 link_apart None b p e n c = absurd (n refl)
@@ -469,7 +469,7 @@ pub link_kept : (m : Maps) (p : PolicyParts) (bs : List (List ℕ × BodyParts))
     Becomes (record { bodies = bs; policies = qs; listed = ls }) (with_both (set_in m) p.template p)
 link_kept m p bs qs ls h c l f g k = rw (f, g, k) (link_agrees m p h c l)
 
--- ---- what is taken out
+-- ---- Removals
 
 left_listed : (o : Option PolicyParts) (i : List ℕ) (ts : List BodyParts) (ps : List PolicyParts) → AreOnce body_id ts
     → AreOnce policy_id ps → o ≡ find (is_policy_at i) ps →

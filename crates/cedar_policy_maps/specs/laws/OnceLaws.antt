@@ -1,4 +1,4 @@
--- Orders in which an id stands once: what goes last, and what is taken out.
+-- Lists of values with different ids: additions and removals.
 use Rattle.std.specs.Prelude.{◌≡◌, ℕ, ◌+◌, ◌<◌, List, [], ◌∷◌, ◌++◌, length, Bool, true, false, not, ◌||◌, Some, None}
 use Rattle.std.specs.Prelude.{refl, map, suc}
 use Rattle.std.proofs.Common.{cond, sym, ap, ◌∙◌, arith, take, drop, nat_lt, ◌≤◌, get_or}
@@ -14,7 +14,7 @@ use Rattle.cedar_ids.specs.Texts.{same_text}
 use Rattle.cedar_ids.specs.laws.TextLaws.{same_text_equiv, same_text_decides}
 use Rattle.cedar_policy_maps.specs.PolicySets.{AreOnce}
 
--- whether something has an id
+-- Whether a value has this id.
 abbrev pub is_at : {A : Type 0} → (A → List ℕ) → List ℕ → A → Bool
 is_at id i x = same_text i (id x)
 
@@ -22,7 +22,7 @@ pub any_alike : {X : Type 0} (s t : X → Bool) (xs : List X) → ((x : X) → s
 any_alike s t [] h = refl
 any_alike s t (x ∷ xs) h = grind (arith, common_steps, h x, any_alike s t xs h)
 
--- after the first of an id comes no other
+-- No other element after the first one with an id has the id.
 pub no_other : {A : Type 0} (id : A → List ℕ) (i : List ℕ) (x : A) (xs : List A) → AreOnce id (x ∷ xs)
     → is_at id i x ≡ true → list_any (is_at id i) xs ≡ false
 no_other id i x xs h e = sym (any_alike (is_at id (id x)) (is_at id i) xs
@@ -31,7 +31,7 @@ no_other id i x xs h e = sym (any_alike (is_at id (id x)) (is_at id i) xs
 pub once_more : (a b c : Bool) → a ≡ false → b ≡ false → (a || (b || false)) ≡ false
 once_more a b c p q = cc
 
--- what has a free id goes last
+-- Appending a value with an unused id keeps the ids different.
 pub once-push : {A : Type 0} (id : A → List ℕ) (xs : List A) (x : A) → AreOnce id xs
     → list_any (is_at id (id x)) xs ≡ false → AreOnce id (xs ++ x ∷ [])
 once-push id [] x h n = (refl, tt)
@@ -41,7 +41,7 @@ once-push id (y ∷ ys) x h n = (
   once-push id ys x h.1 (or_parts _ _ n).1,
 )
 
--- what stands before something has other ids
+-- The values before an element have other ids.
 pub before_at : {A : Type 0} (id : A → List ℕ) (xs : List A) (x : A) (rest : List A) → AreOnce id (xs ++ x ∷ rest)
     → list_any (is_at id (id x)) xs ≡ false
 before_at id [] x rest h = refl
@@ -66,7 +66,7 @@ once_kept : {A : Type 0} (id : A → List ℕ) (v : Bool) (x : A) (xs : List A) 
 once_kept id true x xs n h = (n, h)
 once_kept id false x xs n h = h
 
--- what a filter leaves
+-- Filtering keeps the ids different.
 pub once-filter : {A : Type 0} (id : A → List ℕ) (p : A → Bool) (xs : List A) → AreOnce id xs → AreOnce id (filter p xs)
 once-filter id p [] h = tt
 once-filter id p (x ∷ xs) h = once_kept id (p x) x (filter p xs) (any-filter_none p (is_at id (id x)) xs h.0)
@@ -80,7 +80,7 @@ removed-at : {A : Type 0} (v : Bool) (x : A) (xs fs : List A) (k : ℕ) → (v �
 removed-at true x xs fs k n e = sym (n refl)
 removed-at false x xs fs k n e = ap (λ n. remove (x ∷ xs) n) (one_more k) ∙ ap (λ ys. x ∷ ys) e
 
--- the first of an id is the only one
+-- Removing the first element with an id removes the only one.
 removed : {A : Type 0} (id : A → List ℕ) (i : List ℕ) (xs : List A) → AreOnce id xs
     → remove xs (position_or_len (is_at id i) xs) ≡ filter (λ x. not (is_at id i x)) xs
 removed id i [] h = refl
@@ -92,7 +92,7 @@ place_at : (v : Bool) (p k n : ℕ) → nat_lt p n ≡ v → cond v (Some p) Non
 place_at true p k n l e = (cc, grind (arith, nat_tests))
 place_at false p k n l e = cc
 
--- the place of the first that passes, and what stands there
+-- The index of the first element that passes a test is below the length.
 pub place_is : {X : Type 0} (t : X → Bool) (xs : List X) (k : ℕ) → position t xs ≡ Some k → (position_or_len t xs ≡ k)
     × (position_or_len t xs < length xs)
 place_is t xs k e = place_at (nat_lt (position_or_len t xs) (length xs)) _ _ _ refl e
@@ -105,12 +105,12 @@ pub find-none : {X : Type 0} (t : X → Bool) (xs : List X) → position t xs �
 find-none t xs e = find_at t xs ∙ slice_get_past xs _ (no_place_at
     (nat_lt (position_or_len t xs) (length xs)) _ _ refl e)
 
--- what is taken out at the place of an id is what has the id
+-- Removing the element at the index of an id removes the elements with the id.
 pub removed_at : {A : Type 0} (id : A → List ℕ) (i : List ℕ) (xs : List A) (k : ℕ) → AreOnce id xs
     → position (is_at id i) xs ≡ Some k → remove xs k ≡ filter (λ x. not (is_at id i x)) xs
 removed_at id i xs k h e = ap (remove xs) (sym (place_is (is_at id i) xs k e).0) ∙ removed id i xs h
 
--- and stood there
+-- The removed element is the one that a search finds.
 pub taken_is : {A : Type 0} (t : A → Bool) (xs : List A) (k : ℕ) (x : A) → position t xs ≡ Some k → x ≡ get_or xs k x
     → find t xs ≡ Some x
 taken_is t xs k x e g =
@@ -126,24 +126,24 @@ pub find-unless : {X : Type 0} (t : X → Bool) (xs : List X) → list_any t xs 
 find-unless t [] h = refl
 find-unless t (x ∷ xs) h = grind (arith, common_steps, find-unless t xs)
 
--- what was found is found still where something goes last
+-- A search still finds its element after another one is appended.
 pub find-push : {X : Type 0} (t : X → Bool) (xs : List X) (y x : X) → find t xs ≡ Some x
     → find t (xs ++ y ∷ []) ≡ Some x
 find-push t [] y x h = cc
 find-push t (z ∷ zs) y x h = grind (arith, common_steps, find-push t zs y x)
 
--- and where what fails the test is taken out
+-- A search still finds its element after elements are removed that fail its test.
 pub find-filter : {X : Type 0} (p t : X → Bool) (xs : List X) → ((x : X) → t x ≡ true → p x ≡ true)
     → find t (filter p xs) ≡ find t xs
 find-filter p t [] h = refl
 find-filter p t (x ∷ xs) h = grind (arith, common_steps, h x, find-filter p t xs h)
 
--- what is found passes
+-- The element that a search finds passes the test.
 pub found_passes : {X : Type 0} (t : X → Bool) (xs : List X) (x : X) → find t xs ≡ Some x → t x ≡ true
 found_passes t [] x h = cc
 found_passes t (y ∷ ys) x h = grind (arith, common_steps, found_passes t ys x)
 
--- a look-up through a map
+-- A search in a mapped list.
 pub find-map : {X Y : Type 0} (f : X → Y) (t : Y → Bool) (xs : List X)
     → find t (map f xs) ≡ option_map f (find (λ x. t (f x)) xs)
 find-map f t [] = refl

@@ -1,4 +1,4 @@
--- Maps that a caller hands over agree, by what holds of every map and of every policy.
+-- Maps from a caller agree, by the properties of every map and every policy.
 use Rattle.std.specs.Prelude.{◌≡◌, ℕ, List, [], ◌∷◌, Bool, false, not, ◌||◌, Option, Some, None, All, refl, map}
 use Rattle.std.proofs.Common.{sym, ap, ◌∙◌, subst}
 use Rattle.std.specs.List.{AllByRecursion, IsDistinct, filter, list_any}
@@ -15,8 +15,8 @@ use Rattle.cedar_policy_maps.specs.Maps.{Maps, set_in, shared_of, ArePlaced, IsP
 use Rattle.cedar_policy_maps.specs.laws.OnceLaws.{any-map}
 use Rattle.cedar_policy_maps.specs.laws.TemplateLaws.{templates_listed}
 
--- what the readers of a policy say of it: what is no link is its body, which has no slots, and what is bound fits the
--- slots
+-- The properties of a policy that its accessors state. A policy without a link is the static policy of its template,
+-- which has no slots. The bindings fit the slots.
 pub record IsWhole (p : PolicyParts) : Type 0 where
   pub whole : p.link ≡ None → p ≡ static_policy p.template
   pub slotless : p.link ≡ None → body_slots p.template ≡ []
@@ -39,7 +39,7 @@ none_alike : (i : List ℕ) (ks : List (List ℕ)) → AllByRecursion (λ k. sam
 none_alike i [] h = refl
 none_alike i (k ∷ ks) h = neither (same_text i k) (list_any (same_text i) ks) h.0 (none_alike i ks h.1)
 
--- where no two keys are equal and each is the id of its value, an id stands once
+-- If the ids of values are distinct as keys, no two values have the same id.
 distinct_once : {A : Type 0} (id : A → List ℕ) (xs : List A) → IsDistinct same_text (map id xs) → AreOnce id xs
 unfolding IsDistinct
 distinct_once id [] h = tt
@@ -49,13 +49,13 @@ distinct_once id (x ∷ xs) h = (
   distinct_once id xs h.1,
 )
 
--- what is shared stands under the same keys
+-- Shared values have the same keys.
 pub shared_keys : (es : List (List ℕ × Rc BodyParts Global)) → keys_of es ≡ keys_of (shared_of es)
 shared_keys [] = refl
 shared_keys (e ∷ es) = ap (λ ks. e.0 ∷ ks) (shared_keys es)
 
--- maps without equal keys, of policies of which their readers say what holds, the third without the lists under
--- policies' ids
+-- Maps from a caller agree after the lists of static policies are removed, if their keys are distinct and the policies
+-- have their properties.
 pub raw_agree : (m : Maps) (ls : List (List ℕ × List (List ℕ))) → IsDistinct same_text (keys_of m.bodies)
     → IsDistinct same_text (keys_of m.policies) → All IsWhole (values_of m.policies) → CanMakeSet m →
     ls ≡ filter (λ e. not (list_any (is_policy_at e.0) (values_of m.policies))) m.listed

@@ -1,4 +1,4 @@
--- That a policy set stays one: with what joins it, and without what is taken out.
+-- Additions and removals preserve the invariant of policy sets.
 use Rattle.std.specs.Prelude.{◌≡◌, ℕ, List, [], ◌∷◌, ◌++◌, Bool, true, false, not, ◌||◌, ◌&&◌, Option, Some, None}
 use Rattle.std.specs.Prelude.{MatchOption, refl, is_some}
 use Rattle.std.proofs.Common.{sym, ap, ◌∙◌, cond}
@@ -28,7 +28,7 @@ use Rattle.cedar_policy_maps.specs.laws.OnceLaws.{none_is, find-unless, find-pus
 abbrev body_id : BodyParts → List ℕ
 body_id t = t.id
 
--- the id of something found is another than one that nothing has
+-- The id of an existing body differs from an id that no body has.
 apart : (ts : List BodyParts) (i j : List ℕ) (t : BodyParts) → find (is_body_at i) ts ≡ Some t
     → list_any (is_body_at j) ts ≡ false → (v : Bool) → same_text i j ≡ v → v ≡ false
 apart ts i j t f n true e =
@@ -44,7 +44,7 @@ ids_apart ts i j t f n = apart ts i j t f n (same_text i j) refl
 turned : (i j : List ℕ) → same_text i j ≡ false → same_text j i ≡ false
 turned i j h = same_text_equiv.symm j i ∙ h
 
--- nothing has a free id
+-- No policy has an unused id.
 pub no_policy_at : (b : SetParts) (i : List ℕ) → is_bound b i ≡ false → list_any (is_policy_at i) b.policies ≡ false
 no_policy_at b i h = (or_parts _ _ h).0
 
@@ -59,7 +59,7 @@ one_more_policy : (i : List ℕ) (ps : List PolicyParts) (p : PolicyParts) → l
     → same_text i (policy_id p) ≡ false → list_any (is_policy_at i) (ps ++ p ∷ []) ≡ false
 one_more_policy i ps p n e = list_any-append (is_policy_at i) ps (p ∷ []) ∙ once_more _ _ false n e
 
--- ---- what joins
+-- ---- Additions
 
 held_with_template : (o : Option (List ℕ)) (b : SetParts) (t : BodyParts) (p : PolicyParts)
     → same_text t.id (unwrap_or o p.template.id) ≡ false → IsHeldBy o b p → IsHeldBy o (with_template b t) p
@@ -102,7 +102,7 @@ held-push : (b : SetParts) (ps : List PolicyParts) (q : PolicyParts) → AreHeld
 held-push b [] q h e = (e, tt)
 held-push b (p ∷ ps) q h e = (h.0, held-push b ps q h.1 e)
 
--- a template with a free id joins
+-- Adding a template with an unused id preserves the invariant.
 pub template_joins : (b : SetParts) (t : BodyParts) → IsPolicySet b → is_bound b t.id ≡ false
     → IsPolicySet (with_template b t)
 template_joins b t h n = record {
@@ -125,7 +125,7 @@ no_template_in : (o : Option (List ℕ)) (p : PolicyParts) → template_bound (S
 no_template_in None p = refl
 no_template_in (Some l) p = refl
 
--- the template that is bound is the body with the id, where no policy has it
+-- The template with an id is the body with the id, if no policy has the id.
 pub template_among : (p : Option PolicyParts) (t : Option BodyParts)
     → template_bound (bound_among p t) ≡ cond (is_some p) None t
 template_among (Some p) t = no_template_in p.link p
@@ -138,7 +138,7 @@ no_template_among (Some p) t e = no_template_in p.link p
 no_template_among None (Some u) e = absurd (cc)
 no_template_among None None e = refl
 
--- what a template that is bound says of the orders
+-- If an id is bound to a template, no policy has the id and the body with the id is the template.
 pub template_at : (b : SetParts) (i : List ℕ) (u : BodyParts) → bound_at b i ≡ Some (Template u)
     → (list_any (is_policy_at i) b.policies ≡ false) × (find (is_body_at i) b.bodies ≡ Some u)
 template_at b i u e =
@@ -164,7 +164,7 @@ pub free_link : (o : Option (List ℕ)) (b : SetParts) (q : PolicyParts) → o �
 free_link None b q e h = absurd h
 free_link (Some l) b q e h = ap (λ o. is_bound b (unwrap_or o q.template.id)) (sym e) ∙ h.0
 
--- a link of a template that stands there joins
+-- Adding a link of an existing template preserves the invariant.
 pub link_joins : (b : SetParts) (q : PolicyParts) → IsPolicySet b → CanJoin b q → IsPolicySet (with_policy b q)
 link_joins b q h c =
     let free = free_link q.link b q refl c in
@@ -201,7 +201,7 @@ both_held (Some l) b q e n h =
       h.2,
     )
 
--- a policy and its template join together
+-- Adding a policy together with its template preserves the invariant.
 pub both_join : (b : SetParts) (q : PolicyParts) → IsPolicySet b → CanJoinBoth b q
     → IsPolicySet (with_both b q.template q)
 both_join b q h c =
@@ -214,7 +214,7 @@ both_join b q h c =
       held = held-push (with_both b q.template q) b.policies q all (both_held q.link b q refl c.0 c.1);
     }
 
--- ---- what is taken out
+-- ---- Removals
 
 differs : (i j k : List ℕ) → same_text i j ≡ false → same_text j k ≡ true → not (same_text i k) ≡ true
 differs i j k a e = ap not (ap (same_text i) (sym ((same_text_decides j k).0 e)) ∙ a)
@@ -250,7 +250,7 @@ all_without b i (p ∷ ps) n h =
     kept_held (is_policy_at i p) b i p (filter (λ q. not (is_policy_at i q)) ps) refl (or_parts _ _ n).0 h.0
     (all_without b i ps (or_parts _ _ n).1 h.1)
 
--- where an id has no links, what it is bound to can be taken out
+-- Removing an id without links preserves the invariant.
 pub taken_out : (b : SetParts) (i : List ℕ) → IsPolicySet b → has_links b i ≡ false → IsPolicySet (without_id b i)
 taken_out b i h n = record {
   bodies_once = once-filter body_id (λ t. not (is_body_at i t)) b.bodies h.bodies_once;
@@ -275,12 +275,12 @@ none_linked b i q [] f h = refl
 none_linked b i q (p ∷ ps) f h = ap (λ v. v || list_any (links_to i) ps)
     (linked_by p.link b i p q f h.0 (links_to i p) refl) ∙ none_linked b i q ps f h.1
 
--- a policy's id has no links
+-- The id of a policy has no links.
 pub policy_has_no_links : (b : SetParts) (i : List ℕ) (q : PolicyParts) → IsPolicySet b
     → find (is_policy_at i) b.policies ≡ Some q → has_links b i ≡ false
 policy_has_no_links b i q h f = none_linked b i q b.policies f h.held
 
--- what joined under a free id and is taken out again leaves the former policy set
+-- Adding a policy with an unused id and removing it gives the original set.
 pub undone : (b : SetParts) (p : PolicyParts) → is_bound b (policy_id p) ≡ false
     → without_id (with_policy b p) (policy_id p) ≡ b
 undone b p n =
@@ -305,14 +305,14 @@ unlinked_by : (b : SetParts) (i : List ℕ) (o : Option PolicyParts) → IsPolic
 unlinked_by b i (Some q) h f s = policy_has_no_links b i q h f
 unlinked_by b i None h f s = absurd (cc)
 
--- what is bound as a policy has no links
+-- An id that is bound to a policy has no links.
 pub bound_policy_unlinked : (b : SetParts) (i : List ℕ) (p : PolicyParts) → IsPolicySet b
     → Some (policy_binding p) ≡ bound_at b i → has_links b i ≡ false
 bound_policy_unlinked b i p h e =
     unlinked_by b i (find (is_policy_at i) b.policies) h refl
     (found_is (find (is_policy_at i) b.policies) (find (is_body_at i) b.bodies) p e)
 
--- and is what is found among the policies
+-- An id that is bound to a policy is the id of a policy in the set.
 pub bound_policy : (o : Option PolicyParts) (t : Option BodyParts) (p : PolicyParts)
     → Some (policy_binding p) ≡ bound_among o t → MatchOption o ⊥ (λ q. policy_binding q ≡ policy_binding p)
 bound_policy (Some q) t p e = cc
@@ -327,13 +327,13 @@ none_among None None e = (refl, refl)
 neither : (a b : Bool) → a ≡ false → b ≡ false → (a || b) ≡ false
 neither a b p q = cc
 
--- where nothing is bound nothing has the id
+-- If an id has no binding, it is not in use.
 pub none_bound : (b : SetParts) (i : List ℕ) → bound_at b i ≡ None → is_bound b i ≡ false
 none_bound b i e =
     let u = none_among (find (is_policy_at i) b.policies) (find (is_body_at i) b.bodies) e in
     neither _ _ (none_is (is_policy_at i) b.policies u.0) (none_is (is_body_at i) b.bodies u.1)
 
--- a link of a missing template may join with it
+-- A link whose template is missing can be added together with it.
 pub can_join_both : (o : Option (List ℕ)) (b : SetParts) (p : PolicyParts) → o ≡ p.link → (o ≡ None → ⊥)
     → is_bound b (policy_id p) ≡ false → same_text (policy_id p) p.template.id ≡ false →
     FitsSlots (body_slots p.template) p.env → CanJoinBothBy o b p
@@ -342,7 +342,7 @@ can_join_both (Some l) b p e n f s t =
     let own : policy_id p ≡ l = ap (λ o. unwrap_or o p.template.id) (sym e) in
     (ap (is_bound b) (sym own) ∙ f, ap (λ i. same_text i p.template.id) (sym own) ∙ s, t)
 
--- a link of a template that stands may join
+-- A link of an existing equal template can be added.
 pub can_join : (o : Option (List ℕ)) (b : SetParts) (p : PolicyParts) (u : BodyParts) → o ≡ p.link → (o ≡ None → ⊥)
     → is_bound b (policy_id p) ≡ false → bound_at b p.template.id ≡ Some (Template u) →
     same_body u p.template ≡ true → FitsSlots (body_slots p.template) p.env → CanJoinBy o b p
@@ -361,7 +361,7 @@ alone_by : (o : Option (List ℕ)) (p : PolicyParts) → (o ≡ Some p.template.
 alone_by None p own whole slots total = (whole refl, slots refl)
 alone_by (Some l) p own whole slots total = (refl, other_id l p.template.id (same_text l p.template.id) refl own, total)
 
--- each policy with an id of its own joins the policy set without a binding
+-- A policy that is not a link with its template's id can be added to the empty set.
 pub alone : (p : PolicyParts) → HasOwnId p → (p.link ≡ None → p ≡ static_policy p.template)
     → (p.link ≡ None → body_slots p.template ≡ []) → BindsExactly (body_slots p.template) p.env →
     wrong_action p.env ≡ None → CanJoinBoth empty_set p

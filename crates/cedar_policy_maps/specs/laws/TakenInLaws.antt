@@ -1,4 +1,4 @@
--- The three maps agree once bodies and policies went last in them.
+-- The three maps agree after bodies and policies are appended.
 use Rattle.std.specs.Prelude.{◌≡◌, ℕ, List, [], ◌∷◌, ◌++◌, Bool, true, false, not, map}
 use Rattle.std.proofs.Common.{cond, sym, ap, ◌∙◌, subst}
 use Rattle.std.specs.List.{filter, list_any}
@@ -44,13 +44,13 @@ bare_templates [] qs ps h = tt
 bare_templates (t ∷ ts) qs ps h = bare_kept (not (list_any (is_policy_at t.id) qs)) t (templates_in qs ts) ps h.0
     (bare_templates ts qs ps h.1)
 
--- what is asked of all bodies, as it is asked of anything that stands under ids
+-- `AreBare` for bodies is the general `AreBare` for values with ids.
 each_bare : (ts : List BodyParts) (ps : List PolicyParts) → AreBare ts ps
     → each.AreBare body_id policy_id own_body ts ps
 each_bare [] ps h = tt
 each_bare (t ∷ ts) ps h = (h.0, each_bare ts ps h.1)
 
--- the lists of all templates, those that grew and the new ones
+-- The lists of all templates are the lists that grew, followed by the new ones.
 lists_agree : (b : SetParts) (stand ts : List BodyParts) (ps : List PolicyParts) → CanTakeIn b stand ts ps
     → grown_by (ids_by_body (templates_in b.policies b.bodies) b.policies)
     (gathered [] (elsewhere_in (map body_id (templates_in ps ts)) ps)) ++ ids_by_body (templates_in ps ts) ps

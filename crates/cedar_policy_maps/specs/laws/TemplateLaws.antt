@@ -1,4 +1,4 @@
--- Which bodies are templates, once something joins or is taken out: those whose id no policy has.
+-- The bodies that are templates, after additions and removals: those whose id no policy has.
 use Rattle.std.specs.Prelude.{◌≡◌, ℕ, List, [], ◌∷◌, ◌++◌, Bool, true, false, not, ◌||◌, None, refl, map}
 use Rattle.std.proofs.Common.{cond, sym, ap, ◌∙◌, arith}
 use Rattle.std.specs.List.{filter, find, list_any}
@@ -27,7 +27,7 @@ or_second : (a c : Bool) → a ≡ false → (a || c) ≡ c
 or_second true c h = absurd (cc)
 or_second false c h = refl
 
--- what passes a filter is looked for in vain where it passes none
+-- Filtering does not affect a search if all elements that pass its test pass the filter.
 pub any-filter : {X : Type 0} (p t : X → Bool) (xs : List X) → ((x : X) → t x ≡ true → p x ≡ true)
     → list_any t (filter p xs) ≡ list_any t xs
 any-filter p t [] h = refl
@@ -38,9 +38,9 @@ pub none-filter : {X : Type 0} (p t : X → Bool) (xs : List X) → ((x : X) →
 none-filter p t [] h = refl
 none-filter p t (x ∷ xs) h = grind (arith, common_steps, h x, none-filter p t xs h)
 
--- ---- what joins
+-- ---- Additions
 
--- policies that have no id of these bodies
+-- Adding policies with other ids does not change which of these bodies are templates.
 pub templates_beside : (ts : List BodyParts) (ps qs : List PolicyParts) → HaveIdsFreeOf ts qs
     → templates_in (ps ++ qs) ts ≡ templates_in ps ts
 templates_beside [] ps qs h = refl
@@ -49,7 +49,7 @@ templates_beside (t ∷ ts) ps qs h =
     list_any-append (is_policy_at t.id) ps qs ∙ or_first _ _ h.0 in
     λ j. cond (not (e j)) (t ∷ templates_beside ts ps qs h.1 j) (templates_beside ts ps qs h.1 j)
 
--- bodies of which no policy before has the id
+-- For bodies whose ids the first policies do not have, only the other policies matter.
 pub templates_behind : (ts : List BodyParts) (ps qs : List PolicyParts) → HaveIdsFreeOf ts ps
     → templates_in (ps ++ qs) ts ≡ templates_in qs ts
 templates_behind [] ps qs h = refl
@@ -58,14 +58,14 @@ templates_behind (t ∷ ts) ps qs h =
     list_any-append (is_policy_at t.id) ps qs ∙ or_second _ _ h.0 in
     λ j. cond (not (e j)) (t ∷ templates_behind ts ps qs h.1 j) (templates_behind ts ps qs h.1 j)
 
--- both
+-- The templates of the existing and the new bodies.
 pub templates_joined : (ts us : List BodyParts) (ps qs : List PolicyParts) → HaveIdsFreeOf ts qs → HaveIdsFreeOf us ps →
     templates_in (ps ++ qs) (ts ++ us) ≡ templates_in ps ts ++ templates_in qs us
 templates_joined ts us ps qs h g =
     filter-append (λ (t : BodyParts). not (list_any (is_policy_at t.id) (ps ++ qs))) ts us
     ∙ (λ j. templates_beside ts ps qs h j ++ templates_behind us ps qs g j)
 
--- one policy, whose id no body has
+-- The ids of bodies are not the id of one policy.
 pub free_of_one : (ts : List BodyParts) (p : PolicyParts) → list_any (is_body_at (policy_id p)) ts ≡ false
     → HaveIdsFreeOf ts (p ∷ [])
 free_of_one [] p h = tt
@@ -77,21 +77,21 @@ pub templates_stay : (ts : List BodyParts) (ps : List PolicyParts) (p : PolicyPa
     → list_any (is_body_at (policy_id p)) ts ≡ false → templates_in (ps ++ p ∷ []) ts ≡ templates_in ps ts
 templates_stay ts ps p h = templates_beside ts ps (p ∷ []) (free_of_one ts p h)
 
--- a template, of which no policy has the id
+-- An appended body whose id no policy has is the last template.
 pub template_last : (ts : List BodyParts) (ps : List PolicyParts) (t : BodyParts)
     → list_any (is_policy_at t.id) ps ≡ false → templates_in ps (ts ++ t ∷ []) ≡ templates_in ps ts ++ t ∷ []
 template_last ts ps t n =
     filter-append (λ (t : BodyParts). not (list_any (is_policy_at t.id) ps)) ts (t ∷ [])
     ∙ (λ j. templates_in ps ts ++ cond (not (n j)) (t ∷ []) [])
 
--- the body of a policy with its id is none
+-- An appended body whose id a policy has is not a template.
 pub static_last : (ts : List BodyParts) (ps : List PolicyParts) (t : BodyParts) → list_any (is_policy_at t.id) ps ≡ true
     → templates_in ps (ts ++ t ∷ []) ≡ templates_in ps ts
 static_last ts ps t n =
     filter-append (λ (t : BodyParts). not (list_any (is_policy_at t.id) ps)) ts (t ∷ [])
     ∙ (λ j. templates_in ps ts ++ cond (not (n j)) (t ∷ []) []) ∙ append-nil (templates_in ps ts)
 
--- ---- what is taken out
+-- ---- Removals
 
 apart_from : (i k : List ℕ) (p : PolicyParts) → same_text i k ≡ false → is_policy_at k p ≡ true
     → not (is_policy_at i p) ≡ true
@@ -124,7 +124,7 @@ templates_removed i (t ∷ ts) ps =
     (λ n. any-filter (λ p. not (is_policy_at i p)) (is_policy_at t.id) ps (λ p e. apart_from i t.id p n e))
     (templates_removed i ts ps)
 
--- ---- what is read
+-- ---- Lookups
 
 found_at : (v : Bool) (i : List ℕ) (ts : List BodyParts) (ps : List PolicyParts) → list_any (is_policy_at i) ps ≡ v
     → find (is_body_at i) (templates_in ps ts) ≡ cond v None (find (is_body_at i) ts)
@@ -136,12 +136,12 @@ found_at false i ts ps e =
     find-filter (λ (t : BodyParts). not (list_any (is_policy_at t.id) ps)) (is_body_at i) ts
     (λ t f. ap (λ k. not (list_any (is_policy_at k) ps)) (sym ((same_text_decides i t.id).0 f)) ∙ ap not e)
 
--- a template is found under an id where a body is and no policy
+-- The template with an id is the body with the id, if no policy has the id.
 pub template_found : (i : List ℕ) (ts : List BodyParts) (ps : List PolicyParts)
     → find (is_body_at i) (templates_in ps ts) ≡ cond (list_any (is_policy_at i) ps) None (find (is_body_at i) ts)
 template_found i ts ps = found_at (list_any (is_policy_at i) ps) i ts ps refl
 
--- ---- lists of ids
+-- ---- Lists of ids
 
 listed_at : (v : Bool) (t : BodyParts) (ts : List BodyParts) (ps qs : List PolicyParts) (ls : List (List ℕ
     × List (List ℕ))) → ls ≡ ids_by_body (templates_in ps ts) qs
@@ -154,7 +154,7 @@ listed_at false t ts ps qs ls h = ap (λ ls. (
       (filter (λ p. same_text t.id p.template.id) qs),
 ) ∷ ls) h
 
--- of the lists of all bodies those under no policy's id are the templates'
+-- The lists of all bodies, without those under ids of policies, are the lists of the templates.
 pub templates_listed : (ts : List BodyParts) (ps qs : List PolicyParts)
     → filter (λ e. not (list_any (is_policy_at e.0) ps)) (ids_by_body ts qs) ≡ ids_by_body (templates_in ps ts) qs
 templates_listed [] ps qs = refl

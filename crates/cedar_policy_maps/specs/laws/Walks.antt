@@ -1,4 +1,4 @@
--- Walks over lists of bodies and of policies: one more, and what stands before and behind it; equal ones are the same.
+-- Scans of lists of bodies and policies. Equal bodies and equal policies are identical.
 use Rattle.std.specs.Prelude.{◌≡◌, ℕ, ◌+◌, ◌<◌, length, List, [], ◌∷◌, ◌++◌, true, suc, zero}
 use Rattle.std.proofs.Common.{sym, ap, ◌∙◌, take, get_or, arith, drop}
 use Rattle.std.specs.declared.rc.Rc.{Rc}
@@ -28,7 +28,7 @@ parted [] k t l e = absurd (omega arith)
 parted (u ∷ us) zero t l e = λ i. (sym e i).value ∷ bodies_of us
 parted (u ∷ us) (suc k) t l e = ap (λ xs. u.value ∷ xs) (parted us k t (omega arith) e)
 
--- equal bodies and equal policies are the same
+-- Equal bodies are identical.
 pub same_body_is : (t u : BodyParts) → same_body t u ≡ true → t ≡ u
 same_body_is t u e = (same_body_decides t u).0 e
 

@@ -1,4 +1,4 @@
--- When an id conflicts: both policy sets bind it, and the two bindings are not alike.
+-- An id is in conflict exactly if both policy sets use it and bind it differently.
 use Rattle.std.specs.Prelude.{◌≡◌, ◌⊎◌, ◌↔◌, ℕ, List, [], ◌∷◌, ◌++◌, Bool, true, false, not, ◌||◌, ◌&&◌, Option, Some}
 use Rattle.std.specs.Prelude.{None, refl}
 use Rattle.std.proofs.Common.{inl, inr, sym, ap, ◌∙◌, cond, subst}
@@ -19,16 +19,15 @@ use Rattle.cedar_policy_maps.specs.PolicySets.{is_bound, is_body_at, is_policy_a
 use Rattle.cedar_policy_maps.specs.PolicySets.{IsPolicySet}
 use Rattle.cedar_policy_merge.specs.Merge.{has_body, has_policy, body_ids, policy_ids, is_same_at, conflicting}
 use Rattle.cedar_policy_merge.specs.Merge.{conflicts}
-use Rattle.cedar_policy_merge.specs.Merge.{same_binding, Differ}
-use Rattle.cedar_policy_maps.specs.laws.SetLaws.{none_bound}
-use Rattle.cedar_policy_merge.specs.laws.MergeLaws.{found_there}
+use Rattle.cedar_policy_merge.specs.Merge.{same_binding, DifferAt}
 use Rattle.cedar_policy_maps.specs.laws.OnceLaws.{find-unless, found_passes, any-map}
 use Rattle.cedar_policy_merge.specs.laws.RenamingLaws.{is_in, either_of, in_gathered, conflict_found, first_of}
 use Rattle.cedar_policy_merge.specs.laws.RenamingLaws.{second_of}
 
--- ---- what stands in the two orders at a bound id
+-- ---- The policy and the body of a used id
 
--- a static policy and its body, a link and no body, or a template's body alone
+-- Whether these are the policy and the body of a binding. A static policy has both, a link has only a policy, and a
+-- template has only a body.
 abbrev pub Shape : Option PolicyParts → Option BodyParts → Binding → Type 0
 Shape p t x =
     ((u : BodyParts) × (p ≡ Some (static_policy u)) × (t ≡ Some u) × (x ≡ Static u))
@@ -41,7 +40,7 @@ held_at : (v : Bool) (b : SetParts) (q p : PolicyParts) (rest : Option PolicyPar
 held_at true b q p rest f h r = let same : q ≡ p = cc in subst (IsHeld b) same h
 held_at false b q p rest f h r = r f
 
--- a policy that is found is held
+-- A policy that is found fits the set.
 pub policy_held : (b : SetParts) (i : List ℕ) (ps : List PolicyParts) (p : PolicyParts) → find (is_policy_at i) ps ≡ Some p
     → AreHeld b ps → IsHeld b p
 policy_held b i [] p f h = absurd (cc)
@@ -81,7 +80,7 @@ shape : (b : SetParts) (i : List ℕ) (x : Binding) → IsPolicySet b → bound_
     → Shape (find (is_policy_at i) b.policies) (find (is_body_at i) b.bodies) x
 shape b i x h e = shape_by b i x (find (is_policy_at i) b.policies) (find (is_body_at i) b.bodies) h refl refl e
 
--- ---- alike in both orders, alike as bindings
+-- ---- Equal policies and bodies, equal bindings
 
 pub twice : (v : Bool) → ((v && true) && v) ≡ v
 twice true = refl
@@ -115,11 +114,51 @@ alike p q t u x y (inr (inr a)) (inl b) = at_ends a.1 b.1 a.2 b.2 a.3 b.3 refl
 alike p q t u x y (inr (inr a)) (inr (inl b)) = at_ends a.1 b.3 a.2 b.4 a.3 b.5 refl
 alike p q t u x y (inr (inr a)) (inr (inr b)) = at_ends a.1 b.1 a.2 b.2 a.3 b.3 refl
 
-same_bound : (h o : SetParts) (i : List ℕ) (x y : Binding) → IsPolicySet h → IsPolicySet o → bound_at h i ≡ Some x
-    → bound_at o i ≡ Some y → is_same_at h o i ≡ same_binding x y
-same_bound h o i x y b c e f = alike _ _ _ _ x y (shape h i x b e) (shape o i y c f)
+-- An id that is not in use has no policy and no body.
+none_among : (p : Option PolicyParts) (t : Option BodyParts) → bound_among p t ≡ None → (p ≡ None) × (t ≡ None)
+none_among (Some p) t e = absurd (cc)
+none_among None (Some u) e = absurd (cc)
+none_among None None e = (refl, refl)
 
--- ---- what is among the conflicting ids
+-- The policy and the body of an id that is in use are not both absent.
+unlike_here : (q : Option PolicyParts) (u : Option BodyParts) (y : Binding) → Shape q u y
+    → (option_eq same_policy None q && option_eq same_body None u) ≡ false
+unlike_here q u y (inl b) = λ i. option_eq same_policy None (b.1 i) && option_eq same_body None (b.2 i)
+unlike_here q u y (inr (inl b)) = λ i. option_eq same_policy None (b.3 i) && option_eq same_body None (b.4 i)
+unlike_here q u y (inr (inr b)) = λ i. option_eq same_policy None (b.1 i) && option_eq same_body None (b.2 i)
+
+unlike_there : (p : Option PolicyParts) (t : Option BodyParts) (x : Binding) → Shape p t x
+    → (option_eq same_policy p None && option_eq same_body t None) ≡ false
+unlike_there p t x (inl a) = λ i. option_eq same_policy (a.1 i) None && option_eq same_body (a.2 i) None
+unlike_there p t x (inr (inl a)) = λ i. option_eq same_policy (a.3 i) None && option_eq same_body (a.4 i) None
+unlike_there p t x (inr (inr a)) = λ i. option_eq same_policy (a.1 i) None && option_eq same_body (a.2 i) None
+
+orders_by : (h o : SetParts) (i : List ℕ) (x y : Option Binding) → IsPolicySet h → IsPolicySet o → bound_at h i ≡ x
+    → bound_at o i ≡ y → (option_eq same_policy (find (is_policy_at i) h.policies) (find (is_policy_at i) o.policies)
+    && option_eq same_body (find (is_body_at i) h.bodies) (find (is_body_at i) o.bodies)) ≡ option_eq same_binding x y
+orders_by h o i None None b c e f =
+    let n = none_among _ _ e in
+    let m = none_among _ _ f in
+    λ j. option_eq same_policy (n.0 j) (m.0 j) && option_eq same_body (n.1 j) (m.1 j)
+orders_by h o i None (Some y) b c e f =
+    let n = none_among _ _ e in
+    (λ j. option_eq same_policy (n.0 j) (find (is_policy_at i) o.policies)
+    && option_eq same_body (n.1 j) (find (is_body_at i) o.bodies))
+    ∙ unlike_here _ _ y (shape o i y c f)
+orders_by h o i (Some x) None b c e f =
+    let m = none_among _ _ f in
+    (λ j. option_eq same_policy (find (is_policy_at i) h.policies) (m.0 j)
+    && option_eq same_body (find (is_body_at i) h.bodies) (m.1 j))
+    ∙ unlike_there _ _ x (shape h i x b e)
+orders_by h o i (Some x) (Some y) b c e f = alike _ _ _ _ x y (shape h i x b e) (shape o i y c f)
+
+-- Two sets bind an id equally exactly if its policies and its bodies are equal.
+pub same_in_orders : (h o : SetParts) (i : List ℕ) → IsPolicySet h → IsPolicySet o →
+    (option_eq same_policy (find (is_policy_at i) h.policies) (find (is_policy_at i) o.policies)
+    && option_eq same_body (find (is_body_at i) h.bodies) (find (is_body_at i) o.bodies)) ≡ is_same_at h o i
+same_in_orders h o i b c = orders_by h o i (bound_at h i) (bound_at o i) b c refl refl
+
+-- ---- The elements of the conflicting ids
 
 both_of : (a b : Bool) → (a && not b) ≡ true → (a ≡ true) × (b ≡ false)
 both_of true false h = (refl, refl)
@@ -153,13 +192,9 @@ in_list : (p : List ℕ → Bool) (i : List ℕ) (is : List (List ℕ)) → is_i
 in_list p i [] h = h
 in_list p i (x ∷ is) h = kept_at (p x) p i x is (filter p is) h (λ k. in_list p i is k)
 
--- the id is bound in both policy sets, and to other things
-abbrev Clash : SetParts → SetParts → List ℕ → Type 0
-Clash h o i = (is_bound h i ≡ true) × (is_bound o i ≡ true) × (is_same_at h o i ≡ false)
-
 clashes : (h o : SetParts) (stands : List ℕ → Bool) (is : List (List ℕ)) (i : List ℕ)
     → (stands i ≡ true → is_bound h i ≡ true) → (is_in i is ≡ true → is_bound o i ≡ true)
-    → is_in i (conflicting h o stands is) ≡ true → Clash h o i
+    → is_in i (conflicting h o stands is) ≡ true → DifferAt h o i
 clashes h o stands is i here there k =
     let p = both_of (stands i) (is_same_at h o i) (from_filter (λ j. stands j && not (is_same_at h o j)) i is k) in
     (here p.0, there (in_list (λ j. stands j && not (is_same_at h o j)) i is k), p.1)
@@ -180,14 +215,14 @@ split : (i : List ℕ) (xs ys : List (List ℕ)) → is_in i (xs ++ ys) ≡ true
 split i xs ys h = either_of (is_in i xs) (is_in i ys) (sym (list_any-append (same_text i) xs ys) ∙ h)
 
 of_four : (h o : SetParts) (i : List ℕ) → (is_in i (conflicting h o (has_policy h) (body_ids o)) ≡ true)
-    ⊎ (is_in i (conflicting h o (has_body h) (policy_ids o)) ≡ true) → Clash h o i
+    ⊎ (is_in i (conflicting h o (has_body h) (policy_ids o)) ≡ true) → DifferAt h o i
 of_four h o i (inl k) = clashes h o (has_policy h) (body_ids o) i (by_policy h i) (among_bodies o i) k
 of_four h o i (inr k) = clashes h o (has_body h) (policy_ids o) i (by_body h i) (among_policies o i) k
 
 of_three : (h o : SetParts) (i : List ℕ) →
     (is_in i (conflicting h o (has_policy h) (policy_ids o)) ≡ true)
     ⊎ (is_in i (conflicting h o (has_policy h) (body_ids o) ++ conflicting h o (has_body h) (policy_ids o)) ≡ true)
-    → Clash h o i
+    → DifferAt h o i
 of_three h o i (inl k) = clashes h o (has_policy h) (policy_ids o) i (by_policy h i) (among_policies o i) k
 of_three h o i (inr k) = of_four h o i (split i (conflicting h o (has_policy h) (body_ids o))
     (conflicting h o (has_body h) (policy_ids o)) k)
@@ -196,48 +231,19 @@ of_two : (h o : SetParts) (i : List ℕ) →
     (is_in i (conflicting h o (has_body h) (body_ids o)) ≡ true)
     ⊎ (is_in i (conflicting h o (has_policy h) (policy_ids o)
     ++ (conflicting h o (has_policy h) (body_ids o) ++ conflicting h o (has_body h) (policy_ids o))) ≡ true)
-    → Clash h o i
+    → DifferAt h o i
 of_two h o i (inl k) = clashes h o (has_body h) (body_ids o) i (by_body h i) (among_bodies o i) k
 of_two h o i (inr k) =
     of_three h o i (split i (conflicting h o (has_policy h) (policy_ids o)) (conflicting h o (has_policy h) (body_ids o)
     ++ conflicting h o (has_body h) (policy_ids o)) k)
 
-clash : (h o : SetParts) (i : List ℕ) → is_in i (conflicts h o) ≡ true → Clash h o i
+clash : (h o : SetParts) (i : List ℕ) → is_in i (conflicts h o) ≡ true → DifferAt h o i
 clash h o i k =
     of_two h o i (split i (conflicting h o (has_body h) (body_ids o))
     (conflicting h o (has_policy h) (policy_ids o) ++ (conflicting h o (has_policy h) (body_ids o)
     ++ conflicting h o (has_body h) (policy_ids o)))
     (sym (in_gathered i _) ∙ k))
 
--- ---- both ways
-
-differ : (h o : SetParts) (i : List ℕ) (x y : Option Binding) → IsPolicySet h → IsPolicySet o → bound_at h i ≡ x
-    → bound_at o i ≡ y → Clash h o i → Differ x y
-differ h o i None y b c e f k = absurd (false≢true (sym (none_bound h i e) ∙ k.0))
-differ h o i (Some x) None b c e f k = absurd (false≢true (sym (none_bound o i f) ∙ k.1))
-differ h o i (Some x) (Some y) b c e f k = sym (same_bound h o i x y b c e f) ∙ k.2
-
-there_by : (b : SetParts) (i : List ℕ) (p : Option PolicyParts) (t : Option BodyParts) (x : Binding)
-    → find (is_policy_at i) b.policies ≡ p → find (is_body_at i) b.bodies ≡ t → bound_among p t ≡ Some x
-    → is_bound b i ≡ true
-there_by b i (Some p) t x f r e = by_policy b i (found_there (is_policy_at i) b.policies p f)
-there_by b i None (Some u) x f r e = by_body b i (found_there (is_body_at i) b.bodies u r)
-there_by b i None None x f r e = absurd (cc)
-
-there : (b : SetParts) (i : List ℕ) (x : Binding) → bound_at b i ≡ Some x → is_bound b i ≡ true
-there b i x e = there_by b i (find (is_policy_at i) b.policies) (find (is_body_at i) b.bodies) x refl refl e
-
-conflict : (h o : SetParts) (i : List ℕ) (x y : Option Binding) → IsPolicySet h → IsPolicySet o → bound_at h i ≡ x
-    → bound_at o i ≡ y → Differ x y → is_in i (conflicts h o) ≡ true
-conflict h o i None y b c e f d = absurd d
-conflict h o i (Some x) None b c e f d = absurd d
-conflict h o i (Some x) (Some y) b c e f d = conflict_found h o i (there h i x e) (there o i y f)
-    (same_bound h o i x y b c e f ∙ d)
-
--- an id conflicts exactly where both policy sets bind it, to bindings that are not alike
-pub conflicts_differ : (h o : SetParts) → IsPolicySet h → IsPolicySet o → (i : List ℕ)
-    → (list_any (same_text i) (conflicts h o) ≡ true) ↔ Differ (bound_at h i) (bound_at o i)
-conflicts_differ h o b c i = (
-  (λ k. differ h o i (bound_at h i) (bound_at o i) b c refl refl (clash h o i k)),
-  (λ d. conflict h o i (bound_at h i) (bound_at o i) b c refl refl d),
-)
+-- An id is in conflict exactly if both sets use it and bind it differently.
+pub conflicts_differ : (h o : SetParts) (i : List ℕ) → (list_any (same_text i) (conflicts h o) ≡ true) ↔ DifferAt h o i
+conflicts_differ h o i = (clash h o i, λ d. conflict_found h o i d.0 d.1 d.2)

@@ -1,4 +1,4 @@
--- How many numbers of free ids there are below a number.
+-- The count of the free ids below a number.
 use Rattle.std.specs.Prelude.{◌≡◌, ℕ, ◌+◌, ◌<◌, List, [], ◌∷◌, ◌++◌, length, Bool, true, false, ◌||◌, Option, Some}
 use Rattle.std.specs.Prelude.{None, if◌then◌else◌, refl, suc, zero}
 use Rattle.std.proofs.Common.{◌≤◌, sym, ap, ◌∙◌, arith, add-zero, cond, subst}
@@ -17,7 +17,7 @@ use Rattle.cedar_policy_merge.specs.Merge.{body_ids, policy_ids, ids_of}
 use Rattle.cedar_policy_merge.specs.laws.Numerals.{numbered_is}
 use Rattle.cedar_policy_maps.specs.laws.OnceLaws.{any-map}
 
--- the bound ones
+-- The count of the numbers below `n` whose ids are in use.
 unfoldable bound_below : (List ℕ → Bool) → ℕ → ℕ
 bound_below bound zero = 0
 bound_below bound (suc n) = bound_below bound n + (if bound (numbered n) then 1 else 0)
@@ -31,7 +31,7 @@ one_of_two : (v : Bool) (n f b : ℕ) → f + b ≡ n → (f + (if v then 0 else
 one_of_two true n f b h = omega arith
 one_of_two false n f b h = omega arith
 
--- each is free or bound
+-- Each number below `n` has a free id or a used one.
 both_below : (bound : List ℕ → Bool) (n : ℕ) → free_below bound n + bound_below bound n ≡ n
 unfolding free_below bound_below
 both_below bound zero = refl
@@ -46,7 +46,7 @@ either_more false true false x y z h l = omega arith
 either_more false false true x y z h l = let e = h refl in cc
 either_more false false false x y z h l = omega arith
 
--- what one of two tests finds counts no more than both
+-- If each id that passes `u` passes `s` or `t`, `u` has at most the sum of their counts.
 either_below : (s t u : List ℕ → Bool) (n : ℕ) → ((i : List ℕ) → u i ≡ true → (s i || t i) ≡ true)
     → bound_below u n ≤ bound_below s n + bound_below t n
 unfolding bound_below
@@ -76,13 +76,13 @@ once_more_below x n true e l =
     none_below (λ i. same_text i x) n (λ m k. another x m n k e (same_text (numbered m) x) refl) in
     omega arith
 
--- an id is that of one number at most
+-- An id is the id of at most one number.
 once_below : (x : List ℕ) (n : ℕ) → bound_below (λ i. same_text i x) n ≤ 1
 unfolding bound_below
 once_below x zero = omega arith
 once_below x (suc n) = once_more_below x n (same_text (numbered n) x) refl (once_below x n)
 
--- no more are bound than there are ids
+-- The count of numbers whose ids are in a list is at most the length of the list.
 ids_below : (xs : List (List ℕ)) (n : ℕ) → bound_below (λ i. list_any (same_text i) xs) n ≤ length xs
 ids_below [] n = omega (arith, none_below (λ i. false) n (λ m k. refl))
 ids_below (x ∷ xs) n =
@@ -95,7 +95,7 @@ unfolding bound_below
 alike_below s t zero h = refl
 alike_below s t (suc n) h = rw (h (numbered n), alike_below s t n h) refl
 
--- where some ids are those that are bound, the number of the k-th free id is at most their number and k
+-- If the used ids are the ids of a list, a number is at most its count of smaller free ids plus the length of the list.
 pub free_within : (bound : List ℕ → Bool) (xs : List (List ℕ)) (n : ℕ)
     → ((i : List ℕ) → bound i ≡ list_any (same_text i) xs) → n ≤ free_below bound n + length xs
 free_within bound xs n q =
@@ -105,7 +105,7 @@ free_within bound xs n q =
 alike_or : (a b c d : Bool) → a ≡ c → b ≡ d → (a || b) ≡ (c || d)
 alike_or a b c d p q = cc
 
--- an id is bound exactly where it is one of them
+-- An id is in use exactly if it is the id of a policy or a body.
 pub bound_among_ids : (b : SetParts) (i : List ℕ) → is_bound b i ≡ list_any (same_text i) (ids_of b)
 bound_among_ids b i =
     alike_or _ _ _ _ (sym (any-map policy_id (same_text i) b.policies))
@@ -118,7 +118,7 @@ either_among_ids here other i =
     alike_or _ _ _ _ (bound_among_ids here i) (bound_among_ids other i)
     ∙ sym (list_any-append (same_text i) (ids_of here) (ids_of other))
 
--- how many ids two policy sets have, those of static policies twice
+-- The count of the ids of two sets, with the ids of static policies twice.
 abbrev pub count : SetParts → SetParts → ℕ
 count here other = (length here.policies + length here.bodies) + (length other.policies + length other.bodies)
 
@@ -126,7 +126,7 @@ length_ids : (b : SetParts) → length (ids_of b) ≡ length b.policies + length
 length_ids b = length-append (policy_ids b) (body_ids b)
     ∙ (λ j. length-map b.policies policy_id j + length-map b.bodies (λ (t : BodyParts). t.id) j)
 
--- a number is at most the number of free ids below it and the count of ids
+-- A number is at most the count of the free ids below it plus the count of all ids.
 pub number_within : (here other : SetParts) (n : ℕ)
     → n ≤ free_below (is_bound_in_either here other) n + count here other
 number_within here other n =
@@ -139,22 +139,22 @@ number_within here other n =
       length_ids other,
     )
 
--- past the number of a bound id as many ids are free
+-- A used id does not change the count of free ids.
 pub passed : (bound : List ℕ → Bool) (n : ℕ) → bound (numbered n) ≡ true → free_below bound (suc n) ≡ free_below bound n
 passed bound n t = free_more bound n ∙ rw t (add-zero (free_below bound n))
 
--- and past that of a free id one more
+-- A free id increases the count of free ids by one.
 pub counted : (bound : List ℕ → Bool) (n : ℕ) → bound (numbered n) ≡ false
     → free_below bound (suc n) ≡ free_below bound n + 1
 counted bound n t = free_more bound n ∙ rw t refl
 
--- one more free id
+-- The next free id extends a list of consecutive free ids.
 pub free_push : (bound : List ℕ → Bool) (k : ℕ) (is : List (List ℕ)) (n : ℕ) → AreFree bound k is
     → IsFree bound (k + length is) n → AreFree bound k (is ++ numbered n ∷ [])
 free_push bound k [] n a f = ((n, refl, (f.0, f.1 ∙ omega arith)), tt)
 free_push bound k (i ∷ is) n a f = (a.0, free_push bound (k + 1) is n a.1 (f.0, f.1 ∙ omega arith))
 
--- a search that met no free id has come no further than there are ids, and goes on past a bound one
+-- A search that found no free id yet has passed at most as many numbers as there are ids. It continues after a used id.
 pub one_on : (here other : SetParts) (start n : ℕ) (i : List ℕ) →
     n ≤ free_below (is_bound_in_either here other) start + count here other
     → free_below (is_bound_in_either here other) n ≡ free_below (is_bound_in_either here other) start →
@@ -174,14 +174,14 @@ none_free_below bound = refl
 absent_at : (v : Bool) (j : List ℕ) (r : Option (List ℕ)) → v ≡ false → r ≡ None → cond v (Some j) r ≡ None
 absent_at v j r e f = ap (λ w. cond w (Some j) r) e ∙ f
 
--- what is no key has no value
+-- An id that is not a key has no value.
 pub absent_key : (es : List (List ℕ × List ℕ)) (i : List ℕ) → list_any (same_text i) (keys_of es) ≡ false
     → lookup (same_text i) es ≡ None
 absent_key [] i n = refl
 absent_key (e ∷ es) i n = absent_at (same_text i e.0) e.1 (lookup (same_text i) es) (or_parts _ _ n).0
     (absent_key es i (or_parts _ _ n).1)
 
--- where ids stand once, what stands before one is another
+-- In a list without duplicates, an id is not among the ids before it.
 pub before_once : (ks : List (List ℕ)) (i : List ℕ) (rest : List (List ℕ))
     → AreOnce (λ (j : List ℕ). j) (ks ++ i ∷ rest) → list_any (same_text i) ks ≡ false
 before_once [] i rest h = refl
@@ -190,7 +190,7 @@ before_once (k ∷ ks) i rest h =
     (sym (list_any-append (same_text k) ks (i ∷ rest)) ∙ h.0) in
     alike_or _ _ _ _ (same_text_equiv.symm i k ∙ (or_parts (same_text k i) _ n.1).0) (before_once ks i rest h.1)
 
--- one more id and the free one that it goes to
+-- The next id and its free id extend the renaming.
 pub fresh_more : (bound : List ℕ → Bool) (es fs : List (List ℕ
     × List ℕ)) (i v : List ℕ) (rest ids : List (List ℕ)) (start n : ℕ) → fs ≡ es ++ (i, v) ∷ []
     → keys_of es ++ (i ∷ rest) ≡ ids →

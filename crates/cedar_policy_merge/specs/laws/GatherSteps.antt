@@ -1,4 +1,4 @@
--- One more body, and one more policy, of those that are walked for the ids that conflict; each is found under its own id.
+-- The steps of the two scans for ids in conflict. Each body and each policy is found under its own id.
 use Rattle.std.specs.Prelude.{◌≡◌, ℕ, ◌+◌, ◌<◌, length, List, [], ◌∷◌, ◌++◌, Bool, false, not, ◌&&◌, Some}
 use Rattle.std.specs.Prelude.{map, suc, zero}
 use Rattle.std.proofs.Common.{sym, ap, ◌∙◌, take, get_or, arith, subst, cond}
@@ -8,6 +8,7 @@ use Rattle.std.specs.List.{find, list_any}
 use Rattle.std.proofs.lemmas.Bool.{or_parts}
 use Rattle.std.proofs.lemmas.List.{map-append, append_assoc, length-map}
 use Rattle.std.proofs.lemmas.List.Elements.{filter-append}
+use Rattle.indexmap.specs.IndexSet.{insert_all}
 use Rattle.cedar_ids.specs.Texts.{same_text}
 use Rattle.cedar_ids.specs.laws.TextLaws.{same_text_equiv}
 use Rattle.cedar_body.specs.Bodies.{BodyParts}
@@ -16,12 +17,12 @@ use Rattle.cedar_policy_maps.specs.PolicySets.{SetParts, AreOnce, IsPolicySet, i
 use Rattle.cedar_policy_maps.specs.Views.{bodies_of}
 use Rattle.cedar_policy_maps.specs.laws.OnceLaws.{is_at}
 use Rattle.cedar_policy_maps.specs.laws.Walks.{bodies_more, policies_more}
-use Rattle.cedar_policy_merge.specs.Merge.{conflicting, gathered, is_same_at}
+use Rattle.cedar_policy_merge.specs.Merge.{conflicting, is_same_at}
 use Rattle.cedar_policy_merge.specs.laws.GatherLaws.{Group, looked_at, conflicting_bodies, conflicting_policies}
 use Rattle.cedar_policy_merge.specs.laws.MergeSteps.{gathered-append}
 use Rattle.cedar_policy_merge.specs.laws.RenamingLaws.{itself}
 
--- ---- one more
+-- ---- One step
 
 more_conflict : (h o : SetParts) (stands : List ℕ → Bool) (xs : List (List ℕ)) (x : List ℕ) →
     conflicting h o stands (xs ++ x ∷ []) ≡ conflicting h o stands xs ++ conflicting h o stands (x ∷ [])
@@ -44,22 +45,22 @@ more_policies_conflict g h o ps k p l e =
     ∙ ap (conflicting h o (looked_at g h o)) (map-append policy_id (take k ps) (p ∷ []))
     ∙ more_conflict h o (looked_at g h o) (map policy_id (take k ps)) (policy_id p)
 
-gathered_more : (old now new xs ys zs : List (List ℕ)) → now ≡ gathered old xs → new ≡ gathered now ys → zs ≡ xs ++ ys
-    → new ≡ gathered old zs
+gathered_more : (old now new xs ys zs : List (List ℕ)) → now ≡ insert_all same_text old xs → new ≡ insert_all same_text now ys → zs ≡ xs ++ ys
+    → new ≡ insert_all same_text old zs
 gathered_more old now new xs ys zs n m e =
-    m ∙ ap (λ seen. gathered seen ys) n ∙ sym (gathered-append old xs ys) ∙ ap (gathered old) (sym e)
+    m ∙ ap (λ seen. insert_all same_text seen ys) n ∙ sym (gathered-append old xs ys) ∙ ap (insert_all same_text old) (sym e)
 
 listed_more : (old now new xs ys zs : List (List ℕ)) → now ≡ old ++ xs → new ≡ now ++ ys → zs ≡ xs ++ ys
     → new ≡ old ++ zs
 listed_more old now new xs ys zs n m e =
     m ∙ ap (λ is. is ++ ys) n ∙ append_assoc old xs ys ∙ ap (λ is. old ++ is) (sym e)
 
--- one more body is gathered, or listed, if it conflicts
+-- The step of one body.
 pub gathered_body_step : (g : Group) (h o : SetParts) (ts : List (Rc BodyParts Global)) (k : ℕ) (t : Rc BodyParts Global)
     (old now new : List (List ℕ)) → k < length ts → t ≡ get_or ts k t
-    → now ≡ gathered old (conflicting_bodies g h o (bodies_of (take k ts)))
-    → new ≡ gathered now (conflicting_bodies g h o (t.value ∷ []))
-    → new ≡ gathered old (conflicting_bodies g h o (bodies_of (take (k + 1) ts)))
+    → now ≡ insert_all same_text old (conflicting_bodies g h o (bodies_of (take k ts)))
+    → new ≡ insert_all same_text now (conflicting_bodies g h o (t.value ∷ []))
+    → new ≡ insert_all same_text old (conflicting_bodies g h o (bodies_of (take (k + 1) ts)))
 gathered_body_step g h o ts k t old now new l e n m =
     gathered_more old now new (conflicting_bodies g h o (bodies_of (take k ts)))
     (conflicting_bodies g h o (t.value ∷ [])) (conflicting_bodies g h o (bodies_of (take (k + 1) ts))) n m
@@ -75,12 +76,12 @@ listed_body_step g h o ts k t old now new l e n m =
     (conflicting_bodies g h o (t.value ∷ [])) (conflicting_bodies g h o (bodies_of (take (k + 1) ts))) n m
     (more_bodies_conflict g h o ts k t l e)
 
--- one more policy is gathered, or listed, if it conflicts
+-- The step of one policy.
 pub gathered_policy_step : (g : Group) (h o : SetParts) (ps : List PolicyParts) (k : ℕ) (p : PolicyParts)
     (old now new : List (List ℕ)) → k < length ps → p ≡ get_or ps k p
-    → now ≡ gathered old (conflicting_policies g h o (take k ps))
-    → new ≡ gathered now (conflicting_policies g h o (p ∷ []))
-    → new ≡ gathered old (conflicting_policies g h o (take (k + 1) ps))
+    → now ≡ insert_all same_text old (conflicting_policies g h o (take k ps))
+    → new ≡ insert_all same_text now (conflicting_policies g h o (p ∷ []))
+    → new ≡ insert_all same_text old (conflicting_policies g h o (take (k + 1) ps))
 gathered_policy_step g h o ps k p old now new l e n m =
     gathered_more old now new (conflicting_policies g h o (take k ps)) (conflicting_policies g h o (p ∷ []))
     (conflicting_policies g h o (take (k + 1) ps)) n m (more_policies_conflict g h o ps k p l e)
@@ -94,7 +95,7 @@ listed_policy_step g h o ps k p old now new l e n m =
     listed_more old now new (conflicting_policies g h o (take k ps)) (conflicting_policies g h o (p ∷ []))
     (conflicting_policies g h o (take (k + 1) ps)) n m (more_policies_conflict g h o ps k p l e)
 
--- ---- each is found under its own id
+-- ---- Lookups by id
 
 fails_at : {A : Type 0} (t : A → Bool) (xs : List A) (k : ℕ) (x : A) → list_any t xs ≡ false → k < length xs
     → x ≡ get_or xs k x → t x ≡ false
@@ -135,7 +136,7 @@ policy_found o ps k p s h l e =
     ap (find (is_policy_at (policy_id p))) (sym s)
     ∙ found_own policy_id ps k p (subst (AreOnce policy_id) (sym s) h) l e
 
--- what stands at a place is what is found under its id
+-- The body at a place is found under its id.
 pub body_at_place : (o : SetParts) (ts : List (Rc BodyParts Global)) (k : ℕ) (t : Rc BodyParts Global) (i : List ℕ)
     → bodies_of ts ≡ o.bodies → IsPolicySet o → k < length ts → t ≡ get_or ts k t → t.value.id ≡ i
     → find (is_body_at i) o.bodies ≡ Some t.value

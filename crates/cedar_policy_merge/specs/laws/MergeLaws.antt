@@ -1,4 +1,4 @@
--- That the policy set of a merge is a policy set.
+-- The merged set satisfies the invariant of policy sets.
 use Rattle.std.specs.Prelude.{◌≡◌, ℕ, List, [], ◌∷◌, ◌++◌, Bool, true, false, not, ◌||◌, ◌&&◌, Option, Some, None, refl}
 use Rattle.std.specs.Prelude.{map}
 use Rattle.std.proofs.Common.{sym, ap, ◌∙◌, cond, arith}
@@ -10,27 +10,26 @@ use Rattle.std.proofs.lemmas.List.Folds.{list_any-append}
 use Rattle.cedar_ids.specs.Texts.{same_text}
 use Rattle.cedar_ids.specs.laws.TextLaws.{same_text_equiv, same_text_decides}
 use Rattle.cedar_body.specs.Bodies.{BodyParts}
-use Rattle.cedar_body.specs.BodyEquality.{same_body}
 use Rattle.cedar_body.specs.laws.BodyLaws.{same_body_decides}
 use Rattle.cedar_policy.specs.Policies.{PolicyParts, policy_id}
-use Rattle.cedar_policy.specs.PolicyEquality.{same_policy}
 use Rattle.cedar_policy_maps.specs.PolicySets.{SetParts, is_bound, is_body_at, is_policy_at, AreOnce, IsHeldBy, IsHeld}
-use Rattle.cedar_policy_maps.specs.PolicySets.{AreHeld, IsPolicySet}
-use Rattle.cedar_policy_merge.specs.Merge.{has_body, has_policy, is_same_at, renamed_body, renamed_policy}
+use Rattle.cedar_policy_maps.specs.PolicySets.{AreHeld, IsPolicySet, Binding, Static, Template, Link, bound_at, bound_among}
+use Rattle.cedar_policy_merge.specs.Merge.{has_body, has_policy, same_binding, is_same_at, renamed_body, renamed_policy}
 use Rattle.cedar_policy_merge.specs.Merge.{joined_bodies}
 use Rattle.cedar_policy_merge.specs.Merge.{joined_policies, merged}
+use Rattle.cedar_policy_maps.specs.laws.SetLaws.{template_at}
 use Rattle.cedar_policy_maps.specs.laws.OnceLaws.{is_at, once-filter, none_is, find-unless}
 
--- what a merge asks of a renaming: ids of the other policy set stay apart, and what goes to an id that is bound here
--- keeps its id and is the same in both
+-- The conditions on a renaming for a merge. Different ids of the other set get different ids. An id whose new id is in
+-- use in this set is not renamed, and is bound equally in both sets.
 pub record Renames (here other : SetParts) (c : List ℕ → List ℕ) : Type 0 where
   pub apart : (i j : List ℕ) → is_bound other i ≡ true → is_bound other j ≡ true → c i ≡ c j → i ≡ j
   pub kept : (i : List ℕ) → is_bound other i ≡ true → is_bound here (c i) ≡ true → (c i ≡ i)
       × (is_same_at here other i ≡ true)
 
--- ---- lists
+-- ---- Lists
 
--- each of some things is one
+-- Whether all elements have a property.
 abbrev pub AreAll : {X : Type 0} → (X → Type 0) → List X → Type 0
 AreAll P [] = Unit {0}
 AreAll P (x ∷ xs) = P x × AreAll P xs
@@ -46,7 +45,7 @@ one_of : (a b : Bool) → b ≡ true → (a || b) ≡ true
 one_of true b h = refl
 one_of false b h = h
 
--- each thing's id stands among the ids
+-- The id of each element is among the ids.
 pub all_there : {A : Type 0} (id : A → List ℕ) (xs : List A) → AreAll (λ x. list_any (is_at id (id x)) xs ≡ true) xs
 all_there id [] = tt
 all_there id (x ∷ xs) = (
@@ -58,7 +57,7 @@ all_there id (x ∷ xs) = (
 body_id : BodyParts → List ℕ
 body_id t = t.id
 
--- so bodies and policies of a policy set are bound in it
+-- The ids of all bodies and policies of a set are in use.
 pub bodies_bound : (b : SetParts) → AreAll (λ (t : BodyParts). is_bound b t.id ≡ true) b.bodies
 bodies_bound b = all_weaken (λ (t : BodyParts). list_any (is_body_at t.id) b.bodies
     ≡ true) (λ (t : BodyParts). is_bound b t.id ≡ true) b.bodies (λ t h. one_of (has_policy b t.id) (has_body b t.id) h)
@@ -73,7 +72,7 @@ policies_bound b = all_weaken (λ p. list_any (is_policy_at (policy_id p)) b.pol
     ≡ true) (λ p. is_bound b (policy_id p) ≡ true) b.policies
     (λ p h. or_first (has_policy b (policy_id p)) (has_body b (policy_id p)) h) (all_there policy_id b.policies)
 
--- what is found is there
+-- If the search finds an element, an element passes the test.
 pub found_there : {X : Type 0} (t : X → Bool) (xs : List X) (x : X) → find t xs ≡ Some x → list_any t xs ≡ true
 found_there t [] x h = absurd (cc)
 found_there t (y ∷ ys) x h = grind (arith, common_steps, found_there t ys x)
@@ -82,7 +81,7 @@ pub body_bound : (b : SetParts) (i : List ℕ) (t : BodyParts) → find (is_body
     → is_bound b i ≡ true
 body_bound b i t h = one_of (has_policy b i) (has_body b i) (found_there (is_body_at i) b.bodies t h)
 
--- ids that a renaming keeps apart are the same where their new ones are
+-- Two ids are equal exactly if their new ids are.
 pub same_renamed : (h o : SetParts) (c : List ℕ → List ℕ) → Renames h o c → (i j : List ℕ) → is_bound o i ≡ true
     → is_bound o j ≡ true → same_text (c i) (c j) ≡ same_text i j
 same_renamed h o c r i j a b = alike (same_text (c i) (c j)) (same_text i j) refl refl
@@ -94,9 +93,9 @@ same_renamed h o c r i j a b = alike (same_text (c i) (c j)) (same_text i j) ref
         (sym (r.apart i j a b ((same_text_decides (c i) (c j)).0 p))) ∙ is_itself i)
     alike false true p q = sym p ∙ ap (λ k. same_text (c i) (c k)) (sym ((same_text_decides i j).0 q)) ∙ is_itself (c i)
 
--- ---- renamed lists, over the things of a policy set whose ids are bound there
+-- ---- Renamed lists of a policy set
 
--- what stands under the new ids of some things with other ids, where it stands under none of theirs
+-- An id is among the ids of a list exactly if its new id is among the new ids.
 pub any_renamed : {A : Type 0} (h o : SetParts) (c : List ℕ → List ℕ) (id : A → List ℕ) (f : A → A) → Renames h o c
     → ((x : A) → id (f x) ≡ c (id x)) →
     (i : List ℕ) → is_bound o i ≡ true → (xs : List A) → AreAll (λ x. is_bound o (id x) ≡ true) xs
@@ -106,7 +105,7 @@ any_renamed h o c id f r e i b (x ∷ xs) a =
     (λ j. same_text (c i) (e x j) || any_renamed h o c id f r e i b xs a.1 j)
     ∙ ap (λ v. v || list_any (is_at id i) xs) (same_renamed h o c r i (id x) b a.0)
 
--- things with ids of their own have new ids of their own
+-- If the ids of a list are different, the new ids are too.
 pub once_renamed : {A : Type 0} (h o : SetParts) (c : List ℕ → List ℕ) (id : A → List ℕ) (f : A → A) → Renames h o c
     → ((x : A) → id (f x) ≡ c (id x)) →
     (xs : List A) → AreAll (λ x. is_bound o (id x) ≡ true) xs → AreOnce id xs → AreOnce id (map f xs)
@@ -116,7 +115,7 @@ once_renamed h o c id f r e (x ∷ xs) a u = (
   once_renamed h o c id f r e xs a.1 u.1,
 )
 
--- what is left of some things is not what has an id that none of the left has
+-- If no element passes a test, no element of a filtered list does.
 any_kept : {A : Type 0} (p t : A → Bool) (xs : List A) → list_any t xs ≡ false → list_any t (filter p xs) ≡ false
 any_kept p t [] h = refl
 any_kept p t (x ∷ xs) h = grind (arith, common_steps, any_kept p t xs)
@@ -133,7 +132,7 @@ not_left h id i b x xs true q n = n
 not_left h id i b x xs false q n = ap (λ v. v || list_any (is_at id i) xs)
     (other_id h i (id x) b q (same_text i (id x)) refl) ∙ n
 
--- and nothing that is bound here is left where that is what is left out
+-- The new bodies and policies have no id that this set uses.
 none_bound_left : {A : Type 0} (h : SetParts) (id : A → List ℕ) (i : List ℕ) → is_bound h i ≡ true → (xs : List A)
     → list_any (is_at id i) (filter (λ x. not (is_bound h (id x))) xs) ≡ false
 none_bound_left h id i b [] = refl
@@ -141,7 +140,7 @@ none_bound_left h id i b (x ∷ xs) =
     not_left h id i b x (filter (λ x. not (is_bound h (id x))) xs) (is_bound h (id x)) refl
     (none_bound_left h id i b xs)
 
--- things of two lists, of which the second has none of the first's ids
+-- Two lists with different ids, which have no id in common, have different ids together.
 once-append : {A : Type 0} (id : A → List ℕ) (xs ys : List A) → AreOnce id xs → AreOnce id ys
     → AreAll (λ x. list_any (is_at id (id x)) ys ≡ false) xs → AreOnce id (xs ++ ys)
 once-append id [] ys u v a = v
@@ -180,7 +179,7 @@ find_step c id f p i x y xs rest there k q later true s =
 find_step c id f p i x y xs rest there k q later false s =
     found_later (is_at id (c i)) (p (f x)) (f x) (f y) rest (there ∙ s) (later (found_tail (is_at id i) x y xs q s))
 
--- what is found of things is found of the renamed ones that are left, under its new id
+-- An element that is found under an id is found under its new id after renaming and filtering.
 pub find_renamed : {A : Type 0} (h o : SetParts) (c : List ℕ → List ℕ) (id : A → List ℕ) (f : A → A) (p : A → Bool)
     → Renames h o c → ((x : A) → id (f x) ≡ c (id x)) →
     (i : List ℕ) → is_bound o i ≡ true → (y : A) → p (f y) ≡ true → (xs : List A)
@@ -192,7 +191,7 @@ find_renamed h o c id f p r e i b y k (x ∷ xs) a q =
     ∙ same_renamed h o c r i (id x) b a.0) k q
     (λ l. find_renamed h o c id f p r e i b y k xs a.1 l) (same_text i (id x)) refl
 
--- ---- the merged policy set
+-- ---- The merged policy set
 
 pub body_new : (c : List ℕ → List ℕ) (t : BodyParts) → (renamed_body c t).id ≡ c t.id
 body_new c t = refl
@@ -205,7 +204,7 @@ policy_new_by (Some l) c i = refl
 pub policy_new : (c : List ℕ → List ℕ) (p : PolicyParts) → policy_id (renamed_policy c p) ≡ c (policy_id p)
 policy_new c p = policy_new_by p.link c p.template.id
 
--- the ids of what is here stand nowhere in what joins
+-- The new elements have none of the ids of this set.
 apart_from : {A : Type 0} (h : SetParts) (id : A → List ℕ) (ys xs : List A)
     → AreAll (λ x. is_bound h (id x) ≡ true) xs →
     AreAll (λ x. list_any (is_at id (id x)) (filter (λ y. not (is_bound h (id y))) ys) ≡ false) xs
@@ -232,7 +231,7 @@ policies_once h o c r x y =
 no_more : (a b : Bool) → a ≡ false → b ≡ false → (a || b) ≡ false
 no_more a b p q = cc
 
--- where nothing here has an id that is bound here, nothing has it
+-- If this set uses an id but has no body with it, the merged set has none either.
 no_body_merged : (h o : SetParts) (c : List ℕ → List ℕ) (i : List ℕ) → is_bound h i ≡ true → has_body h i ≡ false
     → has_body (merged h o c) i ≡ false
 no_body_merged h o c i b n =
@@ -253,7 +252,7 @@ find_after : {X : Type 0} (t : X → Bool) (xs ys : List X) → list_any t xs �
 find_after t [] ys h = refl
 find_after t (y ∷ xs) ys h = grind (arith, common_steps, find_after t xs ys)
 
--- what is here is held still
+-- A policy that fits this set fits the merged set.
 held_here : (l : Option (List ℕ)) (h o : SetParts) (c : List ℕ → List ℕ) (p : PolicyParts)
     → is_bound h (unwrap_or l p.template.id) ≡ true → IsHeldBy l h p → IsHeldBy l (merged h o c) p
 held_here None h o c p b k = (
@@ -277,8 +276,8 @@ all_held_here h o c (p ∷ ps) b k = (held_here p.link h o c p b.0 k.0, all_held
 not_bound : (h : SetParts) (i : List ℕ) → is_bound h i ≡ false → (has_policy h i ≡ false) × (has_body h i ≡ false)
 not_bound h i n = or_parts _ _ n
 
--- what no policy, or no body, of the other policy set has under an id, none has under its new id, where that is free
--- here
+-- Assume that no policy of the other set has an id, and its new id is free in this set. Then no policy of the merged
+-- set has the new id. The same is true for bodies.
 no_policy_joined : (h o : SetParts) (c : List ℕ → List ℕ) (i : List ℕ) → Renames h o c → is_bound o i ≡ true
     → is_bound h (c i) ≡ false → has_policy o i ≡ false → has_policy (merged h o c) (c i) ≡ false
 no_policy_joined h o c i r b n k =
@@ -295,7 +294,7 @@ no_body_joined h o c i r b n k =
     (any_kept (λ t. not (is_bound h t.id)) (is_body_at (c i)) (map (renamed_body c) o.bodies)
     (any_renamed h o c (λ (t : BodyParts). t.id) (renamed_body c) r (body_new c) i b o.bodies (bodies_bound o) ∙ k))
 
--- a body of the other policy set that joins is found under its new id
+-- A new body is found under its new id.
 body_joined : (h o : SetParts) (c : List ℕ → List ℕ) (i : List ℕ) (t : BodyParts) → Renames h o c → i ≡ t.id
     → is_bound h (c i) ≡ false → find (is_body_at i) o.bodies ≡ Some t →
     find (is_body_at (c i)) (merged h o c).bodies ≡ Some (renamed_body c t)
@@ -305,33 +304,25 @@ body_joined h o c i t r e n f =
     (body_bound o i t f) t
     (ap (λ j. not (is_bound h (c j))) (sym e) ∙ ap not n) o.bodies (bodies_bound o) f
 
--- an id that is bound alike is a template's in both policy sets, where it is in the other
-option_same : {X : Type 0} (same : X → X → Bool) (a b : Option X) → ((x y : X) → same x y ≡ true → x ≡ y)
-    → option_eq same a b ≡ true → a ≡ b
-option_same same None None d h = refl
-option_same same None (Some y) d h = absurd (cc)
-option_same same (Some x) None d h = absurd (cc)
-option_same same (Some x) (Some y) d h = ap Some (d x y h)
+-- If an id is bound equally and belongs to a template of the other set, this set has the same template.
+same_template : (x : Option Binding) (t : BodyParts) → option_eq same_binding x (Some (Template t)) ≡ true
+    → x ≡ Some (Template t)
+same_template None t e = absurd (false≢true e)
+same_template (Some (Static u)) t e = absurd (false≢true e)
+same_template (Some (Template u)) t e = ap (λ b. Some (Template b)) ((same_body_decides u t).0 e)
+same_template (Some (Link l u d)) t e = absurd (false≢true e)
 
-both_true : (a b : Bool) → (a && b) ≡ true → (a ≡ true) × (b ≡ true)
-both_true true b h = (refl, h)
-both_true false b h = absurd (false≢true h)
+template_here : (h o : SetParts) (i : List ℕ) (t : BodyParts) → is_same_at h o i ≡ true
+    → find (is_body_at i) o.bodies ≡ Some t → has_policy o i ≡ false
+    → (find (is_body_at i) h.bodies ≡ Some t) × (has_policy h i ≡ false)
+template_here h o i t s f n =
+    let there : bound_at o i ≡ Some (Template t) =
+    λ j. bound_among (find-unless (is_policy_at i) o.policies n j) (f j) in
+    let here = template_at h i t (same_template (bound_at h i) t (ap (option_eq same_binding (bound_at h i)) (sym there)
+    ∙ s)) in
+    (here.1, here.0)
 
-pub same_bodies_at : (h o : SetParts) (i : List ℕ) → is_same_at h o i ≡ true
-    → find (is_body_at i) h.bodies ≡ find (is_body_at i) o.bodies
-same_bodies_at h o i s = option_same same_body _ _ (λ t u. (same_body_decides t u).0) (both_true _ _ s).1
-
-none_by : {X : Type 0} (same : X → X → Bool) (a b : Option X) → b ≡ None → option_eq same a b ≡ true → a ≡ None
-none_by same None b e h = refl
-none_by same (Some x) None e h = absurd (cc)
-none_by same (Some x) (Some y) e h = absurd (cc)
-
-no_policy_alike : (h o : SetParts) (i : List ℕ) → is_same_at h o i ≡ true → has_policy o i ≡ false
-    → has_policy h i ≡ false
-no_policy_alike h o i s n = none_is (is_policy_at i) h.policies
-    (none_by same_policy _ _ (find-unless (is_policy_at i) o.policies n) (both_true _ _ s).0)
-
--- the template of a link that joins: under its new id, which is no policy's
+-- Whether the template of a new link is in the merged set under its new id, which is not the id of a policy.
 abbrev TemplateJoins : SetParts → SetParts → (List ℕ → List ℕ) → BodyParts → Type 0
 TemplateJoins h o c t = (find (is_body_at (c t.id)) (merged h o c).bodies ≡ Some (renamed_body c t))
     × (has_policy (merged h o c) (c t.id) ≡ false)
@@ -347,8 +338,9 @@ template_joins_by false h o c t r f n e = (
 template_joins_by true h o c t r f n e =
     let k = r.kept t.id (body_bound o t.id t f) e in
     let b : is_bound h t.id ≡ true = ap (is_bound h) (sym k.0) ∙ e in
+    let alike = template_here h o t.id t k.1 f n in
     let here : find (is_body_at t.id) (merged h o c).bodies ≡ Some t =
-    find_here (is_body_at t.id) h.bodies (joined_bodies h c o.bodies) t (same_bodies_at h o t.id k.1 ∙ f) in (
+    find_here (is_body_at t.id) h.bodies (joined_bodies h c o.bodies) t alike.0 in (
       ap (λ i. find (is_body_at i) (merged h o c).bodies) k.0 ∙ here
           ∙ ap (λ i. Some (record {
             id = i;
@@ -360,10 +352,10 @@ template_joins_by true h o c t r f n e =
             resource = t.resource;
             clause = t.clause;
           })) (sym k.0),
-      ap (has_policy (merged h o c)) k.0 ∙ no_policy_merged h o c t.id b (no_policy_alike h o t.id k.1 n),
+      ap (has_policy (merged h o c)) k.0 ∙ no_policy_merged h o c t.id b alike.1,
     )
 
--- what joins is held
+-- A new policy fits the merged set.
 held_joined : (l : Option (List ℕ)) (h o : SetParts) (c : List ℕ → List ℕ) (p : PolicyParts) → Renames h o c
     → is_bound o (unwrap_or l p.template.id) ≡ true → is_bound h (c (unwrap_or l p.template.id)) ≡ false →
     IsHeldBy l o p → IsHeldBy (option_map c l) (merged h o c) (record {
@@ -408,7 +400,7 @@ held-append : (b : SetParts) (ps qs : List PolicyParts) → AreHeld b ps → Are
 held-append b [] qs h k = k
 held-append b (p ∷ ps) qs h k = (h.0, held-append b ps qs h.1 k)
 
--- the merged policy set is one
+-- The merged set satisfies the invariant of policy sets.
 pub merged_is_set : (h o : SetParts) (c : List ℕ → List ℕ) → Renames h o c → IsPolicySet h → IsPolicySet o
     → IsPolicySet (merged h o c)
 merged_is_set h o c r x y = record {

@@ -1,4 +1,4 @@
--- The steps of a merge, one id, body and policy after another.
+-- The steps of a merge: one id, one body, one policy.
 use Rattle.std.specs.Prelude.{◌≡◌, ℕ, ◌+◌, ◌<◌, length, List, [], ◌∷◌, ◌++◌, Bool, true, false, not, Option, Some}
 use Rattle.std.specs.Prelude.{None, refl, map, if◌then◌else◌}
 use Rattle.std.proofs.Common.{sym, ap, ◌∙◌, take, get_or}
@@ -8,22 +8,23 @@ use Rattle.std.specs.List.{filter, list_any}
 use Rattle.std.specs.Option.{option_map, unwrap_or}
 use Rattle.std.proofs.lemmas.List.{map-append, append_assoc}
 use Rattle.std.proofs.lemmas.List.Elements.{filter-append}
+use Rattle.indexmap.specs.IndexSet.{insert_all}
 use Rattle.cedar_ids.specs.Texts.{same_text}
 use Rattle.cedar_body.specs.Bodies.{BodyParts, with_id}
 use Rattle.cedar_policy.specs.Policies.{PolicyParts, policy_id, renamed, with_policy_id}
 use Rattle.cedar_policy_maps.specs.PolicySets.{SetParts, AreOnce, is_bound}
-use Rattle.cedar_policy_merge.specs.Merge.{has_body, has_policy, body_ids, policy_ids, conflicting, conflicts, gathered}
+use Rattle.cedar_policy_merge.specs.Merge.{has_body, has_policy, body_ids, policy_ids, conflicting, conflicts}
 use Rattle.cedar_policy_merge.specs.Merge.{renamed_body, renamed_policy, joined_bodies, joined_policies}
 use Rattle.cedar_policy_maps.specs.Views.{bodies_of}
 use Rattle.cedar_policy_maps.specs.laws.OnceLaws.{once-push}
 use Rattle.cedar_policy_maps.specs.laws.Walks.{bodies_more, policies_more}
 
--- the first of some ids is refused, where none may be renamed
+-- Whether the first of some ids is reported exactly if renaming is not allowed.
 abbrev pub Refuses : Option (List ℕ) → List (List ℕ) → Bool → Type 0
 Refuses None ids rename = rename ≡ false → ids ≡ []
 Refuses (Some i) ids rename = (rename ≡ false) × (rest : List (List ℕ)) × (ids ≡ i ∷ rest)
 
--- a link with its template under its new id; a static policy as it is
+-- A link with its template under the template's new id. A static policy does not change.
 abbrev pub template_renamed_by : Option (List ℕ) → (List ℕ → List ℕ) → PolicyParts → PolicyParts
 template_renamed_by None c p = p
 template_renamed_by (Some l) c p = record { template = renamed_body c p.template; link = Some l; env = p.env }
@@ -31,8 +32,8 @@ template_renamed_by (Some l) c p = record { template = renamed_body c p.template
 abbrev pub with_template_renamed : (List ℕ → List ℕ) → PolicyParts → PolicyParts
 with_template_renamed c p = template_renamed_by p.link c p
 
--- gathering goes on behind what was gathered
-pub gathered-append : (seen xs ys : List (List ℕ)) → gathered seen (xs ++ ys) ≡ gathered (gathered seen xs) ys
+-- To insert two lists one after another inserts their concatenation.
+pub gathered-append : (seen xs ys : List (List ℕ)) → insert_all same_text seen (xs ++ ys) ≡ insert_all same_text (insert_all same_text seen xs) ys
 gathered-append seen [] ys = refl
 gathered-append seen (x ∷ xs) ys = gathered-append (if list_any (same_text x) seen then seen else seen ++ x ∷ []) xs ys
 
@@ -41,15 +42,15 @@ once_step : (x : List ℕ) (seen : List (List ℕ)) (v : Bool) → list_any (sam
 once_step x seen true e h = h
 once_step x seen false e h = once-push (λ (i : List ℕ). i) seen x h e
 
--- what is gathered stands once
+-- Inserted ids are different.
 pub once_gathered : (seen xs : List (List ℕ)) → AreOnce (λ (i : List ℕ). i) seen
-    → AreOnce (λ (i : List ℕ). i) (gathered seen xs)
+    → AreOnce (λ (i : List ℕ). i) (insert_all same_text seen xs)
 once_gathered seen [] h = h
 once_gathered seen (x ∷ xs) h =
     once_gathered (if list_any (same_text x) seen then seen else seen
     ++ x ∷ []) xs (once_step x seen (list_any (same_text x) seen) refl h)
 
--- one more body, and one more policy
+-- The new bodies and policies of a list with one more element.
 pub joined_body_more : (h : SetParts) (c : List ℕ → List ℕ) (xs : List BodyParts) (x : BodyParts)
     → joined_bodies h c (xs ++ x ∷ []) ≡ joined_bodies h c xs ++ joined_bodies h c (x ∷ [])
 joined_body_more h c xs x =
@@ -62,12 +63,12 @@ joined_policy_more h c xs x =
     ap (filter (λ p. not (is_bound h (policy_id p)))) (map-append (renamed_policy c) xs (x ∷ []))
     ∙ filter-append (λ p. not (is_bound h (policy_id p))) (map (renamed_policy c) xs) (map (renamed_policy c) (x ∷ []))
 
--- the four groups, one after another
-pub gathered_all : (a b c d : List (List ℕ)) → gathered (gathered (gathered (gathered [] a) b) c) d
-    ≡ gathered [] (a ++ (b ++ (c ++ d)))
+-- To insert the four groups one after another inserts their concatenation.
+pub gathered_all : (a b c d : List (List ℕ)) → insert_all same_text (insert_all same_text (insert_all same_text (insert_all same_text [] a) b) c) d
+    ≡ insert_all same_text [] (a ++ (b ++ (c ++ d)))
 gathered_all a b c d =
-    sym (gathered-append [] a (b ++ (c ++ d)) ∙ gathered-append (gathered [] a) b (c ++ d)
-    ∙ gathered-append (gathered (gathered [] a) b) c d)
+    sym (gathered-append [] a (b ++ (c ++ d)) ∙ gathered-append (insert_all same_text [] a) b (c ++ d)
+    ∙ gathered-append (insert_all same_text (insert_all same_text [] a) b) c d)
 
 renamed_by : (o : Option (List ℕ)) (c : List ℕ → List ℕ) (p : PolicyParts) (i : List ℕ) → o ≡ p.link
     → i ≡ c (unwrap_or o p.template.id) →
@@ -92,7 +93,7 @@ same_id_by : (o : Option (List ℕ)) (c : List ℕ → List ℕ) (p : PolicyPart
 same_id_by None c p e = refl
 same_id_by (Some l) c p e = ap (λ l. unwrap_or l p.template.id) e
 
--- a policy with its template renamed, and then itself: what has the former's id gets the latter's
+-- To rename a policy's template and then the policy renames both.
 pub renamed_twice : (c : List ℕ → List ℕ) (p q : PolicyParts) (n : Option (List ℕ)) → q ≡ with_template_renamed c p
     → unwrap_or n (policy_id p) ≡ c (policy_id p) →
     with_policy_id (unwrap_or n (policy_id q)) q ≡ renamed_policy c p
@@ -105,11 +106,11 @@ own_id : (o : Option (List ℕ)) (p : PolicyParts) → o ≡ p.link → renamed 
 own_id None p e = λ j. record { template = p.template; link = e j; env = p.env }
 own_id (Some l) p e = λ j. record { template = p.template; link = e j; env = p.env }
 
--- under its own id a policy is as it was
+-- A policy does not change under its own id.
 pub same_id_kept : (p : PolicyParts) → with_policy_id (policy_id p) p ≡ p
 same_id_kept p = own_id p.link p refl
 
--- one more body joins, if it does
+-- The step of one body in the list of new bodies.
 pub joined_body_step : (h : SetParts) (c : List ℕ → List ℕ) (ts : List (Rc BodyParts Global)) (k : ℕ)
     (t : Rc BodyParts Global) (old now new : List BodyParts) → k < length ts → t ≡ get_or ts k t →
     now ≡ old ++ joined_bodies h c (bodies_of (take k ts)) → new ≡ now ++ joined_bodies h c (t.value ∷ [])
@@ -130,7 +131,7 @@ joined_policy_step h c ps k p old now new l e n m =
     ∙ ap (λ x. old ++ x) (sym (joined_policy_more h c (take k ps) p))
     ∙ ap (λ x. old ++ joined_policies h c x) (sym (policies_more ps k p l e))
 
--- ids that conflict stand once
+-- The ids in conflict are different.
 pub once_conflicts : (h o : SetParts) → AreOnce (λ (i : List ℕ). i) (conflicts h o)
 once_conflicts h o =
     once_gathered []

@@ -1,4 +1,4 @@
--- What a merge takes in can be taken in: what goes last, beside bodies that stand there as well.
+-- The maps of a policy set can insert the new bodies and policies of a merge.
 use Rattle.std.specs.Prelude.{◌≡◌, ℕ, ◌+◌, ◌<◌, length, List, [], ◌∷◌, ◌++◌, Bool, true, false, not, ◌||◌, Option, Some}
 use Rattle.std.specs.Prelude.{None, refl, map}
 use Rattle.std.proofs.Common.{cond, sym, ap, ◌∙◌, take, get_or}
@@ -32,11 +32,11 @@ body_id t = t.id
 abbrev own_body : PolicyParts → List ℕ
 own_body p = p.template.id
 
--- bodies under the ids of a renaming that are bound here
+-- The existing bodies of a merge: the bodies of a list under their new ids, whose ids this set uses.
 abbrev pub standing_bodies : SetParts → (List ℕ → List ℕ) → List BodyParts → List BodyParts
 standing_bodies here c ts = filter (λ t. is_bound here t.id) (map (renamed_body c) ts)
 
--- ---- one body after another
+-- ---- One body after another
 
 standing_more : (h : SetParts) (c : List ℕ → List ℕ) (xs : List BodyParts) (x : BodyParts)
     → standing_bodies h c (xs ++ x ∷ []) ≡ standing_bodies h c xs ++ standing_bodies h c (x ∷ [])
@@ -54,7 +54,7 @@ standing_body_step h c ts k t old now new l e n m =
     ∙ ap (λ x. old ++ x) (sym (standing_more h c (bodies_of (take k ts)) t.value))
     ∙ ap (λ x. old ++ standing_bodies h c x) (sym (bodies_more ts k t l e))
 
--- ---- what a merge takes in can be taken in
+-- ---- The conditions of the insertion
 
 bare_at : (v : Bool) (h : SetParts) (t : BodyParts) (ts : List BodyParts) → IsPolicySet h → is_bound h t.id ≡ v
     → AreBare ts h.policies → AreBare (cond (not v) (t ∷ ts) ts) h.policies
@@ -66,7 +66,7 @@ all_bare : (h : SetParts) (ts : List BodyParts) → IsPolicySet h
 all_bare h [] x = tt
 all_bare h (t ∷ ts) x = bare_at (is_bound h t.id) h t (filter (λ t. not (is_bound h t.id)) ts) x refl (all_bare h ts x)
 
--- a body with an id that is bound here is among those that stand here
+-- A body whose id this set uses is among the existing bodies.
 unfiltered : (h : SetParts) (i : List ℕ) (ts : List BodyParts) → is_bound h i ≡ true
     → list_any (is_body_at i) (filter (λ t. is_bound h t.id) ts) ≡ false → list_any (is_body_at i) ts ≡ false
 unfiltered h i ts b n =
@@ -103,7 +103,7 @@ none_renamed_on h o c i (p ∷ ps) r b n k =
     no_more _ _ (off_at (same_text i (c p.template.id)) h o c i p.template r b n (held_body p.link o p k.0) refl)
     (none_renamed_on h o c i ps r b n k.1)
 
--- what joins is on no body here but those that stand in both
+-- A new policy uses a body of this set only if the body is an existing one of the merge.
 all_only : (h o : SetParts) (c : List ℕ → List ℕ) (ts : List BodyParts) → Renames h o c → IsPolicySet o
     → AreAll (λ (t : BodyParts). is_bound h t.id ≡ true) ts →
     AreOnly ts (standing_bodies h c o.bodies) (joined_policies h c o.policies)
@@ -114,7 +114,7 @@ all_only h o c (t ∷ ts) r y a = (
   all_only h o c ts r y a.1,
 )
 
--- and no policy that joins has the id of a body here, nor one here that of a body that joins
+-- No new policy has the id of a body of this set, and no policy of this set has the id of a new body.
 bound_fails : (h : SetParts) (i : List ℕ) (p : PolicyParts) → is_bound h i ≡ true → is_policy_at i p ≡ true
     → not (is_bound h (policy_id p)) ≡ false
 bound_fails h i p b e = ap (λ k. not (is_bound h k)) (sym ((same_text_decides i (policy_id p)).0 e)) ∙ ap not b

@@ -1,4 +1,5 @@
--- The text of a number: the library's where that has digits enough, and no two numbers have one text.
+-- The decimal digits of a number. They are the standard library's if that allows enough digits. Different numbers have
+-- different digits.
 use Rattle.std.specs.Prelude.{◌≡◌, ℕ, ◌+◌, ◌-◌, ◌*◌, ◌/◌, ◌%◌, ◌^◌, ◌<◌, List, [], ◌∷◌, Bool, false, refl, suc, zero}
 use Rattle.std.specs.Prelude.{codes}
 use Rattle.std.proofs.Common.{◌≤◌, sym, ap, ◌∙◌, arith, pow-suc, mod-lt, div-add-mod', eq-eqb, ne_eqb, lt-ltb, cond}
@@ -6,7 +7,7 @@ use Rattle.std.specs.Fmt.{digit_glyph, digits_onto, digits, decimal}
 use Rattle.std.proofs.lemmas.List.{append_cancel_left}
 use Rattle.cedar_policy_merge.specs.Fresh.{numeral, numbered}
 
--- a number has no more digits than this many and one
+-- Whether the number `n` has at most `k + 1` digits.
 abbrev pub Fits : ℕ → ℕ → Type 0
 Fits zero n = n < 10
 Fits (suc k) n = Fits k (n / 10)
@@ -19,7 +20,7 @@ fits_below : (k n : ℕ) → n < 10 ^ suc k → Fits k n
 fits_below zero n h = h
 fits_below (suc k) n h = fits_below k (n / 10) (let p = pow-suc 10 (suc k) in omega (arith, p))
 
--- one digit more, or the last
+-- The digits of a number end with its last digit.
 pub last_digit : (k n : ℕ) (acc : List ℕ) → n / 10 ≡ 0 → digits_onto (suc k) 10 false n acc
     ≡ digit_glyph false (n % 10) ∷ acc
 last_digit k n acc e = ap (λ (b : Bool). cond b (digit_glyph false (n % 10) ∷ acc)
@@ -38,7 +39,7 @@ pub is_zero : (n : ℕ) → IsZero n
 is_zero zero = yes refl
 is_zero (suc n) = no (λ e. omega arith)
 
--- digits that are enough make one text
+-- Two bounds that are large enough give the same digits.
 same_by : (j k n : ℕ) (acc : List ℕ) → Fits j (n / 10) → Fits k (n / 10) →
     (digits_onto (suc j) 10 false (n / 10) (digit_glyph false (n % 10) ∷ acc)
     ≡ digits_onto (suc k) 10 false (n / 10) (digit_glyph false (n % 10) ∷ acc)) →
@@ -54,12 +55,12 @@ same_digits (suc j) zero n acc f g = let z : n / 10 ≡ 0 = omega arith in
 same_digits (suc j) (suc k) n acc f g =
     same_by j k n acc f g (same_digits j k (n / 10) (digit_glyph false (n % 10) ∷ acc) f g) (is_zero (n / 10))
 
--- below 10 ^ 64 it is the library's text
+-- Below 10 ^ 64 the digits are the standard library's.
 pub numeral_decimal : (n : ℕ) → n < 10 ^ 64 → numeral n ≡ decimal n
 unfolding numeral digits
 numeral_decimal n h = same_digits n 63 n [] (fits_itself n n (omega arith)) (fits_below 63 n h)
 
--- the number that digits stand for, behind those that were read
+-- The number that these digits represent, after the digits of `a`.
 abbrev value_after : ℕ → List ℕ → ℕ
 value_after a [] = a
 value_after a (c ∷ cs) = value_after (a * 10 + (c - 48)) cs
@@ -83,7 +84,7 @@ read_by k n acc e (no z) =
     ap (value_after 0) (more_digits k n acc z) ∙ e ∙ read_digit (n / 10) n acc
     ∙ ap (λ d. value_after d acc) (div-add-mod' n 10)
 
--- a text of enough digits is read back
+-- Reading the digits of a number returns the number.
 read_back : (k n : ℕ) (acc : List ℕ) → Fits k n → value_after 0 (digits_onto (suc k) 10 false n acc) ≡ value_after n acc
 read_back zero n acc f =
     let z : n / 10 ≡ 0 = omega arith in
@@ -96,7 +97,7 @@ numeral_read : (n : ℕ) → value_after 0 (numeral n) ≡ n
 unfolding numeral
 numeral_read n = read_back n n [] (fits_itself n n (omega arith))
 
--- numbers have different ids
+-- Different numbers have different ids.
 pub numbered_is : (m n : ℕ) → numbered m ≡ numbered n → m ≡ n
 numbered_is m n e =
     let d : numeral m ≡ numeral n = append_cancel_left (codes "policy") (numeral m) (numeral n) e in

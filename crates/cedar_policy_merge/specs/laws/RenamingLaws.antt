@@ -1,4 +1,4 @@
--- That the renaming of a merge keeps ids apart, and leaves what is bound alike.
+-- The renaming of a merge gives different ids to different ids, and does not rename ids that are bound equally.
 use Rattle.std.specs.Prelude.{◌≡◌, ℕ, ◌+◌, ◌<◌, length, List, [], ◌∷◌, ◌++◌, Bool, true, false, not, ◌||◌, ◌&&◌, Option}
 use Rattle.std.specs.Prelude.{Some, None, refl, if◌then◌else◌, IfSome}
 use Rattle.std.proofs.Common.{◌≤◌, ◌⊎◌, inl, inr, sym, ap, ◌∙◌, cond, arith}
@@ -8,6 +8,7 @@ use Rattle.std.specs.Option.{unwrap_or}
 use Rattle.std.proofs.lemmas.Bool.{false≢true, or_parts}
 use Rattle.std.proofs.lemmas.List.{length-map}
 use Rattle.std.proofs.lemmas.List.Folds.{list_any-append}
+use Rattle.indexmap.specs.IndexSet.{insert_all}
 use Rattle.cedar_ids.specs.Texts.{same_text}
 use Rattle.cedar_ids.specs.laws.TextLaws.{same_text_equiv, same_text_decides}
 use Rattle.cedar_body.specs.Bodies.{BodyParts}
@@ -16,7 +17,6 @@ use Rattle.cedar_policy.specs.Policies.{policy_id}
 use Rattle.cedar_policy_maps.specs.PolicySets.{SetParts, AreOnce, is_bound}
 use Rattle.cedar_policy_merge.specs.Fresh.{numbered, is_bound_in_either, free_below, IsFree, AreFree}
 use Rattle.cedar_policy_merge.specs.Merge.{has_body, has_policy, body_ids, policy_ids, is_same_at, conflicting}
-use Rattle.cedar_policy_merge.specs.Merge.{gathered}
 use Rattle.cedar_policy_merge.specs.Merge.{conflicts, new_id, IsRenaming, AreBelow, bound_ids, ids_of}
 use Rattle.cedar_policy_merge.specs.laws.FreshLaws.{either_among_ids, free_within}
 use Rattle.cedar_policy_merge.specs.laws.MergeLaws.{Renames}
@@ -38,7 +38,7 @@ pub either_of : (a b : Bool) → (a || b) ≡ true → (a ≡ true) ⊎ (b ≡ t
 either_of true b h = inl refl
 either_of false b h = inr h
 
--- an id stands among some
+-- Whether an id is in a list.
 abbrev pub is_in : List ℕ → List (List ℕ) → Bool
 is_in i is = list_any (same_text i) is
 
@@ -53,7 +53,7 @@ pub in_step : (i x : List ℕ) (seen : List (List ℕ)) (v : Bool) → is_in i s
 in_step i x seen true h = h
 in_step i x seen false h = in_first i seen (x ∷ []) h
 
-pub still_there : (i : List ℕ) (seen xs : List (List ℕ)) → is_in i seen ≡ true → is_in i (gathered seen xs) ≡ true
+pub still_there : (i : List ℕ) (seen xs : List (List ℕ)) → is_in i seen ≡ true → is_in i (insert_all same_text seen xs) ≡ true
 still_there i seen [] h = h
 still_there i seen (x ∷ xs) h = still_there i (if is_in x seen then seen else seen
     ++ x ∷ []) xs (in_step i x seen (is_in x seen) h)
@@ -64,14 +64,14 @@ in_new i x seen true e s = ap (λ j. is_in j seen) ((same_text_decides i x).0 s)
 in_new i x seen false e s = in_second i seen (x ∷ []) (ap (λ v. v || false) s)
 
 gathers_at : (i : List ℕ) (seen : List (List ℕ)) (x : List ℕ) (xs : List (List ℕ))
-    → (is_in i xs ≡ true → is_in i (gathered (if is_in x seen then seen else seen ++ x ∷ []) xs) ≡ true) →
-    (same_text i x ≡ true) ⊎ (is_in i xs ≡ true) → is_in i (gathered seen (x ∷ xs)) ≡ true
+    → (is_in i xs ≡ true → is_in i (insert_all same_text (if is_in x seen then seen else seen ++ x ∷ []) xs) ≡ true) →
+    (same_text i x ≡ true) ⊎ (is_in i xs ≡ true) → is_in i (insert_all same_text seen (x ∷ xs)) ≡ true
 gathers_at i seen x xs l (inl s) = still_there i (if is_in x seen then seen else seen
     ++ x ∷ []) xs (in_new i x seen (is_in x seen) refl s)
 gathers_at i seen x xs l (inr h) = l h
 
--- what is to be gathered is there
-pub gathers : (i : List ℕ) (seen xs : List (List ℕ)) → is_in i xs ≡ true → is_in i (gathered seen xs) ≡ true
+-- An id of an inserted list is in the result.
+pub gathers : (i : List ℕ) (seen xs : List (List ℕ)) → is_in i xs ≡ true → is_in i (insert_all same_text seen xs) ≡ true
 gathers i seen [] h = absurd (false≢true h)
 gathers i seen (x ∷ xs) h =
     gathers_at i seen x xs (λ k. gathers i (if is_in x seen then seen else seen
@@ -102,7 +102,7 @@ pub in_conflicting : (h o : SetParts) (stands : List ℕ → Bool) (is : List (L
 in_conflicting h o stands is i s d h' = in_filter (λ j. stands j
     && not (is_same_at h o j)) i is (both_true (stands i) (is_same_at h o i) s d) h'
 
--- an id that is bound in both policy sets to something else is one of the conflicting ones
+-- An id that both sets use and bind differently is in conflict.
 conflicts_by : (h o : SetParts) (i : List ℕ) → is_same_at h o i ≡ false
     → (has_policy o i ≡ true) ⊎ (has_body o i ≡ true)
     → (has_policy h i ≡ true) ⊎ (has_body h i ≡ true) → is_in i (conflicts h o) ≡ true
@@ -129,7 +129,7 @@ pub conflict_found : (h o : SetParts) (i : List ℕ) → is_bound h i ≡ true �
 conflict_found h o i b c d = conflicts_by h o i d (either_of (has_policy o i) (has_body o i) c)
     (either_of (has_policy h i) (has_body h i) b)
 
--- ---- looking new ids up
+-- ---- Lookups of new ids
 
 none_at : (v : Bool) (j : List ℕ) (r : Option (List ℕ)) → cond v (Some j) r ≡ None → (v ≡ false) × (r ≡ None)
 none_at true j r e = absurd (cc)
@@ -141,7 +141,7 @@ not_a_key (x ∷ r) i e =
     let n = none_at (same_text i x.0) x.1 (lookup (same_text i) r) e in
     ap (λ v. v || is_in i (keys_of r)) n.0 ∙ not_a_key r i n.1
 
--- what is looked up is a free id, the k-th or a later one
+-- Whether an id is the free id at position `k` or a later one.
 abbrev IsFreeFrom : (List ℕ → Bool) → ℕ → List ℕ → Type 0
 IsFreeFrom bound k v = (n : ℕ) × (m : ℕ) × (v ≡ numbered n) × IsFree bound m n × (k ≤ m)
 
@@ -157,7 +157,7 @@ found_free bound k [] i v a e = absurd (cc)
 found_free bound k (x ∷ r) i v a e = found_at bound k (same_text i x.0) x.1 v (lookup (same_text i) r) a.0
     (λ l. found_free bound (k + 1) r i v a.1 l) e
 
--- the free ids at two places are two
+-- Free ids at different positions are different.
 two_free : (bound : List ℕ → Bool) (k : ℕ) (u : List ℕ) → ((n : ℕ) × (u ≡ numbered n) × IsFree bound k n)
     → IsFreeFrom bound (k + 1) u → ⊥
 two_free bound k u f g =
@@ -184,7 +184,7 @@ found_apart bound k (x ∷ r) i j v a p q =
     apart_at bound k x i j v r a.0 a.1 (λ y z. found_apart bound (k + 1) r i j v a.1 y z) (same_text i x.0)
     (same_text j x.0) refl refl p q
 
--- a new id is bound in neither policy set
+-- Neither set uses a new id.
 pub not_bound_new : (h o : SetParts) (r : List (List ℕ × List ℕ)) (i v : List ℕ)
     → AreFree (is_bound_in_either h o) 0 (values_of r) → lookup (same_text i) r ≡ Some v → (is_bound h v ≡ false)
     × (is_bound o v ≡ false)
@@ -193,7 +193,7 @@ not_bound_new h o r i v a e =
     let b : is_bound_in_either h o v ≡ false = ap (is_bound_in_either h o) f.2 ∙ f.3.0 in
     or_parts _ _ b
 
--- no new id is bound here
+-- Whether this set uses none of the new ids.
 abbrev pub AreFreeHere : SetParts → List (List ℕ × List ℕ) → Type 0
 AreFreeHere here r = (i : List ℕ) → IfSome (lookup (same_text i) r) (λ v. is_bound here v ≡ false)
 
@@ -206,7 +206,7 @@ free_at h o r i (Some v) f e = (not_bound_new h o r i v f e).0
 pub new_are_free : (h o : SetParts) (r : List (List ℕ × List ℕ)) → IsRenaming h o r → AreFreeHere h r
 new_are_free h o r n i = free_at h o r i (lookup (same_text i) r) n.1 refl
 
--- ---- what the renaming of a merge keeps
+-- ---- The conditions of `Renames`
 
 apart_by : (h o : SetParts) (r : List (List ℕ × List ℕ)) (i j : List ℕ) (a b : Option (List ℕ)) → IsRenaming h o r
     → is_bound o i ≡ true → is_bound o j ≡ true → lookup (same_text i) r ≡ a → lookup (same_text j) r ≡ b →
@@ -232,14 +232,14 @@ kept_unless h o r i None n b e f =
     let free : is_in i (conflicts h o) ≡ false = ap (is_in i) (sym n.0) ∙ not_a_key r i e in
     (refl, same_unless h o i (is_same_at h o i) refl (λ d. absurd (false≢true (sym free ∙ conflict_found h o i f b d))))
 
--- a renaming of a merge keeps ids apart, and what keeps its id is bound alike in both policy sets
+-- The renaming of a merge satisfies `Renames`.
 pub renames : (h o : SetParts) (r : List (List ℕ × List ℕ)) → IsRenaming h o r → Renames h o (new_id r)
 renames h o r n = record {
   apart = λ i j b c e. apart_by h o r i j (lookup (same_text i) r) (lookup (same_text j) r) n b c refl refl e;
   kept = λ i b f. kept_unless h o r i (lookup (same_text i) r) n b refl f;
 }
 
--- ---- what a renaming says of the new ids
+-- ---- Properties of the new ids
 
 neither_of : (a b : Bool) → a ≡ false → b ≡ false → (a || b) ≡ false
 neither_of a b p q = cc
@@ -286,7 +286,7 @@ free_apart bound k m n (i ∷ is) f l a =
     (other_free bound k m n i f l a.0 (same_text (numbered n) i) refl)
     (free_apart bound k (m + 1) n is f (omega arith) a.1)
 
--- no two of them are one
+-- No two of the free ids are equal.
 pub once_free : (bound : List ℕ → Bool) (k : ℕ) (is : List (List ℕ)) → AreFree bound k is
     → AreOnce (λ (i : List ℕ). i) is
 once_free bound k [] a = tt
@@ -296,29 +296,29 @@ once_free bound k (i ∷ is) a = (
       (k + 1) is a.1,
 )
 
--- none is bound
+-- None of the free ids is in use.
 pub none_bound_of : (bound : List ℕ → Bool) (k : ℕ) (is : List (List ℕ)) → AreFree bound k is
     → list_any bound is ≡ false
 none_bound_of bound k [] a = refl
 none_bound_of bound k (i ∷ is) a = neither_of (bound i) (list_any bound is) (ap bound a.0.1
     ∙ a.0.2.0) (none_bound_of bound (k + 1) is a.1)
 
-from_gathered : (i : List ℕ) (seen xs : List (List ℕ)) → is_in i (gathered seen xs) ≡ true
+from_gathered : (i : List ℕ) (seen xs : List (List ℕ)) → is_in i (insert_all same_text seen xs) ≡ true
     → (is_in i seen || is_in i xs) ≡ true
 from_gathered i seen [] h = first_of (is_in i seen) false h
 from_gathered i seen (x ∷ xs) h =
     from_either i x seen xs (either_of (is_in i (if is_in x seen then seen else seen
     ++ x ∷ [])) (is_in i xs) (from_gathered i (if is_in x seen then seen else seen ++ x ∷ []) xs h))
 
--- what is gathered is what was to be
-pub in_gathered : (i : List ℕ) (xs : List (List ℕ)) → is_in i (gathered [] xs) ≡ is_in i xs
-in_gathered i xs = same_answer (is_in i (gathered [] xs)) (is_in i xs) (λ h. from_gathered i [] xs h)
+-- An id is in the result exactly if it is in the inserted list.
+pub in_gathered : (i : List ℕ) (xs : List (List ℕ)) → is_in i (insert_all same_text [] xs) ≡ is_in i xs
+in_gathered i xs = same_answer (is_in i (insert_all same_text [] xs)) (is_in i xs) (λ h. from_gathered i [] xs h)
     (λ h. gathers i [] xs h)
 
 bound_in_ids : (h o : SetParts) (i : List ℕ) → is_bound_in_either h o i ≡ is_in i (bound_ids h o)
 bound_in_ids h o i = either_among_ids h o i ∙ sym (in_gathered i (ids_of h ++ ids_of o))
 
--- the numbers of free ids from the k-th on are below the number of bound ids and of these
+-- The numbers of the free ids from position `k` on are below the count of used ids plus their own count.
 below : (bound : List ℕ → Bool) (xs : List (List ℕ)) (k m : ℕ) (is : List (List ℕ))
     → ((i : List ℕ) → bound i ≡ is_in i xs) → k + length is ≤ m → AreFree bound k is → AreBelow (length xs + m) is
 below bound xs k m [] q l a = tt

@@ -1,4 +1,4 @@
--- A static policy that joins under a new id shares the body that joins under it.
+-- A renamed static policy shares the new body with its new id.
 use Rattle.std.specs.Prelude.{◌≡◌, ℕ, ◌<◌, length, List, [], ◌∷◌, Bool, true, false, not}
 use Rattle.std.specs.Prelude.{Option, Some, None, is_some, IfSome, suc, zero, map, refl}
 use Rattle.std.proofs.Common.{sym, ap, ◌∙◌, subst, arith, get_or}
@@ -19,12 +19,12 @@ use Rattle.cedar_policy_merge.specs.Merge.{renamed_body, renamed_policy, joined_
 use Rattle.cedar_policy_merge.specs.laws.MergeLaws.{Renames, AreAll, bodies_bound, body_bound, body_new, find_renamed}
 use Rattle.cedar_policy_merge.specs.laws.MergeLaws.{found_there, once_renamed}
 
--- a static policy is made, renamed, of the body that joins under its new id
+-- Whether a renamed static policy is the static policy of the new body with its new id.
 abbrev pub IsOnJoined : List BodyParts → (List ℕ → List ℕ) → PolicyParts → Type 0
 IsOnJoined js c p = p.link ≡ None → (t : BodyParts) → find (is_body_at (c p.template.id)) js ≡ Some t
     → static_policy t ≡ renamed_policy c p
 
--- a policy is that of the body that joins under a new id, in the place of a static one
+-- Whether `p` is static and `q` is the static policy of the new body with the new id of `p`.
 abbrev pub IsOnBody : Option (List ℕ) → List BodyParts → PolicyParts → PolicyParts → Type 0
 IsOnBody None js p q = ⊥
 IsOnBody (Some i) js p q = (p.link ≡ None) × (t : BodyParts) × (find (is_body_at i) js ≡ Some t) × (q ≡ static_policy t)
@@ -33,21 +33,21 @@ no_link : (o : Option (List ℕ)) → is_some o ≡ false → o ≡ None
 no_link None e = refl
 no_link (Some l) e = absurd (false≢true (sym e))
 
--- so that is the policy renamed
+-- Then `q` is `p` renamed.
 pub shared_is : (o : Option (List ℕ)) (c : List ℕ → List ℕ) (js : List BodyParts) (p q : PolicyParts)
     → unwrap_or o (policy_id p) ≡ c (policy_id p) → IsOnJoined js c p → IsOnBody o js p q → q ≡ renamed_policy c p
 shared_is None c js p q e a s = absurd s
 shared_is (Some i) c js p q e a s =
     s.3 ∙ a s.0 s.1 (ap (λ k. find (is_body_at k) js) (sym (e ∙ ap (λ l. c (unwrap_or l p.template.id)) s.0)) ∙ s.2)
 
--- as it is made
+-- The static policy of the new body satisfies `IsOnBody`.
 pub made_on : (o : Option PolicyParts) (i : List ℕ) (js : List BodyParts) (p : PolicyParts) (t : BodyParts)
     → is_some p.link ≡ false → find (is_body_at i) js ≡ Some t → IfSome o (λ q. q ≡ static_policy t)
     → IfSome o (IsOnBody (Some i) js p)
 made_on None i js p t l f e = tt
 made_on (Some q) i js p t l f e = (no_link p.link l, t, f, e)
 
--- no body joins under an id that is bound here
+-- No new body has an id that this set uses.
 none_joined : (h o : SetParts) (c : List ℕ → List ℕ) (i : List ℕ) (t : BodyParts) → is_bound h i ≡ true
     → find (is_body_at i) (joined_bodies h c o.bodies) ≡ Some t → ⊥
 none_joined h o c i t b f =
@@ -74,13 +74,13 @@ on_joined : (h o : SetParts) (c : List ℕ → List ℕ) (p : PolicyParts) → R
     → IsOnJoined (joined_bodies h c o.bodies) c p
 on_joined h o c p r k n t f = on_joined_by p.link (is_bound h (c p.template.id)) h o c p t r k n refl f
 
--- so it is with each policy of the other set
+-- Each policy of the other set satisfies `IsOnJoined`.
 pub all_on_joined : (h o : SetParts) (c : List ℕ → List ℕ) (ps : List PolicyParts) → Renames h o c → AreHeld o ps
     → AreAll (IsOnJoined (joined_bodies h c o.bodies) c) ps
 all_on_joined h o c [] r k = tt
 all_on_joined h o c (p ∷ ps) r k = (on_joined h o c p r k.0, all_on_joined h o c ps r k.1)
 
--- and an id stands among bodies that join once
+-- The new bodies have different ids.
 pub once_joined : (h o : SetParts) (c : List ℕ → List ℕ) → Renames h o c → IsPolicySet o
     → AreOnce (λ (t : BodyParts). t.id) (joined_bodies h c o.bodies)
 once_joined h o c r y =
@@ -88,14 +88,14 @@ once_joined h o c r y =
     (once_renamed h o c (λ (t : BodyParts). t.id) (renamed_body c) r (body_new c) o.bodies (bodies_bound o)
     y.bodies_once)
 
--- what holds of each holds of one
+-- A property of all elements is a property of each.
 pub one_of_all : {X : Type 0} (P : X → Type 0) (xs : List X) (k : ℕ) (x : X) → AreAll P xs → k < length xs
     → x ≡ get_or xs k x → P x
 one_of_all P [] k x a l e = absurd (omega arith)
 one_of_all P (y ∷ ys) zero x a l e = subst P (sym e) a.0
 one_of_all P (y ∷ ys) (suc k) x a l e = one_of_all P ys k x a.1 (omega arith) e
 
--- what stands at a place is what is found under its id
+-- The body at a place is found under its id.
 pub found_at : (ts : List (Rc BodyParts Global)) (k : ℕ) (t : Rc BodyParts Global) (i : List ℕ)
     → AreOnce (λ (b : BodyParts). b.id) (bodies_of ts) → k < length ts → t ≡ get_or ts k t → t.value.id ≡ i
     → find (is_body_at i) (bodies_of ts) ≡ Some t.value

@@ -1,4 +1,4 @@
--- What the check of bodies answers, one by one.
+-- The errors of the check of bodies.
 use Rattle.std.specs.Prelude.{◌≡◌, List, ◌∷◌, ◌++◌, All}
 use Rattle.cedar_body.specs.Bodies.{BodyParts}
 use Rattle.cedar_policy_set_errors.specs.declared.err.PolicySetValidationError.{PolicySetValidationError}
@@ -7,13 +7,13 @@ use Rattle.cedar_policy_set_errors.specs.declared.err.PolicySetValidationError.T
 use Rattle.cedar_policy_set_errors.specs.declared.err.PolicySetValidationError.TheVariants.{Memory}
 use Rattle.cedar_policy_set.specs.Validity.{IsValidBody, IsBodyRefusal}
 
--- the error has the body's id and its first fault
+-- Whether an error has the id of a body and its first fault.
 abbrev pub IsBodyFault : PolicySetValidationError → BodyParts → Type 0
 IsBodyFault (LinkToSlotlessTemplate l i) t = ⊥
 IsBodyFault (InvalidTemplate i e) t = (i ≡ t.id) × IsBodyRefusal e t
 IsBodyFault Memory t = Unit {0}
 
--- the error is that of the first body that is not valid
+-- Whether an error has the id and the first fault of the first invalid body.
 abbrev pub IsFirstFault : PolicySetValidationError → List BodyParts → Type 0
 IsFirstFault (LinkToSlotlessTemplate l i) ts = ⊥
 IsFirstFault (InvalidTemplate i e) ts =

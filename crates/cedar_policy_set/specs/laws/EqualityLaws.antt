@@ -1,4 +1,4 @@
--- The laws of the equality of policy sets.
+-- The equality of policy sets is an equivalence.
 use Rattle.std.specs.Cmp.{IsEquivalence, and_equiv, on_equiv}
 use Rattle.std.proofs.lemmas.Cmp.{lists_equiv}
 use Rattle.cedar_body.specs.laws.BodyLaws.{same_body_equiv}
@@ -6,7 +6,6 @@ use Rattle.cedar_policy.specs.laws.PolicyLaws.{same_policy_equiv}
 use Rattle.cedar_policy_maps.specs.PolicySets.{SetParts}
 use Rattle.cedar_policy_set.specs.SetEquality.{same_policy_set}
 
--- it is an equivalence
 pub same_policy_set_equiv : IsEquivalence same_policy_set
 same_policy_set_equiv = and_equiv (on_equiv (λ (b : SetParts). b.bodies) (lists_equiv same_body_equiv))
     (on_equiv (λ (b : SetParts). b.policies) (lists_equiv same_policy_equiv))

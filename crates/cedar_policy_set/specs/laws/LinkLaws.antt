@@ -1,4 +1,4 @@
--- What linking leaves: a link under an id that was free, last.
+-- The effect of linking: the new link is the last policy, and its id was free before.
 use Rattle.std.specs.Prelude.{◌≡◌, ℕ, ◌<◌, length, List, [], ◌∷◌, ◌++◌, Bool, true, false, Option, Some, None, Result}
 use Rattle.std.specs.Prelude.{Ok, Err, OnOk, refl, if◌then◌else◌, ◌||◌}
 use Rattle.std.proofs.Common.{sym, ap, ◌∙◌, arith, subst, cond}
@@ -35,7 +35,7 @@ freed : (v : Bool) (b c : SetParts) (l : List ℕ) (p : PolicyParts)
 freed true b c l p h = absurd (cc)
 freed false b c l p h = (refl, cc)
 
--- what a step of linking says of the policy set after it
+-- Whether set `c` is set `b` with a link appended, whose id was free and whose template is the binding `x`.
 abbrev Joined : Option Binding → SetParts → SetParts → List ℕ → EnvParts → Type 0
 Joined x b c l e = (t : BodyParts) × (x ≡ Some (Template t)) × (is_bound b l ≡ false)
     × (with_policy b (link_of t l e) ≡ c)
@@ -56,7 +56,7 @@ found_at : (v : Bool) (q : PolicyParts → Bool) (x p : PolicyParts) (ps : List 
 found_at true q x p ps n r = absurd (cc)
 found_at false q x p ps n r = r n
 
--- what goes last is found where no other is
+-- The last element is found if it is the only one that passes.
 found_last : (q : PolicyParts → Bool) (ps : List PolicyParts) (p : PolicyParts) → list_any q ps ≡ false → q p ≡ true
     → find q (ps ++ p ∷ []) ≡ Some p
 found_last q [] p n t = ap (λ v. cond v (Some p) None) t
@@ -70,7 +70,7 @@ unlinked b t l e n =
     (same_text_equiv.refl l) in
     ap (λ o. unlinked_at (bound_among o (find (is_body_at l) b.bodies)) l) f
 
--- to take a link out that joined leaves the former policy set
+-- Unlinking a new link restores the former policy set.
 pub link_undone : (b c : SetParts) (i l : List ℕ) (e : EnvParts) → link_step b i l e ≡ Ok c → UnlinksTo b i l e c
 link_undone b c i l e h =
     let j = joined (bound_at b i) b c i l e h in (
@@ -84,13 +84,13 @@ pushed : (ps : List PolicyParts) (p : PolicyParts) → 0 < length (ps ++ p ∷ [
 pushed [] p = omega arith
 pushed (q ∷ qs) p = omega arith
 
--- and a policy stands in it
+-- After linking there is a policy.
 pub link_there : (b c : SetParts) (i l : List ℕ) (e : EnvParts) → link_step b i l e ≡ Ok c → 0 < length c.policies
 link_there b c i l e h =
     let j = joined (bound_at b i) b c i l e h in
     subst (λ (d : SetParts). 0 < length d.policies) j.3 (pushed b.policies (link_of j.0 l e))
 
--- so it does after linking a template that stands under an id
+-- After linking a template of the set there is a policy.
 pub link_of_there : {A : Type 0} (r : Result A LinkingError) (b c : SetParts) (i l : List ℕ) (e : EnvParts) (t :
     BodyParts) → bound_at b i ≡ Some (Template t) → Steps told_by_linking r b c (link_onto t b l e) →
     OnOk r (0 < length c.policies)

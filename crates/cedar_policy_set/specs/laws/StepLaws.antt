@@ -1,4 +1,4 @@
--- The steps of calls, by what stands on a policy set.
+-- The steps of calls, according to the binding of the id.
 use Rattle.std.specs.Prelude.{◌≡◌, ℕ, List, [], ◌∷◌, Option, Some, None, refl, Result, Ok, Err}
 use Rattle.std.proofs.Common.{sym, ap, ◌∙◌}
 use Rattle.std.specs.List.{find}
@@ -23,21 +23,21 @@ use Rattle.cedar_policy_set.specs.laws.Standing.{HasNoTemplate, Stands}
 use Rattle.cedar_policy_maps.specs.laws.SetLaws.{template_at}
 use Rattle.cedar_policy_maps.specs.laws.OnceLaws.{found_passes}
 
--- the step of a link by what its template's id is bound to
+-- The step of adding a link is `add_link_at` for the binding of its template's id.
 pub added_by : (o : Option (List ℕ)) (b : SetParts) (p : PolicyParts) → o ≡ p.link → (o ≡ None → ⊥)
     → add_by o b p ≡ add_link_at (bound_at b p.template.id) b (policy_id p) p
 added_by None b p e n = absurd (n refl)
 added_by (Some l) b p e n = ap (λ i. add_link_at (bound_at b p.template.id) b i p)
     (sym (ap (λ o. unwrap_or o p.template.id) (sym e)))
 
--- a template stands under its own id
+-- A template of a set has the id under which it is found.
 pub stands : (b : SetParts) (i : List ℕ) (t : BodyParts) → bound_at b i ≡ Some (Template t) → Stands b t
 stands b i t e =
     let f = template_at b i t e in
     let same : i ≡ t.id = (same_text_decides i t.id).0 (found_passes (is_body_at i) b.bodies t f.1) in
     ap (bound_at b) (sym same) ∙ e
 
--- where there is no template linking is refused for that
+-- Linking fails with `no_such_template` if the id does not belong to a template.
 pub no_template_step : (x : Option Binding) (b : SetParts) (i l : List ℕ) (e : EnvParts) → HasNoTemplate x
     → link_at x b i l e ≡ Err (no_such_template i)
 no_template_step None b i l e h = refl
@@ -45,7 +45,7 @@ no_template_step (Some (Static t)) b i l e h = refl
 no_template_step (Some (Template t)) b i l e h = absurd h
 no_template_step (Some (Link k t v)) b i l e h = refl
 
--- bindings that fit go on
+-- Bindings that fit leave the step as it is.
 pub fit_goes_on : (slots : List SlotId) (e : EnvParts) (r : Result SetParts Refusal) → FitsSlots slots e
     → fitting (unbound slots e) (extra slots e) (wrong_action e) r ≡ r
 fit_goes_on slots e r h = let n = nothing_left_over slots e h.exactly in (λ i. fitting (n.0 i) (n.1 i) (h.action i) r)
@@ -57,7 +57,7 @@ unfit [] (x ∷ xs) o r h = refl
 unfit (u ∷ us) [] o r h = refl
 unfit (u ∷ us) (x ∷ xs) o r h = refl
 
--- and others are refused: with the two lists, or by the uid that is no action
+-- If the bindings do not fit, the step fails as the error of the check reports.
 pub unfit_is_refused : (d : LinkingError) (slots : List SlotId) (e : EnvParts) (r : Result SetParts Refusal)
     → IsUnfit d slots e → IsRefusal (told_by_linking d) (fitting (unbound slots e) (extra slots e) (wrong_action e) r)
 unfit_is_refused (links.ArityError u x) slots e r h =
@@ -72,7 +72,7 @@ unfit_is_refused links.Memory slots e r h = tt
 none_wrong : (u : UidParts) (o : Option UidParts) → o ≡ None → o ≡ Some u → ⊥
 none_wrong u o p q = cc
 
--- what fits is not refused but for memory
+-- If the bindings fit, the check can only fail because of an allocation failure.
 pub fit_is_not_refused : (d : LinkingError) (slots : List SlotId) (e : EnvParts) (step : Result SetParts Refusal)
     → FitsSlots slots e → IsUnfit d slots e → IsRefusal (told_by_linking d) step
 fit_is_not_refused (links.ArityError u x) slots e step f h = absurd (h.0 f.exactly)
@@ -82,7 +82,7 @@ fit_is_not_refused (links.NoSuchTemplate i) slots e step f h = absurd h
 fit_is_not_refused (links.PolicyIdConflict i) slots e step f h = absurd h
 fit_is_not_refused links.Memory slots e step f h = tt
 
--- the policies on the body that an id has
+-- If a body has the id, the listed ids are the ids of the policies that use it.
 pub listed : (b : SetParts) (i : List ℕ) (t : BodyParts) → Some t ≡ find (is_body_at i) b.bodies
     → get_linked_step b i ≡ Ok (ids_in t.id b.policies)
 listed b i t e =

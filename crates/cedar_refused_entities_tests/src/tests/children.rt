@@ -1,4 +1,5 @@
-// An index of children, made of entities in short texts with commas between them, and what lies below some uids.
+// Tests of the index of children. An index is given by short texts of entities, separated by commas. The tests look up
+// the descendants of some uids.
 use super::parts::entity;
 use super::{shared, uid_of};
 use cedar_children::Children;
@@ -64,7 +65,7 @@ fn has(alloc: Global, found: &HashSet<SharedUid>, name: &str) -> bool {
     }
 }
 
-// Whether these are the uids that were found.
+// Returns whether the found uids are exactly these.
 pub(super) fn are_found(alloc: Global, found: &HashSet<SharedUid>, names: &str) -> bool {
     let mut count = 0_usize;
     for name in names.split_whitespace() {
@@ -76,7 +77,7 @@ pub(super) fn are_found(alloc: Global, found: &HashSet<SharedUid>, names: &str) 
     count == found.len()
 }
 
-// Whether these are the uids below the uid `t`.
+// Returns whether the descendants of the uid `t` are exactly these.
 fn has_below(alloc: Global, index: &Index, names: &str) -> bool {
     match uids_of(alloc, "t") {
         Some(uids) => {
@@ -108,7 +109,7 @@ const CHILDREN: &str = "
     Children::below | a t; b | b
 ";
 
-// The index with the last entity of a row, which stands behind a semicolon.
+// Adds the last entity of a case, which follows a semicolon, to the index.
 fn put_in(alloc: Global, number: usize, row: Row<'_>) -> Tried {
     let (texts, last) = row.given.split_once(';').unwrap_or((row.given, ""));
     let name = last.split_whitespace().next().unwrap_or("");
@@ -131,7 +132,7 @@ fn put_in(alloc: Global, number: usize, row: Row<'_>) -> Tried {
     )
 }
 
-// What is below the uids that stand behind a semicolon.
+// Looks up the descendants of the uids after the semicolon.
 fn looked(alloc: Global, number: usize, row: Row<'_>) -> Tried {
     let (texts, names) = row.given.split_once(';').unwrap_or((row.given, ""));
     on(

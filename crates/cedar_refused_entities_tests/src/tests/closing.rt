@@ -1,5 +1,5 @@
-// The closure calls over entities at their uids. A graph is a text: each key and the keys that it has edges to, with
-// commas between the nodes.
+// Tests of the functions that compute the transitive closure of entities. A graph is a text of nodes, separated by
+// commas. Each node is its key and the keys of its edges.
 ghost use Rattle.std.specs.Prelude.{◌≡◌, IfSome};
 ghost use Rattle.cedar_graph.specs.Graph.{KeysMatch};
 ghost use Rattle.cedar_ids.specs.UidOf.{same_uid};
@@ -22,7 +22,7 @@ use std::fmt::Display;
 
 type Store = HashMap<EntityUID, SharedEntity>;
 
-// Puts a node at its uid; whether it could.
+// Inserts a node by its uid. Returns whether that succeeded.
 fn put(alloc: Global, nodes: &mut Store, node: SharedEntity) -> bool
     requires { KeysMatch same_uid (λ n. n.0.value.uid) nodes.old }
     ensures { KeysMatch same_uid (λ n. n.0.value.uid) nodes.new }
@@ -43,7 +43,7 @@ fn put(alloc: Global, nodes: &mut Store, node: SharedEntity) -> bool
     }
 }
 
-// Puts the node with a text at its uid; whether it could.
+// Inserts the node with this text by its uid. Returns whether that succeeded.
 fn put_row(alloc: Global, nodes: &mut Store, text: &str) -> bool
     requires { KeysMatch same_uid (λ n. n.0.value.uid) nodes.old }
     ensures { KeysMatch same_uid (λ n. n.0.value.uid) nodes.new }
@@ -54,7 +54,7 @@ fn put_row(alloc: Global, nodes: &mut Store, text: &str) -> bool
     }
 }
 
-// The graph with a text.
+// Returns the graph with this text.
 fn store(alloc: Global, text: &str) -> Option<Store>
     ensures { IfSome result (λ s. KeysMatch same_uid (λ n. n.0.value.uid) s) }
 {
@@ -68,7 +68,7 @@ fn store(alloc: Global, text: &str) -> Option<Store>
     Some(nodes)
 }
 
-// The eids of a node's ancestors, with blanks between them.
+// Returns the eids of a node's ancestors, separated by spaces.
 fn edges_of(alloc: Global, node: Option<&SharedEntity>) -> Option<String> {
     match node {
         Some(node) => match eids(alloc, node.0.parents()) {
@@ -92,7 +92,7 @@ fn edges_of(alloc: Global, node: Option<&SharedEntity>) -> Option<String> {
     }
 }
 
-// The edges of the node with this name.
+// Returns the edges of the node with this name.
 fn edges_at(alloc: Global, nodes: &Store, name: &str) -> Option<String> {
     match uid_of(alloc, name) {
         Some(key) => {
@@ -104,17 +104,18 @@ fn edges_at(alloc: Global, nodes: &Store, name: &str) -> Option<String> {
     }
 }
 
-// The name of the node that a text is.
+// Returns the name of the node with this text.
 fn name_in(text: &str) -> &str {
     text.split_once(' ').unwrap_or((text, "")).0
 }
 
-// The names of the keys that it has edges to.
+// Returns the names of the keys to which a node has edges.
 fn keys_in(text: &str) -> &str {
     text.split_once(' ').unwrap_or((text, "")).1
 }
 
-// Whether a node has each of its former edges and, of others, only due ones; where it is to be closed, all of these.
+// Returns whether a node has all its former edges and only expected new ones. If `closed`, it must have all expected
+// edges.
 fn is_node_between(alloc: Global, nodes: &Store, former: &str, due: &str, closed: bool) -> bool {
     let due = keys_in(due);
     let former_keys = keys_in(former);
@@ -130,8 +131,8 @@ fn is_node_between(alloc: Global, nodes: &Store, former: &str, due: &str, closed
     }
 }
 
-// Whether a graph has its former keys and edges and, of further ones, only due ones; where it is to be closed, all of
-// these.
+// Returns whether a graph has its former keys and edges and only expected new ones. If `closed`, it must have all
+// expected edges.
 fn is_between(alloc: Global, nodes: &Store, former: &str, due: &str, closed: bool) -> bool {
     let mut count = 0_usize;
     let mut all = due.split(',');
@@ -145,8 +146,8 @@ fn is_between(alloc: Global, nodes: &Store, former: &str, due: &str, closed: boo
     nodes.len() == count
 }
 
-// What came of a closure call on a graph that was this: with ample memory it is as it is wanted to be, closed or
-// refused.
+// Returns the outcome of a closure call on a graph that had the text `former`. With enough memory, the graph must be
+// closed as expected, or the expected error must be returned.
 fn told<T: Drop, E: Display + Drop>(
     alloc: Global,
     answer: Result<T, E>,
@@ -183,7 +184,7 @@ fn told<T: Drop, E: Display + Drop>(
     Tried { answer, refused }
 }
 
-// What comes of closing a graph, which may have to have no cycle.
+// Runs a closure of a graph, with or without the check for cycles.
 fn computed(alloc: Global, number: usize, row: Row<'_>) -> Tried {
     let (dag, text) = dag_of(row.given);
     match store(alloc, text) {
@@ -204,7 +205,7 @@ fn computed(alloc: Global, number: usize, row: Row<'_>) -> Tried {
     }
 }
 
-// Whether a graph has to have no cycle, and its text.
+// Returns whether a graph must be acyclic, and its text.
 fn dag_of(text: &str) -> (bool, &str) {
     match text.strip_prefix("dag ") {
         Some(rest) => (true, rest),
@@ -212,7 +213,7 @@ fn dag_of(text: &str) -> (bool, &str) {
     }
 }
 
-// What comes of repairing a graph at the keys before a colon.
+// Runs a repair of a graph at the keys before the colon.
 fn repaired(alloc: Global, number: usize, row: Row<'_>) -> Tried {
     let (dag, given) = dag_of(row.given);
     let (keys, text) = given.split_once(": ").unwrap_or(("", given));
@@ -239,7 +240,7 @@ fn repaired(alloc: Global, number: usize, row: Row<'_>) -> Tried {
     }
 }
 
-// What comes of closing a graph that has to have no cycle.
+// Runs a closure of a graph that must be acyclic.
 fn closed_dag(alloc: Global, number: usize, row: Row<'_>) -> Tried {
     match store(alloc, row.given) {
         Some(nodes) => {
@@ -254,7 +255,7 @@ fn closed_dag(alloc: Global, number: usize, row: Row<'_>) -> Tried {
     }
 }
 
-// What comes of repairing a graph, at the keys before a colon, of which none may lie on a cycle.
+// Runs a repair of a graph at the keys before the colon. None of the keys may be on a cycle.
 fn repaired_dag(alloc: Global, number: usize, row: Row<'_>) -> Tried {
     let (keys, text) = row.given.split_once(": ").unwrap_or(("", row.given));
     match (hashed(alloc, keys), store(alloc, text)) {
@@ -275,7 +276,7 @@ fn repaired_dag(alloc: Global, number: usize, row: Row<'_>) -> Tried {
     }
 }
 
-// What comes of checking a graph.
+// Runs the check of a graph.
 fn checked(alloc: Global, number: usize, row: Row<'_>) -> Tried {
     match store(alloc, row.given) {
         Some(nodes) => {

@@ -1,4 +1,4 @@
-// Entities: making, copying, changing and checking them.
+// Tests of entities: construction, copying, changes and checks.
 use super::parts::{entity, parts, text_of};
 use super::terms::is_type;
 use super::{has_eids, pointers, shared, uid_of};
@@ -76,7 +76,7 @@ fn with_parents(alloc: Global, number: usize, row: Row<'_>) -> Tried {
     )
 }
 
-// An entity behind a count.
+// Returns a shared entity.
 pub(super) fn counted(alloc: Global, text: &str) -> Option<SharedEntity> {
     match cedar_refusals::counted(alloc, entity(alloc, text)) {
         Some(entity) => Some(SharedEntity(entity)),
@@ -215,7 +215,7 @@ const CHECKING: &str = "
     From<TcError<SharedUid>> for EntitiesError::from | shared a | ! input graph has a cycle containing vertex `A::\"a\"`
 ";
 
-// What becomes of the refusal of a closure that names a uid.
+// Converts a closure error that names a shared uid.
 fn told_of(alloc: Global, number: usize, uid: SharedUid, want: &str) -> Tried {
     let fault: TcError<SharedUid> = TcError::HasCycle(HasCycle::new(uid));
     refuse(alloc, number);
@@ -223,7 +223,7 @@ fn told_of(alloc: Global, number: usize, uid: SharedUid, want: &str) -> Tried {
     judged(alloc, told, want, |_| false)
 }
 
-// What becomes of the same refusal where keys are uids.
+// Converts the same error with a plain uid.
 fn from_plain_closure(alloc: Global, number: usize, row: Row<'_>) -> Tried {
     match uid_of(alloc, row.given) {
         Some(uid) => {

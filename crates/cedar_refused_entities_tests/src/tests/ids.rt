@@ -1,4 +1,4 @@
-// Identifiers, names and types.
+// Tests of identifiers, names and types.
 use super::{named, place, typed};
 use cedar_ids::entity::EntityType;
 use cedar_ids::id::{AnyId, Id};
@@ -68,7 +68,7 @@ const NAMES: &str = "
     - Name::clone | A::B | A::B
 ";
 
-// A name under a namespace, which is the text before a blank.
+// Qualifies a name with a namespace, which is the text before the space.
 fn qualified(alloc: Global, number: usize, row: Row<'_>) -> Tried {
     let (space, name) = row.given.split_once(' ').unwrap_or(("A", row.given));
     on(
@@ -116,7 +116,7 @@ const TYPES: &str = "
     - EntityType::clone | A::B | A::B
 ";
 
-// A type under a namespace, which is the text before a blank.
+// Qualifies a type with a namespace, which is the text before the space.
 fn qualified_type(alloc: Global, number: usize, row: Row<'_>) -> Tried {
     let (space, ty) = row.given.split_once(' ').unwrap_or(("A", row.given));
     on(

@@ -1,5 +1,5 @@
-// Edits of a store of many, which lists the children of its uids at the seventeenth edit. A row says how many edits
-// there were before, and the call; what comes of it is what comes of it with ample memory.
+// Tests of edits on a store with many entities, which builds its index of children at the seventeenth edit. A case has
+// the number of edits before the call, and the call. The result must be that with enough memory.
 use super::stores::{next, step};
 use super::uid_of;
 use cedar_entities::entities::{Entities, TCComputation};
@@ -8,7 +8,7 @@ use cedar_ids::entity::EntityUID;
 use cedar_refusals::{Calls, Row, Tried, both, judged, tried_rows, unmade, with_last};
 use std::alloc::{AllocError, Global};
 
-// How many entities there are below the uid `t`.
+// The number of descendants of the uid `t`.
 const MANY: u8 = 44;
 
 fn numbered(alloc: Global, number: u8) -> Option<EntityUID> {
@@ -50,7 +50,7 @@ fn many(alloc: Global) -> Option<Vec<Entity>> {
     all
 }
 
-// The store of many after so many edits.
+// Returns the store after this many edits.
 fn edited(alloc: Global, edits: &str) -> Option<Entities> {
     let mut store = match many(alloc) {
         Some(list) => Entities::from_entities(alloc, list, TCComputation::ComputeNow).ok(),
@@ -62,7 +62,7 @@ fn edited(alloc: Global, edits: &str) -> Option<Entities> {
     store
 }
 
-// What comes of a call on a store, while the request of this number is refused.
+// Runs a call on a store, while the allocation with this number is forced to fail.
 fn compared(alloc: Global, number: usize, store: Entities, due: Entities, row: Row<'_>) -> Tried {
     let (_edits, call) = row.given.split_once(';').unwrap_or((row.given, ""));
     let tried = match step(alloc, number, store, call.trim()) {

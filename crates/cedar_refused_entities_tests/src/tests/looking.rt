@@ -1,4 +1,4 @@
-// The calls that take no memory succeed while every request is refused.
+// Functions that do not allocate succeed while every allocation is forced to fail.
 use super::parts::entity;
 use super::stores::store_of;
 use super::{set_of, shared, uid_of};
@@ -11,7 +11,7 @@ use cedar_refusals::{both, refuse, relent};
 use cedar_uid_sets::{SharedUid, UidSet};
 use std::alloc::Global;
 
-// Whether the entity with a uid is found in a store.
+// Returns whether a store contains the entity with a uid.
 fn is_found(alloc: Global, store: &Entities, uid: &EntityUID) -> bool {
     match store.entity(alloc, uid) {
         Ok(found) => {
@@ -23,7 +23,7 @@ fn is_found(alloc: Global, store: &Entities, uid: &EntityUID) -> bool {
     }
 }
 
-// Whether a store of two entities is read.
+// Reads a store of two entities, and returns whether all results are right.
 fn is_read(alloc: Global, store: &Entities, uid: &EntityUID) -> bool {
     let mut count = 0_usize;
     for _ in store.iter() {
@@ -33,7 +33,7 @@ fn is_read(alloc: Global, store: &Entities, uid: &EntityUID) -> bool {
     told && store.deep_eq(store) && is_found(alloc, store, uid)
 }
 
-// Whether a store without entities is made and made partial.
+// Returns whether an empty store can be created and made partial.
 fn is_made(alloc: Global) -> bool {
     let store = Entities::new(alloc).partial();
     let told = store.is_empty() && store.is_partial();
@@ -61,8 +61,8 @@ fn to_read_a_store_takes_no_memory(rt: HostRuntime) {
     assert!(rt; reads_a_store(rt.alloc()));
 }
 
-// How many attributes, tags, keys of both, parents, indirect ancestors and ancestors an entity has, when they are
-// walked over.
+// Returns how many items the iterators of an entity return: attributes, tags, keys of both, parents, indirect ancestors
+// and ancestors.
 fn walked(entity: &Entity) -> usize {
     let fields = entity.attrs().count().saturating_add(entity.tags().count());
     let keys = entity
@@ -83,7 +83,8 @@ fn has_node_edge(entity: &Entity, uid: &EntityUID) -> bool {
     <Entity as TCNode<EntityUID>>::has_edge_to(entity, uid)
 }
 
-// Whether an entity with an attribute, a tag, a parent and an indirect ancestor is read.
+// Reads an entity with an attribute, a tag, a parent and an indirect ancestor, and returns whether all results are
+// right.
 fn is_entity_read(entity: &Entity, parent: &EntityUID) -> bool {
     let fields = entity.get("k").is_some() && entity.get_tag("t").is_some();
     let counts = entity.attrs_len() == 1 && entity.tags_len() == 1 && walked(entity) == 8;
@@ -94,7 +95,7 @@ fn is_entity_read(entity: &Entity, parent: &EntityUID) -> bool {
     fields && counts && edges && entity.deep_eq(entity) && entity.is_valid()
 }
 
-// Takes edges out of an entity and it apart.
+// Removes the edges of an entity, and splits it into its parts.
 fn takes_apart(mut entity: Entity, parent: &EntityUID) -> bool {
     entity.remove_indirect_ancestor(parent);
     entity.remove_parent(parent);
@@ -104,8 +105,8 @@ fn takes_apart(mut entity: Entity, parent: &EntityUID) -> bool {
     told
 }
 
-// Whether an entity of a parent and an indirect ancestor leads to either, told by uids that are shared, and no more once
-// these are taken out.
+// Returns whether an entity has its parent and its indirect ancestor, looked up by shared uids, and has neither after
+// their removal.
 fn is_taken_out(entity: &mut Entity, parent: &SharedUid, indirect: &UidSet) -> bool {
     let leads = entity.is_descendant_of_shared(parent) && entity.shared_ancestors().count() == 2;
     entity.remove_ancestors_of(indirect);
@@ -132,7 +133,8 @@ fn takes_out(alloc: Global) -> bool {
     }
 }
 
-// Whether a set of two uids is read, beside another that has one of them and a further one.
+// Reads a set of two uids and another set that has one of them and a further one. Returns whether all results are
+// right.
 fn is_set_read(set: &UidSet, other: &UidSet, one: &SharedUid) -> bool {
     let found = set.contains(one.uid()) && set.contains_shared(one) && !other.contains_shared(one);
     let either = UidSet::either_contains(set, other, one);
@@ -141,7 +143,7 @@ fn is_set_read(set: &UidSet, other: &UidSet, one: &SharedUid) -> bool {
     found && either && counts && UidSet::is_ascending(set.pointers())
 }
 
-// Takes out what a set of two uids shares with another, then one, then the rest.
+// Removes from a set of two uids the uids of another set, then one uid, then the rest.
 fn empties_set(mut set: UidSet, other: &UidSet, one: &SharedUid) -> bool {
     set.difference(other);
     let left = set.len() == 1;

@@ -1,4 +1,4 @@
-// Entities as nodes, whose keys are uids or shared uids.
+// Tests of entities as nodes, whose keys are uids or shared uids.
 ghost use Rattle.std.specs.Prelude.{◌≡◌, nat_eq};
 ghost use Rattle.std.specs.List.{list_any};
 ghost use Rattle.std.specs.HashSet.{contains};
@@ -20,7 +20,7 @@ use std::alloc::{AllocError, Global};
 use std::collections::HashSet;
 use std::fmt::Display;
 
-// A node by a text of all that calls may change.
+// The text of a node, with all that calls may change.
 trait Told {
     fn told(alloc: Global, node: &Self) -> Option<String>;
 }
@@ -37,7 +37,7 @@ impl Told for SharedEntity {
     }
 }
 
-// A node that takes the default of `direct_edges`.
+// A node with the default of `direct_edges`.
 #[derive(Drop)]
 struct Plain {
     targets: HashSet<u64>,
@@ -93,7 +93,7 @@ impl Told for Plain {
     }
 }
 
-// A plain node with an edge to this key.
+// Returns a plain node with an edge to this key.
 fn node_to(alloc: Global, key: u64) -> Option<Plain> {
     match joined(Some(HashSet::new(alloc)), Some(key)) {
         Some(targets) => Some(Plain { targets }),
@@ -101,7 +101,7 @@ fn node_to(alloc: Global, key: u64) -> Option<Plain> {
     }
 }
 
-// Whether keys are written so, in their order.
+// Returns whether keys are printed as these words, in order.
 fn are_written<K: Display>(alloc: Global, keys: &Vec<&K>, want: &str) -> bool {
     let mut due = want.split_whitespace();
     for key in keys {
@@ -113,13 +113,13 @@ fn are_written<K: Display>(alloc: Global, keys: &Vec<&K>, want: &str) -> bool {
     due.next().is_none()
 }
 
-// Whether each word of a text is one of another.
+// Returns whether each word of a text is a word of another text.
 pub(super) fn is_among(text: &str, others: &str) -> bool {
     text.split_whitespace().all(|word| others.split_whitespace().any(|other| other == word))
 }
 
-// What came of adding edges, by the node's text before; where that is refused, the former edges stay, and each further
-// one leads to a key.
+// Returns the outcome of adding edges, given the node's text before. After an error the former edges must remain, and
+// each new edge must lead to one of the keys.
 fn grown<K: Eq + Drop, N: TCNode<K> + Told + Drop>(
     alloc: Global,
     before: String,
@@ -140,7 +140,7 @@ fn grown<K: Eq + Drop, N: TCNode<K> + Told + Drop>(
     came
 }
 
-// What comes of adding edges to keys.
+// Runs the addition of edges to keys.
 fn joined_to<K: Eq + Drop, N: TCNode<K> + Told + Drop>(
     alloc: Global,
     number: usize,
@@ -157,7 +157,7 @@ fn joined_to<K: Eq + Drop, N: TCNode<K> + Told + Drop>(
     Tried { answer, refused }
 }
 
-// What comes of adding an edge to a key that the node has none to, as a row of that key.
+// Runs the addition of an edge to a key to which the node has no edge. The key is passed as a list.
 fn newly_joined_to<K: Eq + Drop, N: TCNode<K> + Told + Drop>(
     alloc: Global,
     number: usize,
@@ -176,14 +176,14 @@ fn newly_joined_to<K: Eq + Drop, N: TCNode<K> + Told + Drop>(
     Tried { answer, refused }
 }
 
-// Whether the node has an edge to one of the keys.
+// Returns whether the node has an edge to one of the keys.
 fn has_edge_among<K: Eq + Drop, N: TCNode<K>>(node: &N, keys: &[K]) -> bool
     ensures { result ≡ list_any (N.edges node.now) keys.now }
 {
     keys.iter().any(|key| node.has_edge_to(key))
 }
 
-// What comes of adding edges to keys that the node has none to.
+// Runs the addition of edges to keys to which the node has no edges.
 fn newly_joined<K: Eq + Drop, N: TCNode<K> + Told + Drop>(
     alloc: Global,
     number: usize,
@@ -199,7 +199,7 @@ fn newly_joined<K: Eq + Drop, N: TCNode<K> + Told + Drop>(
     newly_joined_to(alloc, number, node, keys, want)
 }
 
-// What comes of adding an edge to the last of some keys.
+// Runs the addition of an edge to the last of some keys.
 fn led<K: Eq + Drop, N: TCNode<K> + Told + Drop>(
     alloc: Global,
     number: usize,
@@ -226,7 +226,7 @@ fn led<K: Eq + Drop, N: TCNode<K> + Told + Drop>(
     }
 }
 
-// The edges that a node puts into a list that has none.
+// Returns the list of edges that a node writes into an empty list.
 fn edges_of<'a, K: Eq + Drop, N: TCNode<K>>(
     alloc: Global,
     node: &'a N,
@@ -236,7 +236,7 @@ fn edges_of<'a, K: Eq + Drop, N: TCNode<K>>(
     Ok(list)
 }
 
-// What comes of the call that lists some edges.
+// Runs the function that lists some edges.
 fn listed<K: Eq + Display + Drop, N: TCNode<K> + Told + Drop>(
     alloc: Global,
     number: usize,
@@ -265,7 +265,7 @@ fn listed<K: Eq + Display + Drop, N: TCNode<K> + Told + Drop>(
     })
 }
 
-// What comes of the order that a node type has for keys.
+// Runs the function that orders the keys of a node type.
 fn ordered<K: Eq + Drop, N: TCNode<K>>(
     alloc: Global,
     number: usize,
@@ -284,7 +284,7 @@ fn ordered<K: Eq + Drop, N: TCNode<K>>(
     tried
 }
 
-// What comes of a call on a node.
+// Runs a call on a node.
 fn asked<K: Eq + Display + Drop, N: TCNode<K> + Told + Drop>(
     alloc: Global,
     number: usize,
@@ -328,17 +328,17 @@ fn asked<K: Eq + Display + Drop, N: TCNode<K> + Told + Drop>(
     }
 }
 
-// The call's own name, behind that of the kind of nodes.
+// Returns the name of the called function, without the kind of nodes before it.
 fn verb_of<'a>(row: Row<'a>) -> &'a str {
     row.call.split_once("::").unwrap_or(("", row.call)).1
 }
 
-// The text of the node, before that of the keys.
+// Returns the text of the node, which is before the keys.
 fn node_of<'a>(row: Row<'a>) -> &'a str {
     row.given.split_once(", ").unwrap_or((row.given, "")).0
 }
 
-// Uids as a list.
+// Returns a list of uids.
 fn uids(alloc: Global, names: &str) -> Option<Vec<EntityUID>> {
     let mut all = Some(Vec::new(alloc));
     for name in names.split_whitespace() {
@@ -425,7 +425,7 @@ const COUNTED: &str = "
     TCNode<SharedUid> for SharedEntity::add_new_edges_to | a b / c e, f d | a b / c d e f / /
 ";
 
-// What comes of a call on an entity that another node shares, which stays as it was.
+// Runs a call on an entity that another node shares. The other node must not change.
 fn beside_another(alloc: Global, number: usize, other: &SharedEntity, row: Row<'_>) -> Tried {
     let node: Result<SharedEntity, AllocError> = other.clone();
     let before = counted_text(alloc, other).unwrap_or(String::new(alloc));

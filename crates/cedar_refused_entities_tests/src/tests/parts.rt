@@ -1,7 +1,8 @@
-// Entities by short texts, which have four parts with a slash between them: the name and the parents, the indirect
-// ancestors, the attributes, the tags. `a b c / d / k=1 / t=2` is the entity `A::"a"` with parents `A::"b"` and
-// `A::"c"`, indirect ancestor `A::"d"`, attribute `k` and tag `t`. The number `!` stands for a record with the key
-// `__extn`.
+// Entities as short texts. A text has four parts, separated by slashes: the name with the parents, the indirect
+// ancestors, the attributes, and the tags.
+//
+// `a b c / d / k=1 / t=2` is the entity `A::"a"` with parents `A::"b"` and `A::"c"`, indirect ancestor `A::"d"`,
+// attribute `k` and tag `t`. The number `!` stands for a record with the key `__extn`.
 use super::values::{long, value};
 use super::{eids, hashed, uid_of};
 use cedar_entity::entity::Entity;
@@ -39,13 +40,13 @@ fn fields(alloc: Global, texts: &str) -> Option<Fields> {
     all
 }
 
-// A part of the text of an entity, or nothing where it is left out.
+// Returns a part of an entity's text, or an empty text if it is missing.
 fn part(text: &str, place: usize) -> &str {
     text.split('/').nth(place).unwrap_or("").trim()
 }
 
-// What `new_with_attr_partial_value` takes: the uid, the parents and the indirect ancestors, the attributes and the
-// tags.
+// The arguments of `new_with_attr_partial_value`: the uid, the parents and the indirect ancestors, the attributes and
+// the tags.
 pub(super) type Parts = (
     cedar_ids::EntityUID,
     (
@@ -65,7 +66,7 @@ pub(super) fn parts(alloc: Global, text: &str) -> Option<Parts> {
     both(uid_of(alloc, name), both(edges, fields))
 }
 
-// The entity with a text.
+// Returns the entity with this text.
 pub(super) fn entity(alloc: Global, text: &str) -> Option<Entity> {
     match parts(alloc, text) {
         Some((uid, ((parents, indirect), (attrs, tags)))) => {
@@ -103,7 +104,7 @@ fn pairs_text(alloc: Global, pairs: Pairs<'_>) -> Option<String> {
     text
 }
 
-// The text of an entity, with all of its parts.
+// Returns the text of an entity, with all its parts.
 pub(super) fn text_of(alloc: Global, entity: &Entity) -> Option<String> {
     let name = with_word(Some(String::new(alloc)), entity.uid().eid().as_ref());
     let parents = match both(name, eids(alloc, entity.parents())) {

@@ -1,4 +1,5 @@
-// How entities and stores stand to each other, are written and count: rows of what takes no memory, or is no call of the layer's own.
+// Tests of comparing, printing and counting entities and stores. They do not allocate in the tested layer, or test no
+// function of its own.
 use super::parts::entity;
 use super::stores::{next, store_of};
 use cedar_entities::entities::{Entities, TCComputation};
@@ -60,7 +61,7 @@ const READS: &str = "
     entity | T.t Z.a z B.m / z b B::A.x C.0 / / | T::\"t\": attrs: ancestors:A::\"b\", A::\"z\", B::A::\"x\", B::\"m\", C::\"0\", Z::\"a\"
 ";
 
-// How two entities stand to each other, seen from both sides, by hash too.
+// Compares two entities in both directions, and by hash.
 fn beside(one: &Entity, other: &Entity) -> &'static str {
     let deeply = (one.deep_eq(other), other.deep_eq(one));
     let plainly = (one == other, other == one, hash_of(one) == hash_of(other));
@@ -91,7 +92,7 @@ fn entities_compared(alloc: Global, number: usize, row: Row<'_>) -> Tried {
     )
 }
 
-// How two stores stand to each other, seen from both sides.
+// Compares two stores in both directions.
 fn stand(one: &Entities, other: &Entities) -> &'static str {
     let deeply = (one.deep_eq(other), other.deep_eq(one));
     let plainly = (one == other, other == one);
@@ -116,7 +117,7 @@ fn compared(alloc: Global, number: usize, row: Row<'_>) -> Tried {
     )
 }
 
-// The entity of a number, with the next as its parent, unless it is the last.
+// Returns the entity with this number in a chain. The next entity is its parent, unless it is the last one.
 fn chained(alloc: Global, number: u32, many: u32) -> Option<Entity> {
     let next = number.saturating_add(1);
     let text = if next < many {
@@ -134,7 +135,7 @@ fn chained(alloc: Global, number: u32, many: u32) -> Option<Entity> {
     }
 }
 
-// As many entities, each with the next as its parent.
+// Returns a store of a chain of this many entities. Each has the next as its parent.
 fn chain(alloc: Global, many: u32) -> Option<Entities> {
     let mut all = Some(Vec::new(alloc));
     for number in 0..many {
@@ -146,7 +147,7 @@ fn chain(alloc: Global, many: u32) -> Option<Entities> {
     }
 }
 
-// The store that calls leave, or that of a chain, of which one may be removed.
+// Returns the store after some calls, or a chain from which one entity may be removed.
 fn counted_store(alloc: Global, calls: &str) -> Option<Entities> {
     match calls.strip_prefix("chain ") {
         Some(rest) => {
@@ -157,7 +158,7 @@ fn counted_store(alloc: Global, calls: &str) -> Option<Entities> {
     }
 }
 
-// How many entities a store has, and how many ancestors these have.
+// Returns the number of entities of a store, and the number of their ancestors.
 fn counts(store: &Entities) -> (usize, usize) {
     let mut many = 0_usize;
     let mut above = 0_usize;
@@ -206,14 +207,14 @@ fn what_stores_are(rt: HostRuntime) {
     assert!(rt; worked_rows(rt, &OnReads, READS));
 }
 
-// What is written while each request is refused in turn: where it is the one for the entities in their order, each is
-// looked for by a walk.
+// Cases of writing a store with injected failures. If the list of the ordered entities cannot be allocated, each entity
+// is found by a scan.
 const WRITTEN: &str = "
     write | ; | <empty Entities>
     write | from: b z, a c b, Z.a, c | A::\"a\": attrs: ancestors:A::\"b\", A::\"c\", A::\"z\" A::\"b\": attrs: ancestors:A::\"z\" A::\"c\": attrs: ancestors: Z::\"a\": attrs: ancestors:
 ";
 
-// Whether the rows of a text go well while each request is refused in turn.
+// Returns whether all cases of a text succeed with injected failures.
 fn go_well(alloc: Global, rows: &str) -> bool {
     for line in rows.lines() {
         if let Some(row) = row_of(line)

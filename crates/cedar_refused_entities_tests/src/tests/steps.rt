@@ -1,5 +1,5 @@
-// The steps of an edit over the map of a store, whose entities are written as in `parts`, with commas between them. A
-// row gives a word, some uids and a map, with semicolons between these.
+// Tests of the steps of an edit on the map of a store. Entities are written as in `parts`, separated by commas. A case
+// has a word, some uids and a map, separated by semicolons.
 ghost use Rattle.std.specs.Prelude.{◌≡◌, IfOk, IfSome};
 ghost use Rattle.std.specs.HashSet.{contains};
 ghost use Rattle.cedar_ids.specs.UidOf.{same_uid};
@@ -11,12 +11,12 @@ use super::children::{are_found, index_of, uids_of};
 use super::entities::counted;
 use super::stores::mode_of;
 use super::{eids, pointers, set_of};
+use cedar_children::listed;
 use cedar_entity::err::EntitiesError;
 use cedar_entity::node::SharedEntity;
 use cedar_entity_maps::index::{Index, touched_by};
 use cedar_entity_maps::modes::{mending, row_of};
 use cedar_entity_maps::settling::{check, finish, settle_touched, settle_whole};
-use cedar_entity_maps::sought::listed;
 use cedar_entity_maps::touching::{Loss, Lost, forget_each, losses_by, note_all, strip_each};
 use cedar_graph::TCNode;
 use cedar_refusals::{
@@ -30,7 +30,7 @@ type Map = HashMap<SharedUid, SharedEntity>;
 
 type Set = HashSet<SharedUid>;
 
-// Puts an entity at its uid; whether it could.
+// Inserts an entity by its uid. Returns whether that succeeded.
 fn put(alloc: Global, map: &mut Map, entity: SharedEntity) -> bool
     requires { UidsMatch map.old }
     ensures { UidsMatch map.new }
@@ -51,7 +51,7 @@ fn put(alloc: Global, map: &mut Map, entity: SharedEntity) -> bool
     }
 }
 
-// Puts the entity with a text at its uid; whether it could.
+// Inserts the entity with this text by its uid. Returns whether that succeeded.
 fn put_text(alloc: Global, map: &mut Map, text: &str) -> bool
     requires { UidsMatch map.old }
     ensures { UidsMatch map.new }
@@ -62,7 +62,7 @@ fn put_text(alloc: Global, map: &mut Map, text: &str) -> bool
     }
 }
 
-// Whether that could be done, where there is a text.
+// Inserts the entity with this text, if the text is not empty. Returns whether that succeeded.
 fn put_if_any(alloc: Global, map: &mut Map, text: &str) -> bool
     requires { UidsMatch map.old }
     ensures { UidsMatch map.new }
@@ -73,7 +73,7 @@ fn put_if_any(alloc: Global, map: &mut Map, text: &str) -> bool
     put_text(alloc, map, text)
 }
 
-// The map with a text.
+// Returns the map with this text.
 fn map_of(alloc: Global, texts: &str) -> Option<Map>
     ensures { IfSome result (λ m. UidsMatch m) }
 {
@@ -87,7 +87,7 @@ fn map_of(alloc: Global, texts: &str) -> Option<Map>
     Some(map)
 }
 
-// The map that is wanted, which is empty where a refusal is.
+// Returns the expected map, which is empty if an error is expected.
 fn due_of(alloc: Global, want: &str) -> Option<Map> {
     if want.starts_with('!') {
         return Some(HashMap::new(alloc));
@@ -95,7 +95,7 @@ fn due_of(alloc: Global, want: &str) -> Option<Map> {
     map_of(alloc, want)
 }
 
-// Whether a map has just the entities of another, with the same ancestors.
+// Returns whether two maps have the same entities with the same ancestors.
 fn are_alike(map: &Map, due: &Map) -> bool {
     for (uid, entity) in due {
         match map.get(uid) {
@@ -106,14 +106,14 @@ fn are_alike(map: &Map, due: &Map) -> bool {
     map.len() == due.len()
 }
 
-// The parts of what a row gives.
+// Returns the parts of a case's arguments.
 fn parts_of(given: &str) -> (&str, &str, &str) {
     let (word, rest) = given.split_once(';').unwrap_or((given, ""));
     let (names, texts) = rest.split_once(';').unwrap_or((rest, ""));
     (word.trim(), names, texts)
 }
 
-// What comes of a step that closes a map, checks it, or takes ancestors from it.
+// Runs a step that closes a map, checks it, or removes ancestors from it.
 fn settled(alloc: Global, number: usize, row: Row<'_>, uids: Set, due: Map) -> Tried {
     let (word, _names, texts) = parts_of(row.given);
     match map_of(alloc, texts) {
@@ -144,7 +144,7 @@ fn settled(alloc: Global, number: usize, row: Row<'_>, uids: Set, due: Map) -> T
     }
 }
 
-// What an edit of some uids touches.
+// Returns the entities that an edit of some uids affects.
 fn touched(alloc: Global, map: &Map, uids: &Set) -> Result<Set, EntitiesError>
     ensures { IfOk result (λ s. (q : EntityUID) → contains same_uid s q
         ≡ is_touched (held_map map.now) uids.now.keys q) }
@@ -153,7 +153,7 @@ fn touched(alloc: Global, map: &Map, uids: &Set) -> Result<Set, EntitiesError>
     touched_by(alloc, map, &index, uids)
 }
 
-// Whether losses are written so: each uid and what goes from it.
+// Returns whether the stale ancestors are printed as this text: each uid and what is removed from it.
 fn are_losses(alloc: Global, losses: &Vec<Loss>, want: &str) -> bool {
     let mut text = Some(String::new(alloc));
     for loss in losses {
@@ -180,7 +180,7 @@ fn are_losses(alloc: Global, losses: &Vec<Loss>, want: &str) -> bool {
     }
 }
 
-// What comes of finding what goes by some uids.
+// Runs the search for stale ancestors after the removal of some uids.
 fn losing(alloc: Global, number: usize, row: Row<'_>, map: &Map, uids: &Set) -> Tried {
     let (word, _names, _texts) = parts_of(row.given);
     match touched(alloc, map, uids) {
@@ -202,7 +202,7 @@ fn losing(alloc: Global, number: usize, row: Row<'_>, map: &Map, uids: &Set) -> 
     }
 }
 
-// What goes by some uids.
+// Returns the stale ancestors after the removal of some uids.
 fn losses_of(alloc: Global, map: &Map, uids: &Set) -> Option<Vec<Loss>> {
     match touched(alloc, map, uids) {
         Ok(touched) => {
@@ -219,7 +219,7 @@ fn losses_of(alloc: Global, map: &Map, uids: &Set) -> Option<Vec<Loss>> {
     }
 }
 
-// The entities of a map, each shared once more.
+// Returns further shared pointers to the entities of a map.
 fn copies(alloc: Global, map: &Map) -> Option<Vec<SharedEntity>> {
     let mut all = Some(Vec::new(alloc));
     for (_, entity) in map {
@@ -229,7 +229,7 @@ fn copies(alloc: Global, map: &Map) -> Option<Vec<SharedEntity>> {
     all
 }
 
-// What comes of stripping a map, whose entities may be shared, of what goes by some uids, and of these as parents.
+// Runs the removal of stale ancestors and of removed parents from a map, whose entities may be shared.
 fn stripped(alloc: Global, number: usize, row: Row<'_>, map: Map, due: &Map) -> Tried {
     let (word, names, _texts) = parts_of(row.given);
     let mut map = map;
@@ -260,7 +260,7 @@ fn stripped(alloc: Global, number: usize, row: Row<'_>, map: Map, due: &Map) -> 
     tried
 }
 
-// What comes of finding what an edit touches, where the children may be listed.
+// Runs the search for the entities that an edit affects, with or without an index of children.
 fn touching(alloc: Global, number: usize, row: Row<'_>, map: &Map, uids: &Set) -> Tried {
     let (word, _names, texts) = parts_of(row.given);
     let mut index = Index::unlisted(true);
@@ -278,7 +278,7 @@ fn touching(alloc: Global, number: usize, row: Row<'_>, map: &Map, uids: &Set) -
     )
 }
 
-// What comes of noting some uids beside others.
+// Runs the insertion of some uids into a set.
 fn noting(alloc: Global, number: usize, row: Row<'_>, uids: Set) -> Tried {
     let (_word, _names, more) = parts_of(row.given);
     let mut noted = uids;
@@ -299,7 +299,7 @@ fn noting(alloc: Global, number: usize, row: Row<'_>, uids: Set) -> Tried {
     tried
 }
 
-// What comes of listing the uids of a set.
+// Runs the listing of a set's uids.
 fn listing(alloc: Global, number: usize, row: Row<'_>, uids: Set) -> Tried {
     refuse(alloc, number);
     let answer = listed(alloc, &uids);
@@ -310,7 +310,7 @@ fn listing(alloc: Global, number: usize, row: Row<'_>, uids: Set) -> Tried {
     tried
 }
 
-// What comes of a step that reads a map.
+// Runs a step that only reads a map.
 fn reading(alloc: Global, number: usize, row: Row<'_>, map: Map, uids: Set) -> Tried {
     let tried = if row.call == "touched_by" {
         touching(alloc, number, row, &map, &uids)

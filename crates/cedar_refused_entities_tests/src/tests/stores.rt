@@ -1,7 +1,8 @@
-// Stores by short texts. Entities are written as in `parts`, with commas between them. A call is a word and, after a
-// colon, its entities or uids: `from` or `with` (`from` with a builder of hashers), `add` or `upsert`, `remove`,
-// `partial`; a second word says the mode: `from assume`, `add enforce`. Calls are parted by semicolons, and the first
-// starts from the store without entities.
+// Stores as short texts of calls. Entities are written as in `parts`, separated by commas.
+//
+// A call is a word and, after a colon, its entities or uids. The words are `from`, `with` (`from` with a builder of
+// hashers), `add`, `upsert`, `remove` and `partial`. A second word is the mode: `from assume`, `add enforce`. Calls are
+// separated by semicolons. The first call starts from an empty store.
 use super::entities::is_entity;
 use super::parts::{entity, text_of};
 use super::terms::expr;
@@ -59,7 +60,7 @@ pub(super) fn mode_of(word: &str) -> TCComputation {
     }
 }
 
-// The word of a call, its mode, and what it is made with.
+// Returns the word of a call, its mode and its arguments.
 fn parts_of(call: &str) -> (&str, TCComputation, &str) {
     let (head, rest) = call.split_once(':').unwrap_or((call, ""));
     let head = head.trim();
@@ -67,7 +68,7 @@ fn parts_of(call: &str) -> (&str, TCComputation, &str) {
     (word, mode_of(mode), rest)
 }
 
-// A call that makes a store anew, which may be given a builder of hashers.
+// Runs a call that creates a new store, with or without a builder of hashers.
 fn from(
     alloc: Global,
     number: usize,
@@ -88,7 +89,7 @@ fn from(
     }
 }
 
-// A call that takes entities, which may overwrite.
+// Runs a call that adds or upserts entities.
 fn joined(
     alloc: Global,
     number: usize,
@@ -108,7 +109,7 @@ fn joined(
     }
 }
 
-// The call that removes.
+// Runs a call that removes entities.
 fn removed(
     alloc: Global,
     number: usize,
@@ -124,7 +125,7 @@ fn removed(
     }
 }
 
-// One call on a store, made while the request of this number is refused.
+// Runs one call on a store, while the allocation with this number is forced to fail.
 pub(super) fn step(alloc: Global, number: usize, store: Entities, call: &str) -> Option<Outcome> {
     let (word, mode, rest) = parts_of(call);
     match word {
@@ -148,10 +149,10 @@ pub(super) fn step(alloc: Global, number: usize, store: Entities, call: &str) ->
     }
 }
 
-// The number of a request that no call reaches.
+// The number of an allocation that no call reaches.
 const NEVER: usize = 1 << 32;
 
-// The store that a call leaves, with ample memory.
+// Returns the store after a call with enough memory.
 pub(super) fn next(alloc: Global, store: Option<Entities>, call: &str) -> Option<Entities> {
     let outcome = match store {
         Some(store) => step(alloc, NEVER, store, call),
@@ -168,7 +169,7 @@ pub(super) fn next(alloc: Global, store: Option<Entities>, call: &str) -> Option
     }
 }
 
-// The store that these calls leave, none of which is refused.
+// Returns the store after these calls, all of which must succeed.
 pub(super) fn store_of(alloc: Global, calls: &str) -> Option<Entities> {
     let mut store = Some(Entities::new(alloc));
     for call in calls.split(';') {
@@ -190,7 +191,7 @@ fn in_order(alloc: Global, texts: Vec<String>) -> Option<String> {
     whole
 }
 
-// The texts of the entities of a store, in order, with a comma behind each.
+// Returns the texts of the entities of a store, in order, with a comma after each.
 fn text(alloc: Global, store: &Entities) -> Option<String> {
     let mut texts = Some(Vec::new(alloc));
     for entity in store.iter() {
@@ -245,7 +246,7 @@ const STORES: &str = "
     Entities::try_validate | from: a / / k=!; validate | ! the key `__extn` is reserved
 ";
 
-// The word that a text has for a call.
+// Returns the word for a function in the texts.
 fn word_of(call: &str) -> &str {
     match call {
         "Entities::from_entities" => "from",
@@ -258,7 +259,7 @@ fn word_of(call: &str) -> &str {
     }
 }
 
-// What comes of the last of some calls, which has to be the row's.
+// Runs the last of some calls, which must be the case's call.
 fn last_tried(alloc: Global, number: usize, row: Row<'_>) -> Tried {
     let (calls, call) = row.given.rsplit_once(';').unwrap_or(("", row.given));
     if parts_of(call).0 != word_of(row.call) {
@@ -309,7 +310,7 @@ const READING: &str = "
     would_upsert | from: a b, b c; b b | ! input graph has a cycle containing vertex `A::\"b\"`
 ";
 
-// Whether looking a uid up gave this.
+// Returns whether a lookup returned the expected result.
 fn is_found(alloc: Global, found: &Dereference<'_, Entity>, want: &str) -> bool {
     match found {
         Dereference::NoSuchEntity => want == "none",
@@ -349,7 +350,7 @@ fn sliced(alloc: Global, number: usize, row: Row<'_>) -> Tried {
     )
 }
 
-// The next of the entities of a store that another shares.
+// Runs the owning iterator of a store that shares its entities with another store.
 fn given_out(alloc: Global, number: usize, store: &Entities, want: &str) -> Tried {
     let copy: Result<Entities, AllocError> = store.clone();
     match copy {
@@ -389,7 +390,7 @@ fn residual_copied(alloc: Global, number: usize, row: Row<'_>) -> Tried {
     }
 }
 
-// What the trial of an edit says.
+// Runs the dry run of an edit.
 fn edit_tried(alloc: Global, number: usize, row: Row<'_>) -> Tried {
     let (calls, texts) = row.given.rsplit_once(';').unwrap_or((row.given, ""));
     on(

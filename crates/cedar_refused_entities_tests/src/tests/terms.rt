@@ -1,5 +1,5 @@
-// Expressions and what is found in them. An expression is a word: a truth, a number, a variable, a slot, `text`,
-// `unknown`, `foo()`, or a slot below two or eight levels, `deep2` or `deep8`; several words are the set of these.
+// Tests of expressions and their contents. An expression is a word: a Boolean, a number, a variable, a slot, `text`,
+// `unknown`, `foo()`, or a slot below two or eight levels, `deep2` or `deep8`. Several words are a set.
 use super::{named, typed, uid};
 use cedar_ids::entity::EntityUID;
 use cedar_refusals::{
@@ -14,7 +14,7 @@ use cedar_terms::unknown::Unknown;
 use cedar_terms::var::Var;
 use std::alloc::Global;
 
-// An unknown of this name, typed where a type stands behind a colon.
+// Returns an unknown with this name. A type after a colon is its annotation.
 pub(super) fn unknown(alloc: Global, text: &str) -> Option<Unknown> {
     match text.split_once(':') {
         None => match owned(alloc, text) {
@@ -28,7 +28,7 @@ pub(super) fn unknown(alloc: Global, text: &str) -> Option<Unknown> {
     }
 }
 
-// A literal: a truth, a text, a uid or a number.
+// Returns a literal: a Boolean, a string, a uid or a number.
 pub(super) fn literal(alloc: Global, word: &str) -> Option<Literal> {
     match word {
         "true" => Some(Literal::Bool(true)),
@@ -47,7 +47,7 @@ pub(super) fn literal(alloc: Global, word: &str) -> Option<Literal> {
     }
 }
 
-// The call of a function on nothing.
+// Returns a call of a function without arguments.
 fn called(alloc: Global, name: &str) -> Option<Expr> {
     match named(alloc, name) {
         Some(name) => Expr::call(alloc, name, Vec::new(alloc)).ok(),
@@ -62,7 +62,7 @@ fn unknown_expr(alloc: Global, text: &str) -> Option<Expr> {
     }
 }
 
-// The set of an expression and of the number 1.
+// Returns the set of an expression and the number 1.
 fn beside_one(alloc: Global, inner: Expr) -> Option<Expr> {
     let number = Expr::val(alloc, Literal::Long(1)).ok();
     match with_last(with_last(Some(Vec::new(alloc)), Some(inner)), number) {
@@ -71,7 +71,7 @@ fn beside_one(alloc: Global, inner: Expr) -> Option<Expr> {
     }
 }
 
-// A slot below so many levels, sets and negations in turn.
+// Returns a slot below this many levels, which are sets and negations alternately.
 fn deep(alloc: Global, levels: usize) -> Option<Expr> {
     let mut all = Expr::slot(alloc, SlotId::Principal).ok();
     for level in 0..levels {
@@ -84,7 +84,7 @@ fn deep(alloc: Global, levels: usize) -> Option<Expr> {
     all
 }
 
-// The expression that a word is.
+// Returns the expression for a word.
 fn one(alloc: Global, word: &str) -> Option<Expr> {
     match word {
         "principal" => Expr::var(alloc, Var::Principal).ok(),
@@ -115,7 +115,7 @@ fn two(alloc: Global, words: &str) -> Option<(Expr, Expr)> {
     both(one(alloc, left), one(alloc, right))
 }
 
-// The expression that some words are.
+// Returns the expression for some words.
 pub(super) fn expr(alloc: Global, words: &str) -> Option<Expr> {
     if !words.contains(' ') {
         return one(alloc, words);
@@ -288,7 +288,7 @@ pub(super) fn is_type(alloc: Global, told: &StaticType, want: &str) -> bool {
     }
 }
 
-// Whether unknowns have these names, one after another.
+// Returns whether unknowns have these names, in order.
 fn are_unknowns(alloc: Global, unknowns: &[&Unknown], want: &str) -> bool {
     let mut names = Some(Vec::new(alloc));
     for unknown in unknowns {
@@ -349,7 +349,7 @@ impl Calls for OnTrees {
     }
 }
 
-// A fault that names a function.
+// Returns an error that names a function.
 fn fault(alloc: Global, name: &str) -> Option<cedar_terms::ExprValidationError> {
     match named(alloc, name) {
         Some(name) => Some(cedar_terms::ExprValidationError::UnknownFunction { name }),

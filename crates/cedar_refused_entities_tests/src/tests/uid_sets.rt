@@ -1,4 +1,4 @@
-// Shared uids and sets of them; what the numbers of a graph reach.
+// Tests of shared uids, sets of them, and reachability.
 use super::{has_eids, pointers, set_of, shared, uid};
 use cedar_components::reach;
 use cedar_refusals::{
@@ -18,7 +18,7 @@ const SHARED_UIDS: &str = "
     - SharedUid::clone | a
 ";
 
-// The uid of a pointer beside which there is another.
+// Runs `into_uid` on a shared uid that has another pointer.
 fn taken_back(alloc: Global, number: usize, row: Row<'_>) -> Tried {
     let made_once = shared(alloc, row.given.trim_start_matches("shared "));
     match made_once {
@@ -156,7 +156,8 @@ const NUMBERS: &str = "
     reach | 0 to 1, 1 to 0, 1 to 2 | 0 ; 1 ; 2 ;
 ";
 
-// Whether the numbers 0 and 1 share this list, and 2, which stands alone, has none.
+// Returns whether the numbers 0 and 1 have this common list, and the list of 2, which is in another component, is
+// empty.
 fn is_reached(alloc: Global, reached: &cedar_components::Reached, want: &str) -> bool {
     reached.component.len() == 3
         && reached.component.first() == reached.component.get(1)

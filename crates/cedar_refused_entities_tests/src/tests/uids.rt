@@ -1,4 +1,4 @@
-// Uids, eids, policy ids and places.
+// Tests of uids, eids, policy ids and locations.
 use super::{eid, place, uid};
 use cedar_ids::entity::EntityUID;
 use cedar_ids::policy_id::PolicyID;
@@ -35,7 +35,7 @@ fn made_of(alloc: Global, number: usize, row: Row<'_>) -> Tried {
     )
 }
 
-// What comes of copying what is in a uid.
+// Runs `clone` on the content of a uid.
 fn inner_copied(alloc: Global, number: usize, row: Row<'_>) -> Tried {
     match uid(alloc, row.given) {
         Some(EntityUID::EntityUID(inner)) => same_copied(alloc, number, Some(inner)),

@@ -1,4 +1,4 @@
-// Values: a number, a text, a set, a record, an extension value.
+// Tests of values: a number, a string, a set, a record, and an extension value.
 use super::named;
 use super::terms::{expr, literal};
 use cedar_refusals::{
@@ -28,7 +28,7 @@ fn lits(alloc: Global, words: &str) -> Option<Vec<Value>> {
     all
 }
 
-// Pairs of a key and a literal, as `k=1`.
+// Returns pairs of a key and a literal, written `k=1`.
 fn pairs(alloc: Global, words: &str) -> Option<Vec<(String, Value)>> {
     let mut all = Some(Vec::new(alloc));
     for word in words.split_whitespace() {
@@ -38,7 +38,7 @@ fn pairs(alloc: Global, words: &str) -> Option<Vec<(String, Value)>> {
     all
 }
 
-// A function called on a text.
+// Returns a call of `ip` with a text.
 fn extension(alloc: Global, text: &str) -> Option<ExtensionValue> {
     match both(named(alloc, "ip"), owned(alloc, text)) {
         Some((func, arg)) => Some(ExtensionValue { func, arg }),
@@ -46,7 +46,7 @@ fn extension(alloc: Global, text: &str) -> Option<ExtensionValue> {
     }
 }
 
-// A value: `set 1 2`, `record k=1`, `ip text`, `deep 8` of so many levels, or a literal.
+// Returns a value: `set 1 2`, `record k=1`, `ip text`, `deep 8` with this many levels, or a literal.
 pub(super) fn value(alloc: Global, text: &str) -> Option<Value> {
     let (word, rest) = text.split_once(' ').unwrap_or((text, ""));
     match word {
@@ -67,7 +67,7 @@ pub(super) fn value(alloc: Global, text: &str) -> Option<Value> {
     }
 }
 
-// The set, or the record under one key, of a value and of the number 1.
+// Returns a set of a value and the number 1, or a record with one key of both.
 fn around(alloc: Global, inner: Value, is_set: bool) -> Option<Value> {
     if is_set {
         let both = with_last(with_last(Some(Vec::new(alloc)), Some(inner)), Some(long(1)));
@@ -83,7 +83,7 @@ fn around(alloc: Global, inner: Value, is_set: bool) -> Option<Value> {
     }
 }
 
-// A value of so many levels, sets and records in turn.
+// Returns a value with this many levels, which are sets and records alternately.
 fn deep(alloc: Global, levels: usize) -> Option<Value> {
     let mut all = Some(long(0));
     for level in 0..levels {

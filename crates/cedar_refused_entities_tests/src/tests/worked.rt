@@ -1,4 +1,4 @@
-// What calls on entities, on graphs and on stores answer: rows as those that are refused memory, each made once, with ample memory.
+// Worked examples of calls on entities, graphs and stores. They run once, with enough memory.
 use super::closing::OnGraphs;
 use super::entities::{OnChecking, OnMaking};
 use super::stores::{OnReading, OnStores};

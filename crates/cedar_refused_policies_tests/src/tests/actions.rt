@@ -1,4 +1,4 @@
-// Constraints of actions, by their forms: `any`, `in a b`, `== a`, `in ?`, `== ?` with the slot.
+// Tests of action constraints. They are written `any`, `in a b`, `== a`, and `in ?` or `== ?` with the slot.
 use super::{shared, uid};
 use cedar_action::iters::ActionTypeNames;
 use cedar_action::{ActionConstraint, EntityIterator};
@@ -34,7 +34,8 @@ pub(super) fn action(alloc: Global, text: &str) -> Option<ActionConstraint> {
     }
 }
 
-// Whether uids are these; of several the list is looked at, which is given from its back.
+// Returns whether the remaining uids of an iterator are these. The list of several uids is compared in its order, not
+// from the back.
 fn are_uids(alloc: Global, uids: &EntityIterator<'_>, want: &str) -> bool {
     match uids {
         EntityIterator::None => want == "none",
@@ -43,7 +44,7 @@ fn are_uids(alloc: Global, uids: &EntityIterator<'_>, want: &str) -> bool {
     }
 }
 
-// Whether names of types come so, one after another.
+// Returns whether an iterator returns these type names, in order.
 fn are_types(alloc: Global, names: ActionTypeNames<'_>, want: &str) -> bool {
     let mut due = want.split_whitespace();
     for name in names {
@@ -55,7 +56,7 @@ fn are_types(alloc: Global, names: ActionTypeNames<'_>, want: &str) -> bool {
     due.next().is_none()
 }
 
-// What comes of listing the names of the types in a constraint.
+// Runs the iterator over the types in a constraint.
 fn types_named(alloc: Global, number: usize, row: Row<'_>) -> Tried {
     on(alloc, number, action(alloc, row.given), |action| {
         let answer = action.iter_entity_type_names(alloc);

@@ -1,4 +1,4 @@
-// Annotations: pairs of a key and a text, as `k=v`.
+// Tests of annotations. They are written as pairs of a key and a text, `k=v`.
 use cedar_annotation::{Annotation, Annotations};
 use cedar_ids::id::AnyId;
 use cedar_refusals::{
@@ -30,7 +30,7 @@ fn pairs(alloc: Global, texts: &str) -> Option<Vec<(AnyId, Annotation)>> {
     all
 }
 
-// The annotations with these pairs.
+// Returns the annotations with these pairs.
 pub(super) fn annotations(alloc: Global, texts: &str) -> Option<Annotations> {
     match pairs(alloc, texts) {
         Some(pairs) => Annotations::try_from_iter(alloc, pairs).ok(),

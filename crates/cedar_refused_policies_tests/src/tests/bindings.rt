@@ -1,4 +1,4 @@
-// Bindings, and why they do not fit.
+// Tests of bindings, and of the errors of linking.
 use super::parts::{slot_of, values};
 use super::{id, uid};
 use cedar_binding::{LinkingError, SlotEnv, check_bindings, copy_of_bindings, same_bindings};
@@ -39,7 +39,7 @@ const BINDINGS: &str = "
     LinkingError::clone | action x | the action slot is bound to `A::\"x\"`, which is not an action
 ";
 
-// A copy of bindings, which are the same.
+// Runs the copy of bindings. The copy must equal the original.
 fn copied_bindings(alloc: Global, number: usize, row: Row<'_>) -> Tried {
     on(alloc, number, values(alloc, row.given), |values| {
         judged(
@@ -76,7 +76,7 @@ fn at_id(alloc: Global, word: &str, name: &str) -> Option<LinkingError> {
     }
 }
 
-// A refusal: `slots`, `action x`, `taken l`, or the id of a template that is not there.
+// Returns an error of linking: `slots`, `action x`, `taken l`, or the id of a missing template.
 fn fault(alloc: Global, text: &str) -> Option<LinkingError> {
     let (word, rest) = text.split_once(' ').unwrap_or(("", text));
     match word {

@@ -1,4 +1,4 @@
-// Bodies.
+// Tests of bodies.
 use super::id;
 use super::parts::{Parts, effect, parts, principal, resource};
 use cedar_body::{TemplateBody, TemplateBodyImpl};
@@ -59,7 +59,7 @@ fn new(alloc: Global, number: usize, row: Row<'_>) -> Tried {
     })
 }
 
-// Whether a thing has an id, and is written so behind it and a colon.
+// Returns whether a value has the id before the colon, and is printed as the text after it.
 pub(super) fn has_id_and_text<T: Display>(
     alloc: Global,
     id: &PolicyID,

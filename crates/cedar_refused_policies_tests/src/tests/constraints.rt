@@ -1,4 +1,4 @@
-// Constraints of principals and resources, by their forms: `any`, `in a`, `== a`, `is T`, `is T in a`, each with `?`
+// Tests of principal and resource constraints. They are written `any`, `in a`, `== a`, `is T` and `is T in a`, with `?`
 // for the slot.
 use super::{shared, shared_type, uid};
 use cedar_refusals::{
@@ -86,7 +86,7 @@ const CONSTRAINTS: &str = "
     - ResourceConstraint::clone | in a
 ";
 
-// Whether it is the uid that is written so.
+// Returns whether a reference is the uid with this text.
 fn is_uid(alloc: Global, reference: &EntityReference, want: &str) -> bool {
     match reference {
         EntityReference::EUID(uid) => is_worded(alloc, &**uid, want),

@@ -1,4 +1,4 @@
-// The calls that take no memory succeed while every request is refused.
+// Functions that do not allocate succeed while every allocation is forced to fail.
 use super::constraints::{of_principal, of_resource};
 use super::policies::link;
 use super::sets::set_of;
@@ -28,7 +28,7 @@ fn has_two_bodies(set: &PolicySet) -> bool {
     all.next().is_some() && all.next().is_some() && all.next().is_none()
 }
 
-// Whether a set with a static policy, a template without slots and a link of it is read.
+// Reads a set with a static policy, a template without slots and a link of it. Returns whether all results are right.
 fn is_read(set: &PolicySet, id: &PolicyID) -> bool {
     let found = set.get(id).is_some() && set.get_template(id).is_some();
     let shared = set.get_template_arc(id).is_some() && !set.is_empty();
@@ -66,7 +66,7 @@ fn to_read_a_set_takes_no_memory(rt: HostRuntime) {
     assert!(rt; reads_a_set(rt.alloc()));
 }
 
-// Whether a link and a static policy are taken out of a set, with the ids on its template read between them.
+// Removes a link and a static policy from a set, and reads the ids of the template's links between the two removals.
 fn is_emptied(
     set: &mut PolicySet,
     link: &PolicyID,
@@ -121,7 +121,7 @@ fn to_compare_sets_takes_no_memory(rt: HostRuntime) {
     assert!(rt; compares_sets(rt.alloc()));
 }
 
-// Whether the template of a link, with an annotation, a slot and a clause, is read.
+// Reads the template of a link, with an annotation, a slot and a clause. Returns whether all results are right.
 fn is_template_read(template: &Template, key: &AnyId) -> bool {
     let noted = template.annotation(key).is_some() && template.annotations().next().is_some();
     let clause = template.non_scope_constraints().is_some();
@@ -139,7 +139,7 @@ fn is_template_read(template: &Template, key: &AnyId) -> bool {
     noted && clause && slots && scope && template.effect() == Effect::Permit
 }
 
-// Whether a link is read.
+// Reads a link, and returns whether all results are right.
 fn is_link_read(link: &Policy, key: &AnyId) -> bool {
     let named = link.id().as_ref() == "l" && link.template().id().as_ref() == "t";
     let noted = link.annotation(key).is_some() && link.non_scope_constraints().is_some();
@@ -147,7 +147,7 @@ fn is_link_read(link: &Policy, key: &AnyId) -> bool {
     named && noted && bound && link == link && is_template_read(link.template(), key)
 }
 
-// Whether a link falls apart into its id and other parts.
+// Returns whether a link can be split into its id and its other parts.
 fn falls_apart(link: Policy) -> bool {
     let (template, id, values) = link.into_components();
     let told = id.is_some();

@@ -1,6 +1,7 @@
-// The maps that a set is kept in: what goes last in them, alone and with others, merging, and copies. A policy is
-// written as in `sets`; to merge, one for each of the maps and `keep` or `rename`, parted by `//`. What stands then is
-// the ids of bodies and of policies, in their orders.
+// Tests of the maps of a policy set: insertion, bulk insertion, merging and copying.
+//
+// A policy is written as in `sets`. A merge is written as a policy for each of the maps and `keep` or `rename`,
+// separated by `//`. The expected result is the list of the ids of bodies and policies, in order.
 ghost use Rattle.std.specs.Prelude.{◌≡◌, ◌∷◌, [], IfOk, IsTrue};
 ghost use Rattle.cedar_body.specs.BodyEquality.{same_body};
 ghost use Rattle.cedar_policy_maps.specs.PolicySets.{empty_set};
@@ -31,7 +32,8 @@ fn empty(alloc: Global) -> Maps
     PolicyMaps::with_hasher(alloc, BuildHasherDefault::new())
 }
 
-// Whether a policy may go into empty maps together with its template: it has another id, if it is a link.
+// Returns whether a policy can be inserted into empty maps together with its template. A link must have another id than
+// its template.
 #[tactic(auto, using(cedar_policy_maps::specs::laws::SetLaws::alone))]
 fn may_go_first(policy: &Policy) -> bool
     ensures { IsTrue result → CanJoinBoth empty_set policy.now }
@@ -43,7 +45,7 @@ fn may_go_first(policy: &Policy) -> bool
     true
 }
 
-// Whether a policy is a link with a free id, of a template that stands there.
+// Returns whether a policy is a link with an unused id, and its template is in the maps.
 fn may_join(maps: &Maps, policy: &Policy) -> bool
     ensures { IsTrue result → CanJoin maps.now policy.now }
 {
@@ -63,7 +65,7 @@ fn is_same(template: &Template, other: &Template) -> bool
     template == other
 }
 
-// The maps, unless memory was refused.
+// Returns the maps, or the allocation error.
 fn left(maps: Maps, answer: Result<(), AllocError>) -> Result<Maps, AllocError> {
     match answer {
         Ok(()) => Ok(maps),
@@ -74,7 +76,8 @@ fn left(maps: Maps, answer: Result<(), AllocError>) -> Result<Maps, AllocError> 
     }
 }
 
-// What came of a call by which the maps have these ids, and have to have those from before where memory was refused.
+// Returns the outcome of a call after which the maps must have these ids, or after an allocation error the ids from
+// before.
 fn judged_left<E: Display + Drop>(
     alloc: Global,
     maps: Maps,
@@ -132,14 +135,14 @@ fn put_both(alloc: Global, number: usize, policy: Policy, want: &str) -> Tried {
     judged_left(alloc, maps, answer, ("/", want))
 }
 
-// A further share of a policy's template.
+// Shares the template of a policy once more.
 fn template_of(policy: &Policy) -> Result<Rc<Template>, AllocError>
     ensures { IfOk result (λ t. t.value ≡ policy.now.template) }
 {
     policy.template_arc().clone()
 }
 
-// The maps of a policy's template alone.
+// Returns maps that contain only the template of a policy.
 fn of_template(alloc: Global, policy: &Policy) -> Option<Maps> {
     match template_of(policy) {
         Ok(template) => {
@@ -171,7 +174,7 @@ fn put_policy(alloc: Global, number: usize, policy: Policy, want: &str) -> Tried
     }
 }
 
-// A thing that joins, and none that stands there.
+// Returns two groups of entries for a bulk insertion: one new value, and no existing ones.
 fn joining<T: Drop>(alloc: Global, thing: T) -> Result<Parted<T>, AllocError>
     ensures stand { IfOk result (λ p. p.stand.items ≡ []) }
     ensures join { IfOk result (λ p. p.join.items ≡ thing ∷ []) }
@@ -187,7 +190,7 @@ fn joining<T: Drop>(alloc: Global, thing: T) -> Result<Parted<T>, AllocError>
     }
 }
 
-// A policy and its template, which join empty maps.
+// Returns the entries for inserting a policy and its template into empty maps.
 fn both_joining(
     alloc: Global,
     policy: Policy,
@@ -218,7 +221,7 @@ fn take_in(alloc: Global, number: usize, policy: Policy, want: &str) -> Tried {
     }
 }
 
-// The maps of a policy and its template.
+// Returns maps that contain a policy and its template.
 fn of_both(alloc: Global, policy: Policy) -> Option<Maps> {
     if !may_go_first(&policy) {
         drop(policy);
@@ -243,7 +246,7 @@ fn maps_of(alloc: Global, text: &str) -> Option<Maps> {
     }
 }
 
-// Merging other maps in, of which the renaming is let go.
+// Merges other maps into some maps, and drops the renamed ids.
 fn merge_in(
     alloc: Global,
     maps: &mut Maps,
@@ -259,7 +262,7 @@ fn merge_in(
     }
 }
 
-// The ids of the maps of a policy, as `has_ids` has them.
+// Returns the expected ids of the maps of a policy, in the form of `has_ids`.
 fn ids_before(text: &str) -> &str {
     if text.starts_with("l =") {
         "t / l"

@@ -1,10 +1,13 @@
-// What policies are made of, by short texts: an id and words behind it. `principal` says that the principal's slot is
-// in the scope, `resource` that the resource's is, `acting` that the action's is, `acts` that it is and is equal to
-// it, `action` that the action is
-// `Action::"x"` and `user` that it is `User::"x"`, `forbid` that it forbids, `noted` that it has the annotation
-// `@k("v")`. Of the words for the clause one may stand there: `clause` for `true`, `slot` for `?principal`,
-// `resource_slot` and `action_slot` for the others, `foo` for
-// `foo()`, `unknown` for an unknown named as a uid.
+// Policies as short texts: an id, followed by words.
+//
+// - `principal` and `resource`: the scope has the slot of that variable.
+// - `acting`: the action constraint is `in ?action`; `acts`: it is `== ?action`.
+// - `action` and `user`: the action is `Action::"x"` or `User::"x"`.
+// - `forbid`: the policy forbids.
+// - `noted`: the policy has the annotation `@k("v")`.
+//
+// The clause is one of these words: `clause` for `true`, `slot` for `?principal`, `resource_slot` and `action_slot` for
+// the other slots, `foo` for `foo()`, and `unknown` for an unknown with a uid as its name.
 use super::actions::action;
 use super::annotations::annotations;
 use super::id;
@@ -72,7 +75,7 @@ fn notes(alloc: Global, text: &str) -> Option<Annotations> {
     Some(Annotations::new(alloc))
 }
 
-// The function `foo` called on nothing.
+// Returns a call of the function `foo` without arguments.
 fn call_of_foo(alloc: Global) -> Option<Expr> {
     match Name::from_normalized_str(alloc, "foo") {
         Ok(name) => Expr::call(alloc, name, Vec::new(alloc)).ok(),
@@ -80,7 +83,7 @@ fn call_of_foo(alloc: Global) -> Option<Expr> {
     }
 }
 
-// An unknown of type `A` that is named `A::"u"`.
+// Returns an unknown of type `A` with the name `A::"u"`.
 fn unknown_of_uid(alloc: Global) -> Option<Expr> {
     let ty = EntityType::from_normalized_str(alloc, "A").ok();
     match both(owned(alloc, "A::\"u\""), ty) {
@@ -95,7 +98,7 @@ fn unknown_of_uid(alloc: Global) -> Option<Expr> {
     }
 }
 
-// The clause that a word stands for.
+// Returns the clause for a word.
 pub(super) fn clause_of(alloc: Global, word: &str) -> Option<Expr> {
     match word {
         "clause" => Expr::val(alloc, Literal::Bool(true)).ok(),
@@ -108,7 +111,7 @@ pub(super) fn clause_of(alloc: Global, word: &str) -> Option<Expr> {
     }
 }
 
-// Something, if a thing could be made.
+// Wraps a value in a further `Some`, if it exists.
 fn some<T>(made: Option<T>) -> Option<Option<T>> {
     match made {
         Some(thing) => Some(Some(thing)),
@@ -132,7 +135,7 @@ fn clause(alloc: Global, text: &str) -> Option<Option<Expr>> {
     Some(None)
 }
 
-// The parts that have to be made: the id, the annotations, the action and the clause.
+// The parts of a body that must be created: the id, the annotations, the action constraint and the clause.
 pub(super) type Parts = ((PolicyID, Annotations), (ActionConstraint, Option<Expr>));
 
 pub(super) fn parts(alloc: Global, text: &str) -> Option<Parts> {
@@ -143,7 +146,7 @@ pub(super) fn parts(alloc: Global, text: &str) -> Option<Parts> {
     )
 }
 
-// Binds a slot; whether it could.
+// Binds a slot. Returns whether that succeeded.
 fn bind(alloc: Global, values: &mut SlotEnv, slot: SlotId, name: &str) -> bool {
     match super::uid(alloc, name) {
         Some(uid) => match values.insert(slot, uid) {
@@ -157,7 +160,7 @@ fn bind(alloc: Global, values: &mut SlotEnv, slot: SlotId, name: &str) -> bool {
     }
 }
 
-// The slot that a word is.
+// Returns the slot for a word.
 pub(super) fn slot_of(word: &str) -> SlotId {
     match word {
         "principal" => SlotId::Principal,
@@ -166,7 +169,7 @@ pub(super) fn slot_of(word: &str) -> SlotId {
     }
 }
 
-// Bindings, as `principal=x action=Action.y resource=z`.
+// Returns bindings, written `principal=x action=Action.y resource=z`.
 pub(super) fn values(alloc: Global, text: &str) -> Option<SlotEnv> {
     let mut values = HashMap::new(alloc);
     for pair in text.split_whitespace() {

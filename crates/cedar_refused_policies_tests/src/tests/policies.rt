@@ -1,4 +1,5 @@
-// Policies: static ones by the text of their body, links by the text of the template, a comma, and the bindings.
+// Tests of policies. A static policy is written as its body. A link is written as its template, a comma and the
+// bindings.
 ghost use Rattle.std.specs.Prelude.{◌≡◌, [], IfSome};
 ghost use Rattle.cedar_terms.specs.Walk.{slots_of};
 
@@ -20,7 +21,7 @@ use std::alloc::Global;
 use std::hash::{BuildHasherDefault, FoldHasher};
 use std::rc::Rc;
 
-// The link of this id of a template with these bindings.
+// Returns the link with this id of a template with these bindings.
 pub(super) fn link(alloc: Global, name: &str, text: &str, bound: &str) -> Option<Policy> {
     let given = both(shared(alloc, text), values(alloc, bound));
     match both(id(alloc, name), given) {
@@ -64,14 +65,14 @@ const POLICIES: &str = "
     Policy::clone | a clause
 ";
 
-// The clause `true`, in which no slot stands.
+// Returns the clause `true`, which contains no slot.
 fn truth(alloc: Global) -> Option<Expr>
     ensures { IfSome result (λ e. slots_of e ≡ []) }
 {
     Expr::val(alloc, Literal::Bool(true)).ok()
 }
 
-// That clause behind a count.
+// Returns the same clause in an `Rc`.
 fn counted_truth(alloc: Global) -> Option<Rc<Expr>>
     ensures { IfSome result (λ e. slots_of e.value ≡ []) }
 {
@@ -154,7 +155,7 @@ fn under_another_id(alloc: Global, number: usize, row: Row<'_>) -> Tried {
     }
 }
 
-// Whether the template of a link has this id, or there is no link.
+// Returns whether the template of a link has this id, or there is no link.
 fn has_template(alloc: Global, policy: &Option<Policy>, want: &str) -> bool {
     match policy {
         Some(policy) => is_worded(alloc, policy.template().id(), want),

@@ -1,4 +1,4 @@
-// Sets that are made of their three maps as they stand.
+// Tests of sets that are created from their three maps.
 ghost use Rattle.std.specs.Prelude.{◌≡◌, ◌++◌, ◌∷◌, [], None, IfOk, OnOk};
 ghost use Rattle.indexmap.specs.IndexMap.{get};
 ghost use Rattle.cedar_ids.specs.Texts.{same_text};
@@ -15,7 +15,7 @@ use indexmap::{IndexMap, IndexSet};
 use std::alloc::{AllocError, Global};
 use std::rc::Rc;
 
-// Puts a value under a new key last.
+// Appends a value with a new key.
 fn put<V: Drop>(map: &mut IndexMap<PolicyID, V>, key: PolicyID, value: V) -> Result<(), AllocError>
     requires { get same_text map.old key ≡ None }
     ensures { OnOk result (map.new.entries ≡ map.old.entries ++ (key, value) ∷ []) }
@@ -25,7 +25,7 @@ fn put<V: Drop>(map: &mut IndexMap<PolicyID, V>, key: PolicyID, value: V) -> Res
     Ok(())
 }
 
-// The set of the id of a policy.
+// Returns the set of a policy's id.
 fn just(alloc: Global, policy: &Policy) -> Result<IndexSet<PolicyID>, AllocError>
     ensures { IfOk result (λ s. s.keys ≡ policy_id policy.now ∷ []) }
 {
@@ -34,31 +34,31 @@ fn just(alloc: Global, policy: &Policy) -> Result<IndexSet<PolicyID>, AllocError
     Ok(ids)
 }
 
-// The id of a policy.
+// Returns the id of a policy.
 fn own(policy: &Policy) -> Result<PolicyID, AllocError>
     ensures { IfOk result (λ i. i ≡ policy_id policy.now) }
 {
     Ok(policy.id().clone()?)
 }
 
-// The id of a policy's template.
+// Returns the id of a policy's template.
 fn under(policy: &Policy) -> Result<PolicyID, AllocError>
     ensures { IfOk result (λ i. i ≡ policy.now.template.id) }
 {
     Ok(policy.template().id().clone()?)
 }
 
-// A further share of a policy's template.
+// Shares the template of a policy once more.
 fn shared(policy: &Policy) -> Result<Rc<Template>, AllocError>
     ensures { IfOk result (λ t. t.value ≡ policy.now.template) }
 {
     Ok(policy.template_arc().clone()?)
 }
 
-// Lists of the ids of policies, each under the id of their template.
+// Lists of the ids of policies, by the id of their template.
 type Lists = IndexMap<PolicyID, IndexSet<PolicyID>>;
 
-// The list of the policies on a policy's template, itself alone.
+// Returns the list with only this policy, by the id of its template.
 fn list_of(alloc: Global, policy: &Policy) -> Result<Lists, AllocError>
     ensures { IfOk result (λ m. lists_of m.entries ≡ (policy.now.template.id, policy_id policy.now ∷ []) ∷ []) }
 {
@@ -67,7 +67,7 @@ fn list_of(alloc: Global, policy: &Policy) -> Result<Lists, AllocError>
     Ok(lists)
 }
 
-// The template of a policy under its id.
+// Returns the map with the template of a policy, by its id.
 fn template_of(
     alloc: Global,
     policy: &Policy,
@@ -79,7 +79,7 @@ fn template_of(
     Ok(templates)
 }
 
-// A policy under its id.
+// Returns the map with a policy, by its id.
 fn link_of(alloc: Global, policy: Policy) -> Result<IndexMap<PolicyID, Policy>, AllocError>
     ensures { IfOk result (λ m. m.entries ≡ (policy_id policy, policy) ∷ []) }
 {
@@ -88,7 +88,7 @@ fn link_of(alloc: Global, policy: Policy) -> Result<IndexMap<PolicyID, Policy>, 
     Ok(links)
 }
 
-// The set that is kept in maps of one policy and its template.
+// Returns the set of one policy and its template, from maps.
 fn raw_one(alloc: Global, policy: Policy) -> Result<PolicySet, AllocError>
     requires { HasOwnId policy }
 {
@@ -98,7 +98,8 @@ fn raw_one(alloc: Global, policy: Policy) -> Result<PolicySet, AllocError>
     Ok(PolicySet::from_raw_components(templates, links, lists))
 }
 
-// The set that is kept in maps of the policy of a text and its template; of a link with its template's id none.
+// Returns the set of the policy with this text and its template, from maps. Returns `None` for a link with the id of
+// its template.
 fn raw(alloc: Global, text: &str) -> Option<PolicySet> {
     match policy(alloc, text) {
         Some(policy) => {
@@ -112,7 +113,7 @@ fn raw(alloc: Global, text: &str) -> Option<PolicySet> {
     }
 }
 
-// Whether the set that is kept in maps of a text is the one that the calls of a row make.
+// Returns whether the set from the maps of a text equals the set that the calls of a case create.
 pub(super) fn is_raw(alloc: Global, text: &str, row: Row<'_>) -> Tried {
     match both(raw(alloc, text), set_of(alloc, row.given)) {
         Some((raw, made)) => {

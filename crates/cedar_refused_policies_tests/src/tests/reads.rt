@@ -1,6 +1,8 @@
-// How policy sets stand to each other, what their readers give, and how they are written: rows of what takes no memory, or
-// is no call of the layer's own. A set is given by calls as in `sets`. A body is its id and its slots in the order in
-// which a walk meets them, and says whether it forbids; a link is its id, its template's and its bindings.
+// Tests of comparing, reading and printing policy sets. They do not allocate in the tested layer, or test no function
+// of its own.
+//
+// A set is given by calls as in `sets`. A body is printed as its id, its slots in the order of the template, and
+// `forbid` if it forbids. A link is printed as its id, its template's id and its bindings.
 use super::id;
 use super::raw::is_raw;
 use super::sets::set_of;
@@ -21,7 +23,7 @@ pub(super) fn slot_word(slot: SlotId) -> &'static str {
     }
 }
 
-// A text with a body.
+// Appends a body to a text.
 fn with_body(text: Option<String>, template: &Template) -> Option<String> {
     let mut text = with_word(text, template.id().as_ref());
     for slot in template.slots() {
@@ -33,7 +35,7 @@ fn with_body(text: Option<String>, template: &Template) -> Option<String> {
     }
 }
 
-// A text with a slot and the eid that it is bound to, if it is bound.
+// Appends a slot and its bound eid to a text, if the slot is bound.
 fn with_bound(text: Option<String>, policy: &Policy, slot: SlotId) -> Option<String> {
     match policy.env().get(&slot) {
         Some(uid) => with_word(with_word(text, slot_word(slot)), uid.eid().as_ref()),
@@ -41,7 +43,7 @@ fn with_bound(text: Option<String>, policy: &Policy, slot: SlotId) -> Option<Str
     }
 }
 
-// A text with a policy.
+// Appends a policy to a text.
 fn with_policy(text: Option<String>, policy: &Policy) -> Option<String> {
     let text = with_word(text, policy.id().as_ref());
     if policy.is_static() {
@@ -53,7 +55,7 @@ fn with_policy(text: Option<String>, policy: &Policy) -> Option<String> {
     with_bound(text, policy, SlotId::Resource)
 }
 
-// Both orders of a set.
+// Returns the bodies and the policies of a set, in order.
 fn orders_of(alloc: Global, set: &PolicySet) -> Option<String> {
     let mut text = Some(String::new(alloc));
     for template in set.all_templates() {
@@ -66,7 +68,7 @@ fn orders_of(alloc: Global, set: &PolicySet) -> Option<String> {
     text
 }
 
-// Whether these are both orders of a set.
+// Returns whether a set has these bodies and policies, in order.
 pub(super) fn has_orders(alloc: Global, set: &PolicySet, want: &str) -> bool {
     match orders_of(alloc, set) {
         Some(text) => {
@@ -78,7 +80,7 @@ pub(super) fn has_orders(alloc: Global, set: &PolicySet, want: &str) -> bool {
     }
 }
 
-// The bodies that have slots, and the static policies.
+// Returns the bodies that have slots, and the static policies.
 fn filtered(alloc: Global, set: &PolicySet) -> Option<String> {
     let mut text = Some(String::new(alloc));
     for template in set.templates() {
@@ -91,7 +93,7 @@ fn filtered(alloc: Global, set: &PolicySet) -> Option<String> {
     text
 }
 
-// The policies of a set that was taken apart.
+// Returns the policies of a consumed set.
 fn apart(alloc: Global, policies: IntoPolicies) -> Option<String> {
     let mut text = Some(String::new(alloc));
     for policy in policies {
@@ -101,7 +103,7 @@ fn apart(alloc: Global, policies: IntoPolicies) -> Option<String> {
     text
 }
 
-// The body and the policy with an id.
+// Returns the body and the policy with an id.
 fn found(alloc: Global, set: &PolicySet, id: &PolicyID) -> Option<String> {
     let mut text = Some(String::new(alloc));
     if let Some(template) = set.get_template(id) {
@@ -114,7 +116,7 @@ fn found(alloc: Global, set: &PolicySet, id: &PolicyID) -> Option<String> {
     }
 }
 
-// What a text says, where there was memory for it.
+// Returns the outcome for a text, or for `None` the outcome of an allocation failure.
 fn told(alloc: Global, text: Option<String>, want: &str) -> Tried {
     made(alloc, text.ok_or(AllocError), want)
 }

@@ -1,5 +1,6 @@
-// Lists of calls on a policy set, each by a text as in `sets`; `keep` and `rename` merge a set in that has the static
-// policy `a`, which forbids. Where one call is refused memory, the others are made as if it were not there.
+// Tests of lists of calls on a policy set. Each call is written as in `sets`. `keep` and `rename` merge a set with the
+// static policy `a`, which forbids. If one call fails to allocate, the other calls must behave as if it were not in the
+// list.
 use super::id;
 use super::parts::values;
 use super::sets::{is_same, policy, set_of};
@@ -36,7 +37,7 @@ fn id_call(alloc: Global, word: &str, text: &str) -> Option<PolicyCall> {
     }
 }
 
-// The call with a text.
+// Returns the call with this text.
 fn call_of(alloc: Global, text: &str) -> Option<PolicyCall> {
     let (word, rest) = text.split_once(' ').unwrap_or((text, ""));
     match word {
@@ -61,7 +62,7 @@ fn call_of(alloc: Global, text: &str) -> Option<PolicyCall> {
     }
 }
 
-// The calls with these texts, but for the one at a place.
+// Returns the calls with these texts, without the one at this index.
 fn calls_of(alloc: Global, texts: &str, left_out: usize) -> Option<Vec<PolicyCall>> {
     let mut all = Some(Vec::new(alloc));
     let mut place = 0_usize;
@@ -92,7 +93,7 @@ fn taken<E: Display>(alloc: Global, answer: &Result<Policy, E>) -> Option<String
     }
 }
 
-// What a call answered, as a text.
+// Returns the result of a call as a text.
 fn told_of(alloc: Global, answer: &Told) -> Option<String> {
     match answer {
         Told::AddStatic(answer) => done(alloc, answer),
@@ -108,7 +109,7 @@ fn told_of(alloc: Global, answer: &Told) -> Option<String> {
     }
 }
 
-// What calls answered, but for the one at a place, with a semicolon behind each.
+// Returns the results of calls, without the one at this index, with a semicolon after each.
 fn all_told(alloc: Global, answers: &[Told], left_out: usize) -> Option<String> {
     let mut text = Some(String::new(alloc));
     let mut place = 0_usize;
@@ -132,10 +133,10 @@ fn with_text(text: Option<String>, further: Option<String>) -> Option<String> {
     }
 }
 
-// No place.
+// An index that no call has.
 const NONE: usize = usize::MAX;
 
-// The place of the first answer that is want of memory.
+// Returns the index of the first result that is an allocation error.
 fn wanting(alloc: Global, answers: &[Told]) -> usize {
     let mut place = 0_usize;
     for answer in answers {
@@ -150,14 +151,14 @@ fn wanting(alloc: Global, answers: &[Told]) -> usize {
     NONE
 }
 
-// What a list of calls left: the texts of the answers, and the set.
+// The outcome of a list of calls: the texts of the results, and the set.
 #[derive(Drop)]
 struct Left {
     text: String,
     set: PolicySet,
 }
 
-// What calls answer and leave on a set, with ample memory.
+// Returns the results and the set after calls with enough memory.
 fn replayed(alloc: Global, set: PolicySet, calls: Vec<PolicyCall>) -> Option<Left> {
     let mut set = set;
     match replay_policies(alloc, &mut set, calls) {
@@ -173,7 +174,7 @@ fn replayed(alloc: Global, set: PolicySet, calls: Vec<PolicyCall>) -> Option<Lef
     }
 }
 
-// Whether the answers, but for the one at a place, and the set are what the calls without that one answer and leave.
+// Returns whether the results, without the one at an index, and the set are those of the calls without that one.
 fn is_due(
     alloc: Global,
     before: &PolicySet,
@@ -195,7 +196,7 @@ fn is_due(
     }
 }
 
-// What the answers of a list of calls are.
+// Returns the outcome of a list of calls.
 fn judged(
     alloc: Global,
     answers: &[Told],

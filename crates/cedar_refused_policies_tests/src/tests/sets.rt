@@ -1,8 +1,9 @@
-// Policy sets by short texts. A policy is written as in `parts`; a link is its id, an equality sign, the text of its
-// template, a comma and its bindings: `l = t principal, principal=x`. Calls are parted by semicolons: `static a`,
-// `template t principal`, `add a`, `add l = t principal, principal=x`, `link t l principal=x`, `unlink l`,
-// `remove_static a`, `remove_template t`, `links t`, and `keep` or `rename` to merge the other set in. The first is
-// made on the set without policies.
+// Policy sets as short texts of calls. A policy is written as in `parts`. A link is written as its id, an equals sign,
+// its template, a comma and its bindings: `l = t principal, principal=x`.
+//
+// Calls are separated by semicolons: `static a`, `template t principal`, `add a`, `add l = t principal, principal=x`,
+// `link t l principal=x`, `unlink l`, `remove_static a`, `remove_template t`, `links t`, and `keep` or `rename` to
+// merge the other set. The first call starts from an empty set.
 use super::id;
 use super::parts::values;
 use super::policies::link;
@@ -20,7 +21,7 @@ use indexmap::IndexMap;
 use std::alloc::{AllocError, Global};
 use std::fmt::Display;
 
-// What a call answered, as a text, and whether a request was refused meanwhile.
+// The result of a call as a text, and whether an allocation was forced to fail.
 #[derive(Drop)]
 pub(super) struct Said {
     pub(super) text: Option<String>,
@@ -39,7 +40,7 @@ fn refusal_of<E: Display + Drop>(alloc: Global, error: E) -> Option<String> {
     text
 }
 
-// What a call that gives a thing answered.
+// Returns the result of a call that returns a value.
 fn told<T: Display + Drop, E: Display + Drop>(alloc: Global, answer: Result<T, E>) -> Said {
     let refused = relent(alloc);
     let text = match answer {
@@ -49,7 +50,7 @@ fn told<T: Display + Drop, E: Display + Drop>(alloc: Global, answer: Result<T, E
     Said { text, refused }
 }
 
-// What a call that gives nothing answered.
+// Returns the result of a call that returns nothing.
 fn told_done<E: Display + Drop>(alloc: Global, answer: Result<(), E>) -> Said {
     let refused = relent(alloc);
     let text = match answer {
@@ -59,7 +60,7 @@ fn told_done<E: Display + Drop>(alloc: Global, answer: Result<(), E>) -> Said {
     Said { text, refused }
 }
 
-// The policy that a text is.
+// Returns the policy with this text.
 pub(super) fn policy(alloc: Global, text: &str) -> Option<Policy> {
     match text.split_once(" = ") {
         Some((name, rest)) => {
@@ -103,7 +104,7 @@ fn put_policy(alloc: Global, number: usize, set: &mut PolicySet, text: &str) -> 
     }
 }
 
-// What linking answered: the link, which it lends.
+// Returns the result of linking: a reference to the link.
 fn told_by_linking(
     alloc: Global,
     set: &mut PolicySet,
@@ -150,7 +151,7 @@ fn put_copy(alloc: Global, number: usize, set: &mut PolicySet, text: &str) -> Op
     }
 }
 
-// The ids of policies in their order.
+// Returns the ids of policies, in order.
 fn told_ids(alloc: Global, ids: LinkedIds<'_>) -> Option<String> {
     let mut text = Some(String::new(alloc));
     for id in ids {
@@ -170,7 +171,7 @@ fn told_links(alloc: Global, set: &PolicySet, id: &PolicyID) -> Said {
     }
 }
 
-// What a call that takes an id answers.
+// Runs a call that takes an id.
 fn at_id(alloc: Global, set: &mut PolicySet, word: &str, id: &PolicyID) -> Said {
     match word {
         "unlink" => told(alloc, set.unlink(id)),
@@ -198,7 +199,7 @@ fn named(
     }
 }
 
-// The ids that were renamed, each with its new one.
+// Returns the renamed ids, each with its new id.
 fn told_renaming(alloc: Global, renaming: &IndexMap<PolicyID, PolicyID>) -> Option<String> {
     let mut text = owned(alloc, "merged ");
     for (old, new) in renaming {
@@ -226,7 +227,7 @@ fn merged(
     }
 }
 
-// One call on a set, made while the request of this number is refused.
+// Runs one call on a set, while the allocation with this number is forced to fail.
 fn step(
     alloc: Global,
     number: usize,
@@ -246,10 +247,10 @@ fn step(
     }
 }
 
-// The number of a request that no call reaches.
+// The number of an allocation that no call reaches.
 const NEVER: usize = 1 << 32;
 
-// The set that some calls leave.
+// Returns the set after some calls.
 pub(super) fn set_of(alloc: Global, calls: &str) -> Option<PolicySet> {
     let mut set = PolicySet::new(alloc);
     let none = PolicySet::new(alloc);
@@ -262,7 +263,7 @@ pub(super) fn set_of(alloc: Global, calls: &str) -> Option<PolicySet> {
     Some(set)
 }
 
-// The ids of bodies and then of policies, in their orders.
+// Returns the ids of bodies and then of policies, in order.
 pub(super) fn ids_in(
     alloc: Global,
     templates: AllTemplates<'_>,
@@ -279,12 +280,12 @@ pub(super) fn ids_in(
     text
 }
 
-// The same of a set.
+// Returns the ids of a set's bodies and policies.
 pub(super) fn ids_of(alloc: Global, set: &PolicySet) -> Option<String> {
     ids_in(alloc, set.all_templates(), set.policies())
 }
 
-// The ids of bodies and policies in their orders, and of the policies on each body in the order of bodies.
+// Returns the ids of bodies and policies in order, and for each body the ids of the policies that use it.
 fn lists_of(alloc: Global, set: &PolicySet) -> Option<String> {
     let mut text = ids_of(alloc, set);
     for template in set.all_templates() {
@@ -305,7 +306,7 @@ fn lists_of(alloc: Global, set: &PolicySet) -> Option<String> {
     text
 }
 
-// Whether two sets are equal, have the same orders, and list the same policies on each body.
+// Returns whether two sets are equal, have the same orders, and list the same policies for each body.
 pub(super) fn is_same(alloc: Global, one: &PolicySet, other: &PolicySet) -> bool {
     match both(lists_of(alloc, one), lists_of(alloc, other)) {
         Some((lists, others)) => {
@@ -323,7 +324,7 @@ fn copy_of(set: &PolicySet) -> Option<PolicySet> {
     copy.ok()
 }
 
-// A set and two copies of it.
+// Returns a set and two copies of it.
 fn three(alloc: Global, calls: &str) -> Option<(PolicySet, (PolicySet, PolicySet))> {
     match set_of(alloc, calls) {
         Some(set) => {
@@ -334,7 +335,7 @@ fn three(alloc: Global, calls: &str) -> Option<(PolicySet, (PolicySet, PolicySet
     }
 }
 
-// What a text says of a call, of which another text says what it answers with ample memory.
+// Returns the outcome of a call from its text and the text with enough memory.
 fn answer_of(told: &str, ample: &str, want: &str, left: (bool, bool)) -> Answer {
     let (kept, same) = left;
     if told == "! out of memory" {
@@ -343,8 +344,8 @@ fn answer_of(told: &str, ample: &str, want: &str, left: (bool, bool)) -> Answer 
     ample_if(told == ample && has_words(ample, want) && same)
 }
 
-// What came of a call, of which is known what it answers with ample memory, and whether the set equals its copy from
-// before and what the call leaves with ample memory.
+// Returns the outcome of a call. `ample` is its result with enough memory. `left` states whether the set equals its
+// copy from before, and the set after the call with enough memory.
 fn tried(alloc: Global, told: Said, ample: Said, want: &str, left: (bool, bool)) -> Tried {
     let refused = told.refused;
     let text = told.text.unwrap_or(String::new(alloc));
@@ -355,8 +356,8 @@ fn tried(alloc: Global, told: Said, ample: Said, want: &str, left: (bool, bool))
     Tried { answer, refused }
 }
 
-// What comes of a call on the first of three equal sets. The second takes the call with ample memory, the third is
-// kept.
+// Runs a call on the first of three equal sets. The second set runs it with enough memory, and the third does not
+// change.
 fn compared(
     alloc: Global,
     number: usize,
@@ -425,7 +426,7 @@ const SETS: &str = "
     PolicySet::get_linked_policies | template t; links u | ! No template `u`
 ";
 
-// The word that a text has for a call.
+// Returns the word for a function in the texts.
 fn word_of(call: &str) -> &str {
     match call {
         "PolicySet::add_static" => "static",
@@ -477,7 +478,7 @@ const MERGING: &str = "
     PolicySet::merge_policyset | static b; static a // static b; static a forbid // keep | ! duplicate template or policy id `a`
 ";
 
-// What comes of merging one of two equal sets in, which both stay as they were.
+// Runs a merge of one of two equal sets. Both must not change.
 fn beside_other(
     alloc: Global,
     number: usize,

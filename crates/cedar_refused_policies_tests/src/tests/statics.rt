@@ -1,4 +1,4 @@
-// Static policies.
+// Tests of static policies.
 use super::bodies::has_id_and_text;
 use super::id;
 use super::parts::{Parts, effect, parts, principal, resource};
@@ -111,7 +111,7 @@ fn expressions(alloc: Global, number: usize, row: Row<'_>) -> Tried {
     })
 }
 
-// The expression that a call makes of a policy.
+// Returns the expression that a function returns for a policy.
 fn expression(
     alloc: Global,
     policy: &StaticPolicy,

@@ -1,4 +1,4 @@
-// Templates.
+// Tests of templates.
 use super::actions::action;
 use super::bodies::{body, has_id_and_text};
 use super::id;
@@ -44,7 +44,7 @@ pub(super) fn shared(alloc: Global, text: &str) -> Option<Rc<Template>> {
     counted(alloc, template(alloc, text))
 }
 
-// A text of a template and a further one behind a comma.
+// Splits a text at the comma into a template and a further text.
 pub(super) fn two<'a>(given: &'a str) -> (&'a str, &'a str) {
     given.split_once(", ").unwrap_or((given, ""))
 }
@@ -208,7 +208,7 @@ fn linked_copying(alloc: Global, number: usize, row: Row<'_>) -> Tried {
     )
 }
 
-// The slot of the principal.
+// Returns the slot of the principal.
 fn slot() -> Slot {
     Slot {
         id: SlotId::Principal,
@@ -216,7 +216,7 @@ fn slot() -> Slot {
     }
 }
 
-// That two uids are no actions.
+// Returns the error that two uids are not actions.
 fn no_actions(alloc: Global) -> Option<TemplateValidationError> {
     match action(alloc, "in User.x User.y") {
         Some(action) => {
@@ -236,7 +236,7 @@ fn no_actions(alloc: Global) -> Option<TemplateValidationError> {
     }
 }
 
-// That a function is not known.
+// Returns the error that a function is unknown.
 fn no_function(alloc: Global) -> Option<TemplateValidationError> {
     match Name::from_normalized_str(alloc, "foo") {
         Ok(name) => Some(TemplateValidationError::InvalidExpression(
@@ -246,7 +246,7 @@ fn no_function(alloc: Global) -> Option<TemplateValidationError> {
     }
 }
 
-// The fault with a word.
+// Returns the error for a word.
 fn fault(alloc: Global, word: &str) -> Option<TemplateValidationError> {
     match word {
         "slot" => Some(TemplateValidationError::SlotsInConditionClause(slot())),

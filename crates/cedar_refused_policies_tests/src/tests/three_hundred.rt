@@ -1,6 +1,11 @@
-// The three hundred templates: principal and resource each free, equal to or in a uid or a slot; the action free, equal
-// to a uid or the slot, in one or two uids, or in the slot; both effects. Each is linked with each of its slots bound
-// or not, and with an action's slot that is bound to no action.
+// Tests of three hundred templates, in all combinations of their parts.
+//
+// - Principal and resource: any, `==` or `in`, with a uid or a slot.
+// - Action: any, `==` a uid or the slot, `in` one or two uids, or `in` the slot.
+// - Effect: permit or forbid.
+//
+// Each template is linked with each combination of bound slots, and with an action's slot that is bound to an entity
+// that is not an action.
 use super::actions::action;
 use super::constraints::{of_principal, of_resource};
 use super::id;
@@ -13,12 +18,12 @@ use cedar_terms::slot::SlotId;
 use std::alloc::{AllocError, Global};
 use std::fmt::Display;
 
-// How many there are, and how many of them have no slots.
+// The number of templates, and the number of templates without slots.
 const TEMPLATES: usize = 300;
 
 const STATICS: usize = 72;
 
-// The five constraints of a principal or a resource, those with a slot as they stand or filled.
+// Returns one of the five constraints on a principal or resource. A slot is replaced by a uid if `is_filled` is true.
 fn on(n: usize, is_filled: bool) -> &'static str {
     match n % 5 {
         0 => "any",
@@ -31,7 +36,7 @@ fn on(n: usize, is_filled: bool) -> &'static str {
     }
 }
 
-// The six constraints of an action.
+// Returns one of the six constraints on an action.
 fn on_action(n: usize, is_filled: bool) -> &'static str {
     match n % 6 {
         0 => "any",
@@ -45,7 +50,7 @@ fn on_action(n: usize, is_filled: bool) -> &'static str {
     }
 }
 
-// The template at a place, or the one that has its slots filled.
+// Returns the template at an index, with its slots filled if `is_filled` is true.
 fn template_at(alloc: Global, n: usize, is_filled: bool) -> Option<Template> {
     let named = both(id(alloc, "t"), action(alloc, on_action(n / 25, is_filled)));
     let scope = both(
@@ -73,12 +78,12 @@ fn template_at(alloc: Global, n: usize, is_filled: bool) -> Option<Template> {
     }
 }
 
-// Whether the constraint of a principal or a resource has a slot.
+// Returns whether the constraint on a principal or resource has a slot.
 fn has_slot(n: usize) -> bool {
     n % 5 == 2 || n % 5 == 4
 }
 
-// The slots of the template at a place, in the order in which a template has them.
+// Returns the slots of the template at an index, in the order of the template.
 fn slots_at(n: usize) -> &'static str {
     match (has_slot(n / 5), n / 25 % 6 > 3, has_slot(n)) {
         (false, false, false) => "",
@@ -92,7 +97,8 @@ fn slots_at(n: usize) -> &'static str {
     }
 }
 
-// Bindings of all slots and of each fewer, in the order of slots; and those of the action once more, to what is none.
+// All combinations of bound slots, in the order of slots. Those with the action also occur with a uid that is not an
+// action.
 const BINDS: [&str; 12] = [
     "",
     "principal=eid",
@@ -108,17 +114,17 @@ const BINDS: [&str; 12] = [
     "principal=eid action=eid resource=eid",
 ];
 
-// The slot that a word names, before an equality sign if there is one.
+// Returns the name of the slot in a word: the part before an equals sign, if there is one.
 fn name_in(word: &str) -> &str {
     word.split_once('=').unwrap_or((word, "")).0
 }
 
-// Whether slots or bindings have one of that name.
+// Returns whether slots or bindings have this name.
 fn have(those: &str, name: &str) -> bool {
     those.split_whitespace().any(|one| name_in(one) == name)
 }
 
-// A text with the names of those slots or bindings that others have not.
+// Appends the names of slots or bindings that others do not have to a text.
 fn with_others(text: Option<String>, these: &str, those: &str) -> Option<String> {
     let mut text = text;
     for one in these.split_whitespace() {
@@ -130,13 +136,13 @@ fn with_others(text: Option<String>, these: &str, those: &str) -> Option<String>
     text
 }
 
-// What is left over of the slots of the template at a place and of bindings.
+// Returns the slots of the template at an index that bindings do not bind, and the bindings that are not slots.
 fn left_over(alloc: Global, n: usize, binds: &str) -> Option<String> {
     let text = with_others(Some(String::new(alloc)), slots_at(n), binds);
     with_others(with_word(text, "/"), binds, slots_at(n))
 }
 
-// A text with slots, by their names.
+// Appends the names of slots to a text.
 fn with_slots(text: Option<String>, slots: &[SlotId]) -> Option<String> {
     let mut text = text;
     for slot in slots {
@@ -145,7 +151,7 @@ fn with_slots(text: Option<String>, slots: &[SlotId]) -> Option<String> {
     text
 }
 
-// What a refusal of linking tells.
+// Returns the text of an error of linking.
 fn refusal(alloc: Global, error: LinkingError) -> Option<String> {
     match error {
         LinkingError::ArityError {
@@ -166,7 +172,7 @@ fn refusal(alloc: Global, error: LinkingError) -> Option<String> {
     }
 }
 
-// A text with what a thing is written as, which is let go.
+// Appends the printed text of a value to a text, and drops the value.
 fn with_shown<T: Display + Drop>(
     alloc: Global,
     text: Option<String>,
@@ -189,7 +195,7 @@ fn with_shown<T: Display + Drop>(
     }
 }
 
-// The effect and the constraints of a policy.
+// Returns the effect and the constraints of a policy.
 fn scope_of(alloc: Global, policy: &Policy) -> Option<String> {
     let text = with_shown(alloc, Some(String::new(alloc)), Ok(policy.effect()));
     let text = with_shown(alloc, text, policy.principal_constraint(alloc));
@@ -197,7 +203,7 @@ fn scope_of(alloc: Global, policy: &Policy) -> Option<String> {
     with_shown(alloc, text, policy.resource_constraint(alloc))
 }
 
-// What is told of a policy that could be made.
+// Returns the text of a policy, or of the error.
 fn told_of(alloc: Global, answer: Result<Policy, LinkingError>) -> Option<String> {
     match answer {
         Ok(policy) => {
@@ -209,7 +215,7 @@ fn told_of(alloc: Global, answer: Result<Policy, LinkingError>) -> Option<String
     }
 }
 
-// What linking the template at a place with bindings tells.
+// Links the template at an index with bindings, and returns the text of the result.
 fn linked(alloc: Global, n: usize, binds: &str) -> Option<String> {
     let template = counted(alloc, template_at(alloc, n, false));
     match both(both(template, id(alloc, "l")), values(alloc, binds)) {
@@ -221,7 +227,7 @@ fn linked(alloc: Global, n: usize, binds: &str) -> Option<String> {
     }
 }
 
-// What it has to tell: what is left over, that the action is none, or what the filled template has.
+// Returns the expected text: unbound and extra slots, an error for the action, or the scope of the filled template.
 fn due(alloc: Global, n: usize, binds: &str) -> Option<String> {
     let left = left_over(alloc, n, binds)?;
     if left.as_str().trim() != "/" {
@@ -241,7 +247,7 @@ fn due(alloc: Global, n: usize, binds: &str) -> Option<String> {
     }
 }
 
-// Whether linking the template at a place with bindings tells what it has to.
+// Returns whether linking the template at an index with bindings has the expected result.
 fn links(alloc: Global, n: usize, binds: &str) -> bool {
     match both(linked(alloc, n, binds), due(alloc, n, binds)) {
         Some((told, due)) => {
@@ -254,7 +260,7 @@ fn links(alloc: Global, n: usize, binds: &str) -> bool {
     }
 }
 
-// Whether it does so with each of the bindings.
+// Returns whether linking the template at an index has the expected result with all bindings.
 fn links_with_each(alloc: Global, n: usize) -> bool {
     for binds in &BINDS {
         if !links(alloc, n, binds) {
@@ -271,7 +277,8 @@ fn each_template_links_with_its_slots_bound_alone(rt: HostRuntime) {
     }
 }
 
-// Whether the template at a place makes a static policy; that it does exactly where it has no slots is looked at.
+// Returns whether the template at an index can be converted to a static policy. Checks that this is possible only
+// without slots.
 fn is_static(alloc: Global, n: usize) -> Option<bool> {
     let template = template_at(alloc, n, false)?;
     let has_none = template.is_static() && template.slots().next().is_none();

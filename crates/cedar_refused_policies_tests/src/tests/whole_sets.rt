@@ -1,4 +1,4 @@
-// Sets that are made of policies, checked or copied.
+// Tests of sets that are created from policies, validated or copied.
 use super::id;
 use super::reads::has_orders;
 use super::sets::{ids_of, policy, set_of};
@@ -22,7 +22,7 @@ fn policies(alloc: Global, texts: &str) -> Option<Vec<Policy>> {
     all
 }
 
-// Whether a set has these ids, or both orders that `reads` writes.
+// Returns whether a set has these ids, or has these bodies and policies in the form of `reads`.
 fn has_ids(alloc: Global, set: &PolicySet, want: &str) -> bool {
     if want.contains(['?', '=']) {
         return has_orders(alloc, set, want);
@@ -55,7 +55,7 @@ const WHOLE: &str = "
     PolicySetValidationError::clone | l of t | link `l` references template `t` which has no slots
 ";
 
-// The set of one policy; of a link with its template's id nothing.
+// Runs the creation of the set of one policy. Does nothing for a link with its template's id.
 fn alone(alloc: Global, number: usize, policy: Policy, want: &str) -> Tried {
     if !policy.is_static() && policy.id() == policy.template().id() {
         drop(policy);

@@ -1,5 +1,5 @@
-// What calls on policy sets answer and leave: rows as those that are refused memory, each made once, with ample memory.
-// Behind `@` stand both orders of the set that the call leaves, as `reads` writes them.
+// Worked examples of calls on policy sets. They run once, with enough memory. After `@` the case has the bodies and
+// policies of the set after the call, in the form of `reads`.
 use super::sets::{OnMerging, OnSets};
 use super::whole_sets::OnWholeSets;
 use cedar_refusals::worked_rows;

@@ -1,5 +1,5 @@
-// What calls on annotations, constraints, bindings, templates and static policies answer: rows as those that are refused
-// memory, each made once, with ample memory.
+// Worked examples of calls on annotations, constraints, bindings, templates and static policies. They run once, with
+// enough memory.
 use super::actions::OnActions;
 use super::annotations::OnAnnotations;
 use super::bindings::OnBindings;

@@ -1,5 +1,5 @@
-// The calls that lines share, and those by which lines on policy sets are read and answered. Fields stand apart by
-// blanks, but for `read_fields`, by tabs.
+// Tests of the functions that lines share, and of those that read and run lines on policy sets. Fields are separated by
+// spaces, or by tabs for `read_fields`.
 use super::stores::are_written;
 use cedar_lines::field::uid_field;
 use cedar_lines::known_types::{KnownTypes, uid_in, uid_of_text};
@@ -79,7 +79,7 @@ const LINES: &str = "
     - PolicySets::take_fields | frob | none
 ";
 
-// The word for slots of a template.
+// Returns the word for the slots of a template.
 fn word_of(slots: TemplateSlots) -> &'static str {
     match slots {
         TemplateSlots::NoSlots => "none",
@@ -91,7 +91,7 @@ fn word_of(slots: TemplateSlots) -> &'static str {
     }
 }
 
-// Whether a field binds a slot to what it is bound to.
+// Returns whether bindings have the slot and the uid of a field.
 fn binds(alloc: Global, values: &SlotEnv, field: &str) -> bool {
     let (slot, text) = field.split_once('=').unwrap_or((field, ""));
     let slot = match slot {
@@ -105,7 +105,7 @@ fn binds(alloc: Global, values: &SlotEnv, field: &str) -> bool {
     }
 }
 
-// Whether bindings are those of these fields.
+// Returns whether bindings are exactly those in these fields.
 fn are_bound(alloc: Global, values: &SlotEnv, fields: &str) -> bool {
     let mut count = 0_usize;
     for field in fields.split_whitespace() {
@@ -117,7 +117,7 @@ fn are_bound(alloc: Global, values: &SlotEnv, fields: &str) -> bool {
     values.len() == count
 }
 
-// Whether a command is what a line says.
+// Returns whether a command is the one in a line.
 fn is_said(alloc: Global, command: &PolicyCommand, line: &str) -> bool {
     let (word, rest) = line.split_once(' ').unwrap_or((line, ""));
     let (first, others) = rest.split_once(' ').unwrap_or((rest, ""));
@@ -144,7 +144,7 @@ fn is_said(alloc: Global, command: &PolicyCommand, line: &str) -> bool {
     }
 }
 
-// Whether a line was read as the row says.
+// Returns whether a line was read as the case expects.
 fn is_read(alloc: Global, command: &Option<PolicyCommand>, row: Row<'_>) -> bool {
     match command {
         Some(command) => row.want == "some" && is_said(alloc, command, row.given),
@@ -175,7 +175,7 @@ fn read(alloc: Global, number: usize, row: Row<'_>) -> Tried {
     }
 }
 
-// The command with a text.
+// Returns the command with this text.
 fn command(alloc: Global, text: &str) -> Option<PolicyCommand> {
     let fields: Result<Vec<&str>, std::alloc::AllocError> = text.split(' ').collect(alloc);
     match fields {
@@ -193,7 +193,7 @@ fn command(alloc: Global, text: &str) -> Option<PolicyCommand> {
     }
 }
 
-// The sets after commands; whether all could be taken.
+// Runs commands on sets. Returns whether all succeeded.
 fn prepared(alloc: Global, sets: &mut PolicySets, texts: &str) -> bool {
     for text in texts.split(';') {
         if !text.trim().is_empty() {
@@ -213,7 +213,7 @@ fn prepared(alloc: Global, sets: &mut PolicySets, texts: &str) -> bool {
     true
 }
 
-// Whether bytes have these words, with blanks for tabs and ends of lines.
+// Returns whether bytes have these words. Tabs and ends of lines count as spaces.
 fn are_words(bytes: &[u8], want: &str) -> bool {
     match str::from_utf8(bytes) {
         Ok(text) => cedar_refusals::has_words(text, want),
@@ -292,7 +292,7 @@ fn parted(alloc: Global, number: usize, row: Row<'_>) -> Tried {
     Tried { answer, refused }
 }
 
-// Whether the text before, if there is one, could be read, so that its type is known.
+// Returns whether the text before, if there is one, could be parsed, so that its type is cached.
 fn are_known(alloc: Global, known: &mut KnownTypes, before: &str) -> bool {
     match before {
         "" => true,
@@ -325,7 +325,7 @@ fn shared(alloc: Global, number: usize, row: Row<'_>) -> Tried {
     tried
 }
 
-// The last word is read into the room of the first, where the type of the one between is known.
+// Parses the last word into the buffer of the first word, with the type of the word between them cached.
 fn uid_in_room(alloc: Global, number: usize, row: Row<'_>, room: String, words: &str) -> Tried {
     let mut room = room;
     let (before, text) = words.rsplit_once(' ').unwrap_or(("", words));
@@ -349,7 +349,7 @@ fn uid_in_room(alloc: Global, number: usize, row: Row<'_>, room: String, words: 
     tried
 }
 
-// The second word is copied into the room of the first.
+// Copies the second word into the buffer of the first word.
 fn text_in_room(alloc: Global, number: usize, row: Row<'_>, room: String, text: &str) -> Tried {
     let mut room = room;
     refuse(alloc, number);
@@ -358,7 +358,7 @@ fn text_in_room(alloc: Global, number: usize, row: Row<'_>, room: String, text: 
     })
 }
 
-// What is read into the room of the first word.
+// Runs a function that reads into the buffer of the first word.
 fn in_room(alloc: Global, number: usize, row: Row<'_>) -> Tried {
     let (first, rest) = row.given.split_once(' ').unwrap_or((row.given, ""));
     match String::from_str(alloc, first) {

@@ -1,5 +1,5 @@
-// Lists of calls on a store. An entity is its name and its parents, all of type `A`, with commas between entities;
-// calls are parted by semicolons: `from: a b, b c`, `add: c`, `upsert: a d`, `remove: b c`, `partial`.
+// Tests of lists of calls on a store. An entity is written as its name and its parents, all of type `A`. Entities are
+// separated by commas, and calls by semicolons: `from: a b, b c`, `add: c`, `upsert: a d`, `remove: b c`, `partial`.
 ghost use Rattle.std.specs.Prelude.{◌≡◌, ◌++◌, ◌∷◌, [], IfSome};
 ghost use Rattle.std.specs.List.{AllByRecursion};
 ghost use Rattle.cedar_entity_maps.specs.Plain.{AreBare, IsBare, entities_in};
@@ -37,7 +37,7 @@ fn set_of(alloc: Global, names: &str) -> Option<HashSet<EntityUID>> {
     all
 }
 
-// The entity with a name and these parents.
+// Returns the entity with this name and these parents.
 fn made(alloc: Global, name: &str, parents: &str) -> Option<Entity> {
     match both(uid(alloc, name), set_of(alloc, parents)) {
         Some((uid, parents)) => Entity::new_with_attr_partial_value(
@@ -53,7 +53,7 @@ fn made(alloc: Global, name: &str, parents: &str) -> Option<Entity> {
     }
 }
 
-// The entity with a text.
+// Returns the entity with this text.
 fn bare(alloc: Global, text: &str) -> Option<Entity>
     ensures { IfSome result IsBare }
 {
@@ -68,7 +68,7 @@ fn bare(alloc: Global, text: &str) -> Option<Entity>
     }
 }
 
-// The list with one thing more.
+// Returns the list with one more element.
 fn pushed<T: Drop>(list: Vec<T>, one: T) -> Option<Vec<T>>
     ensures { IfSome result (λ v. v.items ≡ list.items ++ one ∷ []) }
 {
@@ -82,7 +82,7 @@ fn pushed<T: Drop>(list: Vec<T>, one: T) -> Option<Vec<T>>
     }
 }
 
-// The entities with these texts.
+// Returns the entities with these texts.
 fn bare_of(alloc: Global, texts: &str) -> Option<Vec<Entity>>
     ensures { IfSome result (λ v. AreBare v.items) }
 {
@@ -99,7 +99,7 @@ fn bare_of(alloc: Global, texts: &str) -> Option<Vec<Entity>>
     Some(list)
 }
 
-// The entities, to be shared.
+// Moves each entity into an `Rc`.
 fn shared_all(alloc: Global, list: Vec<Entity>) -> Option<Vec<Rc<Entity>>>
     ensures { IfSome result (λ v. entities_in v.items ≡ list.items) }
 {
@@ -111,7 +111,7 @@ fn shared_all(alloc: Global, list: Vec<Entity>) -> Option<Vec<Rc<Entity>>>
     Some(all)
 }
 
-// The call with a text.
+// Returns the call with this text.
 fn call_of(alloc: Global, text: &str) -> Option<EntityCall>
     ensures { IfSome result HasBareEntities }
 {
@@ -125,7 +125,7 @@ fn call_of(alloc: Global, text: &str) -> Option<EntityCall>
     }
 }
 
-// The calls with these texts.
+// Returns the calls with these texts.
 fn calls_of(alloc: Global, texts: &str) -> Option<Vec<EntityCall>>
     ensures { IfSome result (λ v. AllByRecursion HasBareEntities v.items) }
 {
@@ -142,7 +142,7 @@ fn calls_of(alloc: Global, texts: &str) -> Option<Vec<EntityCall>>
     Some(list)
 }
 
-// The eids of a store's entities, each with a comma and how many ancestors it has.
+// Returns the eids of a store's entities, each with a comma and the number of its ancestors.
 fn told_of(alloc: Global, store: &Entities) -> Option<String> {
     let mut texts = Some(Vec::new(alloc));
     for entity in store.iter() {
@@ -171,7 +171,7 @@ fn in_order(alloc: Global, texts: Vec<String>) -> Option<String> {
     whole
 }
 
-// Whether a store is told so.
+// Returns whether a store has this text.
 fn is_store(alloc: Global, store: &Entities, want: &str) -> bool {
     match told_of(alloc, store) {
         Some(text) => {
@@ -183,7 +183,7 @@ fn is_store(alloc: Global, store: &Entities, want: &str) -> bool {
     }
 }
 
-// What a refusal is, of which the number of calls before it and the text are wanted, behind a mark.
+// Returns the outcome for an error. The expected number of calls before it and its expected text follow `! `.
 fn refusal(alloc: Global, done: usize, error: EntitiesError, want: &str) -> Answer {
     let is_memory = is_worded(alloc, &error, "out of memory");
     let (number, text) = want

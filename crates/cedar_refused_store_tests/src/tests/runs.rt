@@ -1,5 +1,5 @@
-// Runs of the program. In a row an input and an output are written with `;` for the end of a line and `>` for a tab;
-// before the output stands the status. A run that leaves entities and policies where they are begins with `~`.
+// Tests of runs of the program. In a case, input and output are written with `;` for the end of a line and `>` for a
+// tab. The status comes before the output. A run that does not free its entities and policies begins with `~`.
 use cedar_keyed_hash::KeyedState;
 use cedar_refusals::{
     Answer, Calls, Row, Tried, ample_if, both, memory_if, refuse, relent, tried_rows, unmade,
@@ -9,7 +9,7 @@ use std::alloc::Global;
 use std::io;
 use std::io::{ErrorKind, Read, Write};
 
-// The byte that a byte of a row stands for.
+// Returns the byte that a byte of a case stands for.
 fn byte_of(byte: u8) -> u8 {
     match byte {
         b';' => b'\n',
@@ -18,7 +18,7 @@ fn byte_of(byte: u8) -> u8 {
     }
 }
 
-// The bytes that a text of a row stands for.
+// Returns the bytes that a text of a case stands for.
 pub(super) fn bytes_of(alloc: Global, text: &str) -> Option<Vec<u8>> {
     let mut bytes = Vec::new(alloc);
     for byte in text.as_bytes() {
@@ -33,7 +33,7 @@ pub(super) fn bytes_of(alloc: Global, text: &str) -> Option<Vec<u8>> {
     Some(bytes)
 }
 
-// A reader that gives a few bytes at a time, and where it is to fail does so at its end.
+// A reader that returns a few bytes at a time. If `fails` is true, it returns an error at the end.
 #[derive(Drop)]
 pub(super) struct Parts<'a> {
     pub(super) left: &'a [u8],
@@ -52,7 +52,7 @@ impl Read for Parts<'_> {
     }
 }
 
-// A writer that has room for all, and so asks for no memory, and may fail at the flush.
+// A writer with enough space, so that it does not allocate. If `fails` is true, the flush returns an error.
 #[derive(Drop)]
 pub(super) struct Kept {
     pub(super) bytes: Vec<u8>,
@@ -76,7 +76,7 @@ impl Write for Kept {
     }
 }
 
-// A writer with room.
+// Returns a writer with enough space.
 pub(super) fn writer(alloc: Global, fails: bool) -> Option<Kept> {
     match Vec::with_capacity(alloc, 4096) {
         Ok(bytes) => Some(Kept { bytes, fails }),
@@ -84,7 +84,7 @@ pub(super) fn writer(alloc: Global, fails: bool) -> Option<Kept> {
     }
 }
 
-// What a run answered and wrote, of which the status and the output are known, or which fault it is to have.
+// Returns the outcome of a run, given the expected status and output, or the expected error.
 fn told(answer: Result<u8, RunError>, written: &[u8], due: &[u8], want: &str) -> Answer {
     match answer {
         Err(RunError::Memory) => memory_if(written.is_empty()),
@@ -95,7 +95,7 @@ fn told(answer: Result<u8, RunError>, written: &[u8], due: &[u8], want: &str) ->
     }
 }
 
-// What comes of a run over these bytes.
+// Runs the program on these bytes.
 fn tried(alloc: Global, number: usize, input: &[u8], out: Kept, due: &[u8], row: Row<'_>) -> Tried {
     let mut reader = Parts {
         left: input,
@@ -116,7 +116,7 @@ fn tried(alloc: Global, number: usize, input: &[u8], out: Kept, due: &[u8], row:
     Tried { answer, refused }
 }
 
-// The output that is wanted, behind the status.
+// Returns the expected output, which follows the status.
 pub(super) fn output_of(want: &str) -> &str {
     want.split_once(' ').unwrap_or((want, "")).1
 }

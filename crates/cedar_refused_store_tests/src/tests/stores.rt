@@ -1,4 +1,4 @@
-// The calls by which lines on the store are read and answered. Fields stand apart by blanks.
+// Tests of the functions that read and run lines on the store. Fields are separated by spaces.
 use cedar_entity_lines::{EntityCommand, KnownUids, LineStore, read_entity_command};
 use cedar_refusals::{
     Answer, Calls, Row, Tried, ample_if, is_worded, judged, refuse, relent, tried_rows, unmade,
@@ -37,7 +37,7 @@ const STORES: &str = "
     LineStore::take | anc A::\"a\" | no entity
 ";
 
-// Whether things are written as these words, one after another.
+// Returns whether values are printed as these words, in order.
 pub(super) fn are_written<T: Display>(alloc: Global, things: &[T], words: &str) -> bool {
     let mut due = words.split_whitespace();
     for thing in things {
@@ -49,7 +49,7 @@ pub(super) fn are_written<T: Display>(alloc: Global, things: &[T], words: &str) 
     due.next().is_none()
 }
 
-// Whether a command is what a line says.
+// Returns whether a command is the one in a line.
 fn is_said(alloc: Global, command: &EntityCommand, line: &str) -> bool {
     let (word, rest) = line.split_once(' ').unwrap_or((line, ""));
     match command {
@@ -70,7 +70,7 @@ fn is_said(alloc: Global, command: &EntityCommand, line: &str) -> bool {
     }
 }
 
-// Whether a line was read as the row says.
+// Returns whether a line was read as the case expects.
 fn is_read(alloc: Global, command: &Option<EntityCommand>, row: Row<'_>) -> bool {
     match command {
         Some(command) => row.want == "some" && is_said(alloc, command, row.given),
@@ -120,7 +120,7 @@ fn waits(alloc: Global, number: usize, row: Row<'_>) -> Tried {
     }
 }
 
-// The command with a text.
+// Returns the command with this text.
 fn command(alloc: Global, text: &str) -> Option<EntityCommand> {
     let fields: Result<Vec<&str>, std::alloc::AllocError> = text.split(' ').collect(alloc);
     match fields {
@@ -138,7 +138,7 @@ fn command(alloc: Global, text: &str) -> Option<EntityCommand> {
     }
 }
 
-// The store after commands; whether all could be taken.
+// Runs commands on a store. Returns whether all succeeded.
 fn prepared(alloc: Global, store: &mut LineStore, texts: &str) -> bool {
     for text in texts.split(';') {
         if !text.trim().is_empty() {
@@ -158,7 +158,7 @@ fn prepared(alloc: Global, store: &mut LineStore, texts: &str) -> bool {
     true
 }
 
-// Whether bytes have these words, with blanks for tabs and ends of lines.
+// Returns whether bytes have these words. Tabs and ends of lines count as spaces.
 fn are_words(bytes: &[u8], want: &str) -> bool {
     match str::from_utf8(bytes) {
         Ok(text) => cedar_refusals::has_words(text, want),

@@ -1,7 +1,9 @@
-// Conversations, and sessions that take lines one by one. In a row an input and an output are written with `;` for the
-// end of a line and `>` for a tab; `HELP` is the text of the lines, and `STORE` its first part. What is given to a
-// conversation begins with its manner; before its output stands the status, or which fault ended it. A session takes
-// all lines but the last with ample memory.
+// Tests of interactive runs, and of sessions that run lines one by one.
+//
+// In a case, input and output are written with `;` for the end of a line and `>` for a tab. `HELP` is the help text,
+// and `STORE` its first part. The input of an interactive run begins with the treatment of invalid lines. The status,
+// or the error that ended the run, comes before its output. A session runs all lines except the last one with enough
+// memory.
 use super::runs::{Kept, Parts, bytes_of, output_of, writer};
 use cedar_keyed_hash::KeyedState;
 use cedar_refusals::{
@@ -11,8 +13,8 @@ use cedar_store::{Session, push_not_command};
 use cedar_talk::{Manner, TalkError, help_texts, talk};
 use std::alloc::{AllocError, Global};
 
-// What a conversation answered and wrote, of which is known what is due. Where memory was wanting, a part of that was
-// written.
+// Returns the outcome of an interactive run, given the expected output. After an allocation error, a part of the
+// expected output was written.
 fn told(answer: Result<u8, TalkError>, written: &[u8], due: &[u8], want: &str) -> Answer {
     match answer {
         Err(TalkError::Memory) => memory_if(due.starts_with(written)),
@@ -23,7 +25,7 @@ fn told(answer: Result<u8, TalkError>, written: &[u8], due: &[u8], want: &str) -
     }
 }
 
-// What comes of a conversation over these bytes.
+// Runs an interactive run on these bytes.
 fn held(alloc: Global, number: usize, input: &[u8], out: Kept, due: &[u8], row: Row<'_>) -> Tried {
     let mut reader = Parts {
         left: input,
@@ -44,7 +46,7 @@ fn held(alloc: Global, number: usize, input: &[u8], out: Kept, due: &[u8], row: 
     Tried { answer, refused }
 }
 
-// The bytes of all of the help.
+// Returns the bytes of the whole help text.
 fn whole_help(alloc: Global) -> Option<Vec<u8>> {
     let (store, policies, fields) = help_texts();
     let mut bytes = Vec::new(alloc);
@@ -56,7 +58,7 @@ fn whole_help(alloc: Global) -> Option<Vec<u8>> {
     Some(bytes)
 }
 
-// The bytes that are due.
+// Returns the expected bytes.
 fn due_of(alloc: Global, output: &str) -> Option<Vec<u8>> {
     match output {
         "HELP" => whole_help(alloc),
@@ -82,7 +84,7 @@ fn conversation(alloc: Global, number: usize, row: Row<'_>) -> Tried {
     }
 }
 
-// Whether a session takes the lines of a text, each of which is a command.
+// Returns whether a session runs the lines of a text, each of which must be a command.
 fn prepared(alloc: Global, session: &mut Session, text: &[u8]) -> bool {
     let mut out = Vec::new(alloc);
     let mut well = true;
@@ -93,7 +95,7 @@ fn prepared(alloc: Global, session: &mut Session, text: &[u8]) -> bool {
     well
 }
 
-// Whether a session takes no line any more.
+// Returns whether a session rejects all further lines.
 fn is_lost(alloc: Global, session: &mut Session) -> bool {
     let mut out = Vec::new(alloc);
     let lost = session.take_line(alloc, b"build", &mut out).is_err() && out.is_empty();
@@ -101,7 +103,7 @@ fn is_lost(alloc: Global, session: &mut Session) -> bool {
     lost
 }
 
-// What comes of a line for a session that took those before it.
+// Runs a line in a session, after the lines before it.
 fn taken(
     alloc: Global,
     number: usize,
@@ -147,7 +149,7 @@ fn line(alloc: Global, number: usize, row: Row<'_>) -> Tried {
     }
 }
 
-// What comes of writing that a line is no command.
+// Runs the function that reports an invalid line.
 fn refusal(alloc: Global, number: usize, row: Row<'_>) -> Tried {
     let mut out = Vec::new(alloc);
     refuse(alloc, number);

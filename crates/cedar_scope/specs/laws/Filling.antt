@@ -1,4 +1,4 @@
--- Filling the slot of a constraint.
+-- Laws of filling the slot of a constraint.
 use Rattle.std.specs.Prelude.{◌≡◌, false, refl}
 use Rattle.std.proofs.Common.{ap}
 use Rattle.cedar_ids.specs.Uid.{UidParts}
@@ -14,7 +14,7 @@ filled_reference-no_slot : (u : UidParts) (r : Reference) → is_slot r ≡ fals
 filled_reference-no_slot u (to_uid v) e = refl
 filled_reference-no_slot u to_slot e = absurd (cc)
 
--- a filled constraint holds no slot
+-- A filled constraint has no slot.
 pub has_slot-filled : (u : UidParts) (c : Constraint) → has_slot (filled u c) ≡ false
 has_slot-filled u any = refl
 has_slot-filled u (within r) = is_slot-filled u r
@@ -22,7 +22,7 @@ has_slot-filled u (equals r) = is_slot-filled u r
 has_slot-filled u (of_type t) = refl
 has_slot-filled u (of_type_within t r) = is_slot-filled u r
 
--- a constraint without a slot stays as it is
+-- Filling does not change a constraint without a slot.
 pub filled-no_slot : (u : UidParts) (c : Constraint) → has_slot c ≡ false → filled u c ≡ c
 filled-no_slot u any e = refl
 filled-no_slot u (within r) e = ap within (filled_reference-no_slot u r e)
@@ -30,6 +30,6 @@ filled-no_slot u (equals r) e = ap equals (filled_reference-no_slot u r e)
 filled-no_slot u (of_type t) e = refl
 filled-no_slot u (of_type_within t r) e = ap (of_type_within t) (filled_reference-no_slot u r e)
 
--- so filling it once more changes nothing
+-- Filling a filled constraint again changes nothing.
 pub filled-filled : (u v : UidParts) (c : Constraint) → filled v (filled u c) ≡ filled u c
 filled-filled u v c = filled-no_slot v (filled u c) (has_slot-filled u c)

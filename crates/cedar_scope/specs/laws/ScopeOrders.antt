@@ -1,4 +1,4 @@
--- The laws of the order, the equality and the hash of references and constraints.
+-- Laws of the order, equality and hash of references and constraints.
 use Rattle.std.specs.Prelude.{◌≡◌, true, Option, Some, None, refl}
 use Rattle.std.proofs.Common.{ap, sym, ◌∙◌, subst}
 use Rattle.std.specs.Bool.{Decides}
@@ -21,7 +21,7 @@ use Rattle.cedar_scope.specs.ScopeOrder.{reference_cmp, constraint_cmp, same_ref
 use Rattle.cedar_scope.specs.ScopeOrder.{constraint_hash}
 use Rattle.cedar_scope.specs.Codes.{constraint_with, constraint_with-parts}
 
--- the key of a reference, the slot after all uids
+-- The key of a reference. The key of the slot is greater than those of all uids.
 abbrev pub reference_key : Reference → Key
 reference_key (to_uid u) = fork (nat_key 0) (uid_key u)
 reference_key to_slot = fork (nat_key 1) (nat_key 0)
@@ -38,7 +38,7 @@ reference_key-cmp (to_uid u) to_slot = refl
 reference_key-cmp to_slot (to_uid v) = refl
 reference_key-cmp to_slot to_slot = refl
 
--- each order is total
+-- The order of references is total.
 pub reference_cmp_total : IsTotalOrder reference_cmp
 reference_cmp_total = subst IsTotalOrder (λ i x y. reference_key-cmp x y i) (on_total reference_key key_cmp_total)
 
@@ -48,14 +48,14 @@ constraint_cmp_total =
     (then_total (on_total stated_type (options_total name_cmp_total))
     (on_total reference_in (options_total reference_cmp_total)))
 
--- each equality is an equivalence
+-- The equality of references is an equivalence.
 pub same_reference_equiv : IsEquivalence same_reference
 same_reference_equiv = eq_by_cmp_equiv reference_cmp_total
 
 pub same_constraint_equiv : IsEquivalence same_constraint
 same_constraint_equiv = eq_by_cmp_equiv constraint_cmp_total
 
--- ---- what no order tells apart is the same
+-- ---- Values that compare as `Equal` are identical
 
 names_tied : (m n : NameParts) → name_cmp m n ≡ Equal → m ≡ n
 names_tied m n e = name_key-inj m n (key_cmp-Equal (name_key m) (name_key n) (name_key-cmp m n ∙ e))
@@ -80,7 +80,7 @@ constraints_tied x y e =
     let r : reference_in x ≡ reference_in y = options_tied reference_cmp references_tied _ _ q.1 in
     sym (constraint_with-parts x) ∙ (λ i. constraint_with (k i) (t i) (r i)) ∙ constraint_with-parts y
 
--- two are equal exactly where they are the same
+-- `==` decides whether two references are identical.
 pub same_reference_decides : (x y : Reference) → Decides (same_reference x y) (x ≡ y)
 same_reference_decides x y = (
   λ e. references_tied x y ((Equal-is (reference_cmp x y)).0 e),
@@ -93,7 +93,7 @@ same_constraint_decides x y = (
   λ e. ap (λ z. is_eq (constraint_cmp x z)) (sym e) ∙ ap is_eq (tied_itself constraint_cmp_total x),
 )
 
--- equal ones hash alike
+-- Equal references have equal hashes.
 pub reference_hash_respects : (x y : Reference) → same_reference x y ≡ true → reference_hash x ≡ reference_hash y
 reference_hash_respects x y e = ap reference_hash ((same_reference_decides x y).0 e)
 

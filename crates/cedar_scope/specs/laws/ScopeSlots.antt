@@ -7,11 +7,11 @@ use Rattle.cedar_scope.specs.ScopeReads.{has_slot}
 use Rattle.cedar_scope.specs.ScopeTrees.{slot_id_of, constraint_expr}
 use Rattle.cedar_scope.specs.declared.variable.PrincipalOrResource.{PrincipalOrResource}
 
--- the variable's slot, where the constraint refers to it
+-- The slot of the variable, if the constraint refers to it, else nothing.
 abbrev pub constraint_slots : PrincipalOrResource → Constraint → List SlotId
 constraint_slots v c = if has_slot c then slot_id_of v ∷ [] else []
 
--- these are the slots in a constraint's expression
+-- The slots in the expression of a constraint are `constraint_slots`.
 pub slots_of-constraint_expr : (v : PrincipalOrResource) (c : Constraint)
     → slots_of (constraint_expr v c) ≡ constraint_slots v c
 slots_of-constraint_expr v any = refl

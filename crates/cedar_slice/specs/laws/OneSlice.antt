@@ -1,4 +1,4 @@
--- A world has one slice at a list of uids.
+-- An input store has exactly one slice for a list of uids.
 use Rattle.std.specs.Prelude.{◌≡◌, ◌↔◌, Bool, true, false, cond, ◌||◌, List, [], ◌∷◌, Option, None}
 use Rattle.std.proofs.Common.{ap, sym, refl, subst, ◌∙◌, inl, inr}
 use Rattle.std.proofs.lemmas.Bool.{false≢true, or_cases, or_left, or_right}
@@ -42,13 +42,13 @@ found_in test (x ∷ xs) h = elim (or_cases (test x) (list_any test xs) h) [
       record { at = f.at; member = or_right (same_uid f.at x) (is_member same_uid xs f.at) f.member; passes = f.passes }
 ]
 
--- an asked uid is wanted
+-- A requested uid is selected.
 pub asked_is_wanted : (D : Held) (U : List EntityUID) (q : EntityUID) → is_member same_uid U q ≡ true
     → is_wanted D U q ≡ true
 asked_is_wanted D U q m = any_in (λ u. same_uid u q || ancestry D u q) U q m
     (or_left (same_uid q q) (ancestry D q q) (same_uid_equiv.refl q))
 
--- what is wanted is settled by a test that settles what is reached
+-- A test that decides reachability decides the selection of uids.
 pub wanted_by : (W : World) (G : EntityUID → EntityUID → Bool)
     → ((a b : EntityUID) → (G a b ≡ true) ↔ Reach (graph W) a b)
     → (U : List EntityUID) (q : EntityUID) → (list_any (λ u. same_uid u q || G u q) U ≡ true) ↔ IsWanted W U q
@@ -70,7 +70,7 @@ same_bool true y f g = sym (f refl)
 same_bool false true f g = g refl
 same_bool false false f g = refl
 
--- two slices of a world at one list are the same
+-- Two slices of an input store at the same uids are equal.
 pub one_slice : (W : World) (U : List EntityUID) (V X : World) → IsSliceOf W U V → IsSliceOf W U X → V ≡ X
 one_slice W U V X v x =
     v.entries
@@ -83,7 +83,7 @@ kept_parent : (t : Bool) (o : Option Parts) (b : EntityUID) → is_parent_in (co
 kept_parent true o b h = h
 kept_parent false o b h = absurd (false≢true h)
 
--- a part of a world has edges of the world alone
+-- The edges of a part of an input store are edges of the input store.
 pub part_edges : (W : World) (test : EntityUID → Bool) (a b : EntityUID) → graph (part_of W test) a b ≡ true
     → graph W a b ≡ true
 part_edges W test a b h =
@@ -91,16 +91,16 @@ part_edges W test a b h =
     (sym (ap (λ o. is_parent_in o b) (finmap.get-retain_keys W.entities test a
     (λ x t. ap test (sym (one_equal a x t))))) ∙ h)
 
--- and so has a slice
+-- The edges of a slice are edges of the input store.
 pub slice_edges : (W : World) (U : List EntityUID) (V : World) → IsSliceOf W U V → (a b : EntityUID)
     → graph V a b ≡ true → graph W a b ≡ true
 slice_edges W U V v a b h = part_edges W v.test a b (subst (λ X. graph X a b ≡ true) v.entries h)
 
--- whether q is one of the uids or is reached from one of them
+-- Whether q is one of the uids or is reached from one of them.
 reached_test : World → List EntityUID → EntityUID → Bool
 reached_test W U q = list_any (λ u. same_uid u q || is_member same_uid (reached_list W u) q) U
 
--- and there is one
+-- Every input store has a slice.
 pub slice_there : (W : World) (U : List EntityUID) → (V : World) × IsSliceOf W U V
 unfolding reached_test
 slice_there W U = (

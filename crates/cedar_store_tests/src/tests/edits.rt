@@ -13,13 +13,13 @@ fn an_adding_goes_on_from_the_store(rt: HostRuntime) -> Result<(), Fail> {
                 b"ok 1\nok 2\nanc\tA::\"b\"\tA::\"c\"\n",
                 0,
             ),
-            // One that stands is compared by its ancestors, and stays.
+            // An existing entity is compared by its ancestors, and is kept.
             (
                 b"ent\tA::\"a\"\tA::\"b\"\nent\tA::\"b\"\tA::\"c\"\nbuild\nent\tA::\"a\"\tA::\"b\"\tA::\"c\"\nadd\nremove\tA::\"b\"\nanc\tA::\"a\"\n",
                 b"ok 2\nok 2\nok 1\nanc\n",
                 0,
             ),
-            // Where nothing waits, nothing changes.
+            // If nothing is queued, nothing changes.
             (b"add\nent\tA::\"a\"\nadd\nadd\n", b"ok 0\nok 1\nok 1\n", 0),
         ],
     )
@@ -36,7 +36,7 @@ fn a_refused_adding_empties_the_store(rt: HostRuntime) -> Result<(), Fail> {
                 b"ok 1\nrefused: cycle\nno entity\nline 6: not a command\n",
                 2,
             ),
-            // What waited is gone too.
+            // The queued entities are dropped too.
             (
                 b"ent\tA::\"a\"\tA::\"b\"\nent\tA::\"b\"\tA::\"c\"\nbuild\nent\tA::\"a\"\tA::\"b\"\nadd\nadd\nanc\tA::\"b\"\n",
                 b"ok 2\nrefused: duplicate A::\"a\"\nok 0\nno entity\n",
@@ -57,7 +57,7 @@ fn an_overwriting_takes_the_last_of_a_uid(rt: HostRuntime) -> Result<(), Fail> {
                 b"ok 1\nok 1\nanc\tA::\"d\"\n",
                 0,
             ),
-            // A cycle that is met only in the middle of the list refuses nothing.
+            // A cycle that occurs only in the middle of the list is not an error.
             (
                 b"ent\tA::\"a\"\tA::\"b\"\nent\tA::\"b\"\tA::\"c\"\nent\tA::\"c\"\nbuild\nent\tA::\"c\"\tA::\"b\"\nent\tA::\"b\"\nupsert\nanc\tA::\"a\"\nanc\tA::\"c\"\n",
                 b"ok 3\nok 3\nanc\tA::\"b\"\nanc\tA::\"b\"\n",
@@ -83,7 +83,7 @@ fn a_removal_leaves_what_waits(rt: HostRuntime) -> Result<(), Fail> {
                 b"ok 4\nok 3\nanc\tA::\"c\"\tA::\"d\"\nok 4\nanc\tA::\"a\"\tA::\"c\"\tA::\"d\"\n",
                 0,
             ),
-            // A parent that is not in the store stays.
+            // A parent that is not in the store is kept.
             (
                 b"ent\tA::\"a\"\tA::\"b\"\nbuild\nremove\tA::\"b\"\nanc\tA::\"a\"\nremove\tA::\"a\"\nanc\tA::\"a\"\n",
                 b"ok 1\nok 1\nanc\tA::\"b\"\nok 0\nno entity\n",

@@ -1,5 +1,5 @@
-// Lines of which some tell what others told: types and parents that the program knows from lines before, and fields
-// that stand where those of other lines stood.
+// Lines that repeat earlier lines: types and parents that are known from earlier lines, and fields at the positions of
+// earlier fields.
 use super::{are_answered, is_answered_by, ways};
 use cedar_store::{RunError, run};
 use cedar_test_helpers::tried::{beside, kept};
@@ -7,7 +7,7 @@ use std::alloc::Global;
 use std::fmt::Write;
 use std::test::Fail;
 
-// The status, or 9 where there is none.
+// Returns the status, or 9 for an error.
 pub(super) fn status_of(ran: Result<u8, RunError>) -> u8 {
     match ran {
         Ok(status) => status,
@@ -18,7 +18,7 @@ pub(super) fn status_of(ran: Result<u8, RunError>) -> u8 {
     }
 }
 
-// Whether runs that leave their memory, or that give it back, write this and answer this status.
+// Checks whether runs that leak memory, or that free it, have this output and this status.
 fn is_same(alloc: Global, leaves: bool, input: &[u8], output: &[u8], status: u8) -> bool {
     for way in ways(leaves) {
         if !is_answered_by(alloc, way, input, output, status) {
@@ -28,8 +28,8 @@ fn is_same(alloc: Global, leaves: bool, input: &[u8], output: &[u8], status: u8)
     true
 }
 
-// Whether runs that give their memory back and runs that leave it write the same and answer this status, by the default
-// builder of hashers and under two keys.
+// Checks whether runs that free memory and runs that leak it have the same output and this status, with the default
+// hasher builder and with two keys.
 fn are_same(alloc: Global, input: &str, status: u8) -> bool {
     let mut out = Vec::new(alloc);
     let ended = status_of(run(alloc, &mut input.as_bytes(), &mut out));
@@ -39,7 +39,7 @@ fn are_same(alloc: Global, input: &str, status: u8) -> bool {
     ended == status && same
 }
 
-// Whether a run writes this.
+// Checks whether a run has this output.
 fn writes(alloc: Global, input: &str, want: &str) -> bool {
     let mut out = Vec::new(alloc);
     let status = status_of(run(alloc, &mut input.as_bytes(), &mut out));
@@ -64,7 +64,7 @@ fn what_is_left_was_written_all_the_same(rt: HostRuntime) {
     }
 }
 
-// Adds users with two parents each, of 300 and of seven.
+// Appends users with two parents each, out of 300 and out of seven.
 fn push_users(text: &mut String, n: usize) -> Result<(), Fail> {
     for i in 0..n {
         let one = i % 300;
@@ -77,7 +77,7 @@ fn push_users(text: &mut String, n: usize) -> Result<(), Fail> {
     Ok(())
 }
 
-// Adds these users, built, and the ancestors of each.
+// Appends the users, a build, and a query of the ancestors of each.
 fn push_input(text: &mut String, n: usize) -> Result<(), Fail> {
     push_users(text, n)?;
     text.push_str("build\n")?;
@@ -87,7 +87,7 @@ fn push_input(text: &mut String, n: usize) -> Result<(), Fail> {
     Ok(())
 }
 
-// Adds what is due for them.
+// Appends the expected output.
 fn push_due(text: &mut String, n: usize) -> Result<(), Fail> {
     write!(text, "ok {n}\n")?;
     for i in 0..n {
@@ -98,7 +98,7 @@ fn push_due(text: &mut String, n: usize) -> Result<(), Fail> {
     Ok(())
 }
 
-// Whether a run writes what is due for so many users.
+// Checks whether a run has the expected output for `n` users.
 fn users_are_answered(alloc: Global, n: usize) -> Result<bool, Fail> {
     let mut input = String::new(alloc);
     let added = push_input(&mut input, n);
@@ -112,7 +112,7 @@ fn users_are_answered(alloc: Global, n: usize) -> Result<bool, Fail> {
     Ok(told)
 }
 
-// More parents than are known at once, each of them more than once.
+// More parents than are cached at once, each of them more than once.
 #[test]
 fn parents_are_those_of_the_line(rt: HostRuntime) -> Result<(), Fail> {
     assert!(rt; users_are_answered(rt.alloc(), 700)?);
@@ -129,7 +129,7 @@ fn parents_that_end_alike_are_told_apart(rt: HostRuntime) {
     assert!(rt; writes(alloc, input, want));
 }
 
-// Types that begin alike, and one that begins with the whole of another.
+// Types with a common prefix, and one that begins with another type's whole name.
 #[test]
 fn types_that_begin_alike_are_told_apart(rt: HostRuntime) {
     let alloc = rt.alloc();
@@ -139,7 +139,7 @@ fn types_that_begin_alike_are_told_apart(rt: HostRuntime) {
     assert!(rt; writes(alloc, input, want));
 }
 
-// A line with few fields after one with many.
+// A line with few fields after a line with many.
 #[test]
 fn fields_are_those_of_the_line(rt: HostRuntime) {
     let alloc = rt.alloc();

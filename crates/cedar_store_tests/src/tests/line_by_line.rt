@@ -1,11 +1,10 @@
-// A session that takes lines one by one. A row has a line and, behind an arrow, whether it is a command and what is
-// added for it.
+// A session that runs single lines. A test case has a line and, after an arrow, whether it is a command and its output.
 use super::keys;
 use cedar_store::{Session, push_not_command};
 use std::alloc::{AllocError, Global};
 use std::hash::BuildHasher;
 
-// The word for what a line is.
+// Returns the word for whether a line is a command.
 fn word_of(known: Result<bool, AllocError>) -> &'static str {
     match known {
         Ok(true) => "yes",
@@ -14,7 +13,7 @@ fn word_of(known: Result<bool, AllocError>) -> &'static str {
     }
 }
 
-// Whether bytes are a text, in which `;` stands for the end of a line and `>` for a tab.
+// Checks whether the bytes are a text in which `;` stands for the end of a line and `>` for a tab.
 fn are_spelled(bytes: &[u8], want: &str) -> bool {
     bytes.len() == want.len()
         && bytes.iter().zip(want.as_bytes()).all(|(one, other)| match *other {
@@ -24,7 +23,7 @@ fn are_spelled(bytes: &[u8], want: &str) -> bool {
         })
 }
 
-// Whether a session takes the line of a row so.
+// Checks a session on the line of a test case.
 fn is_taken<S: BuildHasher + Copy>(alloc: Global, session: &mut Session<S>, row: &str) -> bool {
     let (line, told) = row.split_once(" => ").unwrap_or((row, ""));
     let (known, due) = told.split_once(' ').unwrap_or((told, ""));
@@ -35,7 +34,7 @@ fn is_taken<S: BuildHasher + Copy>(alloc: Global, session: &mut Session<S>, row:
     well
 }
 
-// Whether a session takes the lines of all rows so.
+// Checks a session on the lines of all test cases.
 fn are_taken<S: BuildHasher + Copy>(alloc: Global, session: Session<S>, rows: &str) -> bool {
     let mut session = session;
     let mut well = true;
@@ -72,7 +71,7 @@ fn a_session_takes_lines_one_by_one(rt: HostRuntime) {
     );
 }
 
-// Whether a session adds to what stands, and so does a line that is no command.
+// Checks that a session, and the output for an invalid line, append to the existing output.
 fn is_added<S: BuildHasher + Copy>(alloc: Global, session: Session<S>) -> bool {
     let mut session = session;
     let mut out = Vec::new(alloc);

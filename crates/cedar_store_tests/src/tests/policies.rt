@@ -1,4 +1,4 @@
-// The program's lines on policy sets: worked rows, each refusal's words, and lines that are no command.
+// The program's lines on policy sets: worked cases, the text of each error, and lines that are not commands.
 use super::shows;
 use std::test::Fail;
 
@@ -13,13 +13,13 @@ fn sets_are_merged_with_renaming_and_without(rt: HostRuntime) -> Result<(), Fail
                 b"ok\nok\nok\nok\nok\nok\nrefused: occupied policy1\nok\tpolicy1\tpolicy3\nbodies\tpolicy0\tpolicy1\tpolicy3\tpolicy2\npolicies\tpolicy0\tpolicy1\tpolicy3\tpolicy2\n",
                 0,
             ),
-            // The set aside stays, and what is bound alike joins once.
+            // The other set does not change, and equal policies are added once.
             (
                 b"template\tt\tboth\nother\ntemplate\tt\tboth\nlink\tt\tl\tresource=A::\"x\"\tprincipal=A::\"y\"\nother\nmerge\tkeep\nids\nother\nids\n",
                 b"ok\nok\nok\nok\nok\nok\nbodies\tt\npolicies\tl\nok\nbodies\tt\npolicies\tl\n",
                 0,
             ),
-            // Templates of one id on different slots, the other's with a link.
+            // Templates with the same id and different slots. The template of the other set has a link.
             (
                 b"other\ntemplate\tt\tresource\nlink\tt\tl\tresource=A::\"x\"\nother\ntemplate\tt\tprincipal\nmerge\trename\nlink\tpolicy0\tm\tresource=A::\"y\"\nids\n",
                 b"ok\nok\nok\nok\nok\nok\tt\tpolicy0\nok\nbodies\tt\tpolicy0\npolicies\tl\tm\n",
@@ -31,7 +31,7 @@ fn sets_are_merged_with_renaming_and_without(rt: HostRuntime) -> Result<(), Fail
                 b"ok\nok\nok\nok\nok\nok\nok\nok\nok\nok\nok\nrefused: occupied a\nok\ta\tpolicy0\tc\tpolicy1\tb\tpolicy2\tt\tpolicy3\nbodies\ta\tt\tu\tpolicy2\tpolicy1\tpolicy0\npolicies\ta\tb\tc\tpolicy3\tpolicy1\tpolicy0\n",
                 0,
             ),
-            // A static policy against an equal template without slots.
+            // A static policy and an equal template without slots.
             (
                 b"other\ntemplate\tx\tnone\nother\nstatic\tx\tpermit\nmerge\tkeep\nmerge\trename\nids\n",
                 b"ok\nok\nok\nok\nrefused: occupied x\nok\tx\tpolicy0\nbodies\tx\tpolicy0\npolicies\tx\n",

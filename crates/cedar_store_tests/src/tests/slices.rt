@@ -1,9 +1,9 @@
-// Lines that make the store its slice.
+// Lines that replace the store by a slice.
 use super::are_answered;
 use cedar_store::{RunError, run};
 use std::alloc::Global;
 
-// Whether a run answered this status.
+// Checks whether a run has this status.
 fn is_status(ran: Result<u8, RunError>, status: u8) -> bool {
     match ran {
         Ok(found) => found == status,
@@ -14,7 +14,7 @@ fn is_status(ran: Result<u8, RunError>, status: u8) -> bool {
     }
 }
 
-// Whether a run writes this, and answers this status.
+// Checks whether a run has this output and this status.
 fn writes(alloc: Global, input: &str, want: &str, status: u8) -> bool {
     let mut out = Vec::new(alloc);
     let ended = is_status(run(alloc, &mut input.as_bytes(), &mut out), status);
@@ -27,13 +27,13 @@ fn writes(alloc: Global, input: &str, want: &str, status: u8) -> bool {
 fn the_store_becomes_its_slice(rt: HostRuntime) {
     let alloc = rt.alloc();
     for (input, want, status) in &[
-        // A uid that is not there, and one twice; then of the slice nothing.
+        // A uid that is not in the store, and a repeated uid. Then an empty slice.
         (
             "ent\tA::\"a\"\tA::\"b\"\nent\tA::\"b\"\tA::\"c\"\nent\tA::\"d\"\tA::\"b\"\nbuild\nslice\tA::\"a\"\tA::\"z\"\tA::\"a\"\nanc\tA::\"a\"\nanc\tA::\"d\"\nslice\tA::\"z\"\n",
             "ok 3\nok 2\nanc\tA::\"b\"\tA::\"c\"\nno entity\nok 0\n",
             0,
         ),
-        // What waits stays, and so do the policies.
+        // The queued entities and the policies are kept.
         (
             "static\tp\tpermit\nent\tA::\"a\"\tA::\"b\"\nbuild\nent\tA::\"c\"\nslice\tA::\"a\"\nadd\nanc\tA::\"a\"\nids\n",
             "ok\nok 1\nok 1\nok 2\nanc\tA::\"b\"\nbodies\tp\npolicies\tp\n",

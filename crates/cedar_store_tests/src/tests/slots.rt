@@ -1,5 +1,6 @@
-// Lines on templates of three slots and on links that bind them, by rows of a text: in a row a comma stands for a tab,
-// and ` / ` for the end of a line. What a run writes is told in the same way, and its status behind that.
+// Lines on templates with three slots and on links that bind them, in test cases written as text. In a test case a
+// comma stands for a tab, and ` / ` for the end of a line. The output of a run is written in the same way, followed by
+// its status.
 use super::are_answered;
 use super::known_lines::status_of;
 use cedar_store::run;
@@ -9,7 +10,7 @@ use std::alloc::Global;
 use std::fmt::Write;
 use std::test::Fail;
 
-// Adds the lines of a row.
+// Appends the lines of a test case.
 fn push_lines(text: &mut String, row: &str) -> Result<(), Fail> {
     for sign in row.chars() {
         match sign {
@@ -22,14 +23,14 @@ fn push_lines(text: &mut String, row: &str) -> Result<(), Fail> {
     Ok(())
 }
 
-// Those lines.
+// Returns the lines of a test case.
 fn lines(alloc: Global, row: &str) -> Result<String, Fail> {
     let mut text = String::new(alloc);
     let done = push_lines(&mut text, row);
     kept(text, done)
 }
 
-// Adds what was written, as it stands in a row, and a status.
+// Appends the output, in the notation of a test case, and a status.
 fn push_written(text: &mut String, out: &[u8], status: u8) -> Result<(), Fail> {
     for byte in out {
         match *byte {
@@ -42,14 +43,14 @@ fn push_written(text: &mut String, out: &[u8], status: u8) -> Result<(), Fail> {
     Ok(())
 }
 
-// That as a text.
+// Returns the output and a status as a text.
 fn written(alloc: Global, out: &[u8], status: u8) -> Result<String, Fail> {
     let mut text = String::new(alloc);
     let done = push_written(&mut text, out, status);
     kept(text, done)
 }
 
-// What a run over some lines writes, and its status.
+// Returns the output of a run over some lines, and its status.
 fn told_of(alloc: Global, input: &str) -> Result<String, Fail> {
     let mut out = Vec::new(alloc);
     let status = status_of(run(alloc, &mut input.as_bytes(), &mut out));
@@ -63,7 +64,7 @@ fn told_of(alloc: Global, input: &str) -> Result<String, Fail> {
     told
 }
 
-// What a run over the lines of a row writes, and its status.
+// Returns the output of a run over the lines of a test case, and its status.
 fn told(alloc: Global, row: &str) -> Result<String, Fail> {
     let input = lines(alloc, row)?;
     let told = told_of(alloc, input.as_str());

@@ -1,4 +1,4 @@
-// Readers and writers of several buffers, and a writer that sends out at the flush alone.
+// Readers and writers with several buffers, and a writer that sends its bytes only at the flush.
 use super::{Way, ran, ways};
 use cedar_test_helpers::tried::{beside, kept};
 use std::alloc::Global;
@@ -6,7 +6,7 @@ use std::io;
 use std::io::{Read, Write};
 use std::test::Fail;
 
-// Adds the fields of the groups 10 to 69, which stand in their order.
+// Appends the fields of the groups 10 to 69, in order.
 fn push_groups(text: &mut String) -> Result<(), Fail> {
     for i in 10..70 {
         write!(text, "\tGroup::\"g{i}\"")?;
@@ -14,7 +14,7 @@ fn push_groups(text: &mut String) -> Result<(), Fail> {
     Ok(())
 }
 
-// Adds `n` entities without parents.
+// Appends `n` entities without parents.
 fn push_users(text: &mut String, n: usize) -> Result<(), Fail> {
     for i in 0..n {
         write!(text, "\nent\tUser::\"user number {i}\"")?;
@@ -22,7 +22,7 @@ fn push_users(text: &mut String, n: usize) -> Result<(), Fail> {
     Ok(())
 }
 
-// Adds a user with 60 parents and `n` entities without, built, and the ancestors of the user so often.
+// Appends a user with 60 parents, `n` entities without parents, a build, and `often` queries of the user's ancestors.
 fn push_many(text: &mut String, n: usize, often: usize) -> Result<(), Fail> {
     text.push_str("ent\tUser::\"u\"")?;
     push_groups(text)?;
@@ -34,7 +34,7 @@ fn push_many(text: &mut String, n: usize, often: usize) -> Result<(), Fail> {
     Ok(())
 }
 
-// Adds what is due for these.
+// Appends the expected output.
 fn push_due(text: &mut String, n: usize, often: usize) -> Result<(), Fail> {
     let count = n.saturating_add(1);
     write!(text, "ok {count}\n")?;
@@ -46,7 +46,7 @@ fn push_due(text: &mut String, n: usize, often: usize) -> Result<(), Fail> {
     Ok(())
 }
 
-// A user with 60 parents and `n` entities without, whose ancestors are asked so often, and what is due for them.
+// Returns the input with a user with 60 parents and `n` entities without parents, and the expected output.
 fn many(alloc: Global, n: usize, often: usize) -> Result<(String, String), Fail> {
     let mut input = String::new(alloc);
     let added = push_many(&mut input, n, often);
@@ -56,7 +56,7 @@ fn many(alloc: Global, n: usize, often: usize) -> Result<(String, String), Fail>
     beside(input, kept(output, added))
 }
 
-// A reader that gives at most `most` bytes at a read.
+// A reader that returns at most `most` bytes per read.
 #[derive(Drop)]
 struct Slow<'a> {
     left: &'a [u8],
@@ -72,7 +72,7 @@ impl Read for Slow<'_> {
     }
 }
 
-// Whether a run in a way reads more than an input's buffer, and writes all, so many bytes at a read.
+// Checks whether a run over an input larger than its buffer has the whole output, with at most `most` bytes per read.
 fn is_whole(alloc: Global, way: Way, input: &str, want: &str, most: usize) -> bool {
     let mut reader = Slow {
         left: input.as_bytes(),
@@ -85,7 +85,7 @@ fn is_whole(alloc: Global, way: Way, input: &str, want: &str, most: usize) -> bo
     told && input.len() > 32_769
 }
 
-// Whether runs by the default builder of hashers and under two keys do so.
+// Checks this with the default hasher builder and with two keys.
 fn are_whole(alloc: Global, input: &str, want: &str, most: usize) -> bool {
     for way in ways(false) {
         if !is_whole(alloc, way, input, want, most) {
@@ -95,7 +95,7 @@ fn are_whole(alloc: Global, input: &str, want: &str, most: usize) -> bool {
     true
 }
 
-// Whether 1,200 entities are read and written whole, so many bytes at a read, and the ancestors of one so often.
+// Checks this for 1,200 entities and `often` queries of the ancestors of one.
 fn many_are_whole(alloc: Global, most: usize, often: usize) -> Result<bool, Fail> {
     let (input, want) = many(alloc, 1200, often)?;
     let told = are_whole(alloc, &input, &want, most) && want.len() > often.saturating_mul(700);
@@ -106,7 +106,7 @@ fn many_are_whole(alloc: Global, most: usize, often: usize) -> Result<bool, Fail
 
 #[test]
 fn inputs_and_outputs_of_several_buffers_are_whole(rt: HostRuntime) -> Result<(), Fail> {
-    // Three bytes, one byte, and as much as the buffer takes.
+    // Three bytes, one byte, and as many as the buffer can take.
     for most in [3, 1, usize::MAX] {
         assert!(rt;
             many_are_whole(rt.alloc(), most, 100)?,
@@ -118,7 +118,7 @@ fn inputs_and_outputs_of_several_buffers_are_whole(rt: HostRuntime) -> Result<()
 
 #[test]
 fn parts_of_an_input_are_of_any_size(rt: HostRuntime) -> Result<(), Fail> {
-    // A few bytes, about as many as a page has, and as 32 KiB.
+    // A few bytes, about a page, and about 32 KiB.
     for most in [
         2, 4, 5, 6, 7, 8, 9, 4095, 4096, 4097, 32_767, 32_768, 32_769,
     ] {
@@ -130,7 +130,8 @@ fn parts_of_an_input_are_of_any_size(rt: HostRuntime) -> Result<(), Fail> {
     Ok(())
 }
 
-// A reader that gives at most nine bytes at a read, and before each, that at the end too, is interrupted so often.
+// A reader that returns at most nine bytes per read. Before each read, and before the end, it is interrupted `often`
+// times.
 #[derive(Drop)]
 struct Interrupted<'a> {
     left: &'a [u8],
@@ -152,7 +153,7 @@ impl Read for Interrupted<'_> {
     }
 }
 
-// Whether a run in a way over a reader that is interrupted so often writes all.
+// Checks whether a run over an interrupted reader has the whole output.
 fn is_read_on(alloc: Global, way: Way, input: &str, want: &str, often: usize) -> bool {
     let mut reader = Interrupted {
         left: input.as_bytes(),
@@ -166,7 +167,7 @@ fn is_read_on(alloc: Global, way: Way, input: &str, want: &str, often: usize) ->
     told
 }
 
-// Whether runs that leave their memory, or that give it back, do so.
+// Checks this for runs that leak memory, or that free it.
 fn are_read_on(alloc: Global, leaves: bool, input: &str, want: &str, often: usize) -> bool {
     for way in ways(leaves) {
         if !is_read_on(alloc, way, input, want, often) {
@@ -176,7 +177,7 @@ fn are_read_on(alloc: Global, leaves: bool, input: &str, want: &str, often: usiz
     true
 }
 
-// Whether three entities are read whole by a reader that is interrupted so often.
+// Checks this for three entities.
 fn three_are_read_on(alloc: Global, often: usize) -> Result<bool, Fail> {
     let (input, want) = many(alloc, 3, 3)?;
     let told = are_read_on(alloc, false, &input, &want, often)
@@ -197,7 +198,7 @@ fn an_interrupted_read_is_made_again(rt: HostRuntime) -> Result<(), Fail> {
     Ok(())
 }
 
-// A writer that keeps its bytes until the flush.
+// A writer that buffers its bytes until the flush.
 #[derive(Drop)]
 struct Kept {
     kept: Vec<u8>,
@@ -221,7 +222,7 @@ impl Write for Kept {
     }
 }
 
-// Whether a run in a way sends all at the flush, and nothing is kept then.
+// Checks whether a run sends everything at the flush, and nothing remains in the buffer.
 fn is_sent(alloc: Global, way: Way, input: &str, want: &str) -> bool {
     let mut reader = input.as_bytes();
     let mut writer = Kept {
@@ -235,7 +236,7 @@ fn is_sent(alloc: Global, way: Way, input: &str, want: &str) -> bool {
     told && kept
 }
 
-// Whether runs that leave their memory, or that give it back, do so.
+// Checks this for runs that leak memory, or that free it.
 fn are_sent(alloc: Global, leaves: bool, input: &str, want: &str) -> bool {
     for way in ways(leaves) {
         if !is_sent(alloc, way, input, want) {
@@ -245,7 +246,7 @@ fn are_sent(alloc: Global, leaves: bool, input: &str, want: &str) -> bool {
     true
 }
 
-// Whether all of three entities is sent at the flush, and nothing is kept then.
+// Checks this for three entities.
 fn three_are_sent(alloc: Global) -> Result<bool, Fail> {
     let (input, want) = many(alloc, 3, 3)?;
     let told = are_sent(alloc, false, &input, &want) && are_sent(alloc, true, &input, &want);

@@ -1,4 +1,4 @@
--- What a conversation over a reader and a writer comes to.
+-- The result of a conversation over a reader and a writer.
 use Rattle.std.specs.Prelude.{◌≡◌, ◌⊎◌, ℕ, List, Option, Result, Ok, Err, IfSome, true, false}
 use Rattle.std.specs.Io.KnownBytes.{Appends, Consumes, IsAtEnd}
 use Rattle.cedar_store.specs.Output.{IsOutput}
@@ -10,20 +10,20 @@ use Rattle.cedar_talk.specs.declared.manner.Manner.TheVariants.{Strict}
 use Rattle.cedar_talk.specs.declared.talking.TalkError.{TalkError}
 use Rattle.cedar_talk.specs.declared.talking.TalkError.TheVariants.{Read, Write, Memory}
 
--- a fault of a read
+-- Holds for a read error.
 abbrev pub IsReadFault : TalkError → Type 0
 IsReadFault Read = Unit {0}
 IsReadFault Write = ⊥
 IsReadFault Memory = ⊥
 
--- a fault of a write
+-- Holds for a write error.
 abbrev pub IsWriteFault : TalkError → Type 0
 IsWriteFault Read = ⊥
 IsWriteFault Write = Unit {0}
 IsWriteFault Memory = ⊥
 
--- the last line was answered, and the status says whether it ended the conversation. Where memory was refused nothing
--- was written
+-- The effect of the last line: it was processed, and the status states whether it ended the conversation. If an
+-- allocation failed, nothing was written.
 abbrev pub Finishes : {S H : Type 0} → Result ℕ TalkError → Conversation S H → Option (List ℕ) → Option (List ℕ)
     → Type 0
 Finishes (Ok status) k w w' = (after : List ℕ) × Appends w w' after
@@ -32,8 +32,8 @@ Finishes (Err Read) k w w' = ⊥
 Finishes (Err Write) k w w' = Unit {0}
 Finishes (Err Memory) k w w' = w' ≡ w
 
--- the input was read to its end and all of its lines answered; or, strictly, the output of a run over it was written,
--- which ends at a line that is no command, and little was read behind that
+-- The result of a conversation. The input was read to its end, and all of its lines have outputs. Or, in strict mode,
+-- the output is the output of a run, which ends at an invalid line, and at most 4,096 bytes after it were read.
 abbrev pub Converses : Manner → Result ℕ TalkError → Option (List ℕ) → Option (List ℕ) → Option (List ℕ)
     → Option (List ℕ) → Type 0
 Converses m (Ok status) r r' w w' = (bytes : List ℕ) × (out : List ℕ) × Consumes r r' bytes × Appends w w' out

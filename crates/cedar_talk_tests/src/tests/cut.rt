@@ -6,7 +6,7 @@ use std::hash::BuildHasher;
 use std::io;
 use std::io::{ErrorKind, Read, Write};
 
-// A reader that gives at most so many bytes at a time, and fails at one of its reads.
+// A reader that returns at most `most` bytes at a time, and fails after `good` reads.
 #[derive(Drop)]
 struct Failing<'a> {
     left: &'a [u8],
@@ -27,7 +27,7 @@ impl Read for Failing<'_> {
     }
 }
 
-// What came of a conversation: its status, or 8 after a read fault and 9 after any other.
+// Returns the status of a conversation, 8 for a read error, and 9 for any other error.
 fn status_of(answer: Result<u8, TalkError>) -> u8 {
     match answer {
         Ok(status) => status,
@@ -37,9 +37,9 @@ fn status_of(answer: Result<u8, TalkError>) -> u8 {
     }
 }
 
-// Whether a conversation over a reader that fails after so many good reads wrote what is due for all lines that these
-// brought to their line feed; strictly it ends with the last row, which is no command, and else at the end of the
-// input.
+// Checks a conversation over a reader that fails after `good` reads. It must write the expected outputs for all lines
+// that these reads completed. In strict mode it ends with the last line, which is not a command, and otherwise at the
+// end of the input.
 fn is_due<S: BuildHasher + Copy>(
     alloc: Global,
     hasher: S,
@@ -71,7 +71,7 @@ fn is_due<S: BuildHasher + Copy>(
     told
 }
 
-// Whether that is so after any number of good reads.
+// Checks this for any number of good reads.
 fn are_due_by<S: BuildHasher + Copy>(
     alloc: Global,
     hasher: S,
@@ -87,7 +87,7 @@ fn are_due_by<S: BuildHasher + Copy>(
     true
 }
 
-// Whether that is so under the default builder of hashers, and under two keys.
+// Checks this with the default hasher builder and with two keys.
 fn are_due(alloc: Global, manner: Manner, rows: &str, most: usize) -> bool {
     let (one, other) = keys();
     are_due_by(alloc, fixed(), manner, rows, most)
@@ -128,7 +128,7 @@ fn where_a_read_fails_all_lines_before_were_answered(rt: HostRuntime) {
     }
 }
 
-// A writer that takes at most so many bytes at a time, and fails at one of its writes or at the flush.
+// A writer that accepts at most `most` bytes at a time, and fails after `good` writes or at the flush.
 #[derive(Drop)]
 struct Full {
     taken: usize,
@@ -157,8 +157,8 @@ impl Write for Full {
     }
 }
 
-// Whether a conversation of nine written bytes, whose writer takes so many at a time and so many good writes, and
-// flushes or not, is refused for it where it needs more.
+// Checks a conversation with nine bytes of output, over a writer that accepts `most` bytes at a time and `good` writes.
+// It must fail if it needs more writes, or if the flush fails.
 fn is_written_whole<S: BuildHasher + Copy>(
     alloc: Global,
     hasher: S,
@@ -181,7 +181,7 @@ fn is_written_whole<S: BuildHasher + Copy>(
     }
 }
 
-// Whether that is so after any number of good writes.
+// Checks this for any number of good writes.
 fn is_refused_by<S: BuildHasher + Copy>(alloc: Global, hasher: S, most: usize) -> bool {
     for good in 0..11 {
         let flushed = is_written_whole(alloc, hasher, most, good, true);
@@ -192,7 +192,7 @@ fn is_refused_by<S: BuildHasher + Copy>(alloc: Global, hasher: S, most: usize) -
     true
 }
 
-// Whether that is so under the default builder of hashers, and under two keys.
+// Checks this with the default hasher builder and with two keys.
 fn is_refused_for_writes(alloc: Global, most: usize) -> bool {
     let (one, other) = keys();
     is_refused_by(alloc, fixed(), most)

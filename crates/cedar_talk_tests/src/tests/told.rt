@@ -1,4 +1,4 @@
-// What a conversation writes for an input, beside what a run writes.
+// The output of a conversation for an input, compared with the output of a run.
 use super::{due_of, fixed, keys, lines_of, push_bytes};
 use cedar_store::run;
 use cedar_talk::{Manner, TalkError, help_texts, talk};
@@ -6,7 +6,7 @@ use std::alloc::Global;
 use std::hash::BuildHasher;
 use std::test::Fail;
 
-// What a conversation over these bytes answers and writes.
+// Holds a conversation over the bytes. Returns the status.
 fn held<S: BuildHasher + Copy>(
     alloc: Global,
     hasher: S,
@@ -18,7 +18,7 @@ fn held<S: BuildHasher + Copy>(
     talk(alloc, hasher, manner, &mut reader, out).ok()
 }
 
-// Whether a lenient conversation over bytes writes these, with status 0.
+// Checks whether a lenient conversation over the input has the expected output and status 0.
 fn is_answered<S: BuildHasher + Copy>(alloc: Global, hasher: S, input: &[u8], due: &[u8]) -> bool {
     let mut out = Vec::new(alloc);
     let status = held(alloc, hasher, Manner::Lenient, input, &mut out);
@@ -27,7 +27,7 @@ fn is_answered<S: BuildHasher + Copy>(alloc: Global, hasher: S, input: &[u8], du
     told
 }
 
-// Whether a strict conversation over bytes writes what a run does, with the same status.
+// Checks whether a strict conversation over the input has the output and the status of a run.
 fn is_run<S: BuildHasher + Copy>(alloc: Global, hasher: S, input: &[u8]) -> bool {
     let mut out = Vec::new(alloc);
     let status = held(alloc, hasher, Manner::Strict, input, &mut out);
@@ -39,7 +39,7 @@ fn is_run<S: BuildHasher + Copy>(alloc: Global, hasher: S, input: &[u8]) -> bool
     same && status.is_some()
 }
 
-// The bytes that a text stands for; none where there is no memory.
+// Returns the bytes for a text, or nothing if an allocation fails.
 fn bytes_of(alloc: Global, text: &str) -> Vec<u8> {
     let mut bytes = Vec::new(alloc);
     if push_bytes(&mut bytes, text).is_err() {
@@ -48,7 +48,7 @@ fn bytes_of(alloc: Global, text: &str) -> Vec<u8> {
     bytes
 }
 
-// Whether that is so of the bytes that a text stands for, under the default builder of hashers and under two keys.
+// Checks this for the bytes of a text, with the default hasher builder and with two keys.
 fn is_run_of(alloc: Global, text: &str) -> bool {
     let (one, other) = keys();
     let input = bytes_of(alloc, text);
@@ -79,8 +79,8 @@ fn strictly_it_writes_what_a_run_writes(rt: HostRuntime) {
     }
 }
 
-// Whether a lenient conversation over the lines of rows writes what is due for them, and over the same lines of which
-// the last has no line feed.
+// Checks whether a lenient conversation has the expected output for the lines of the test cases. The same lines without
+// the last line feed must have the same output.
 fn are_answered<S: BuildHasher + Copy>(alloc: Global, hasher: S, rows: &str) -> bool {
     let input = lines_of(alloc, rows);
     let due = due_of(alloc, rows, usize::MAX);
@@ -150,7 +150,7 @@ fn help_tells_lines_of_the_program(rt: HostRuntime) {
     assert!(rt; fields.lines().any(|line| line.contains("help store")));
 }
 
-// Whether a fault has this text.
+// Checks whether an error has the expected text.
 fn says(alloc: Global, fault: TalkError, want: &str) -> Result<bool, Fail> {
     let text = fault.to_string(alloc)?;
     let told = text.as_str() == want;

@@ -1,4 +1,4 @@
-// What has come out of a writer with a buffer, looked at from the reader at each of its reads.
+// The flushed bytes of a buffered writer, observed by the reader at each of its reads.
 use super::cut::{LENIENT, STRICT};
 use super::{due_of, fixed, keys, lines_of};
 use cedar_talk::{Manner, talk};
@@ -8,15 +8,15 @@ use std::hash::BuildHasher;
 use std::io;
 use std::io::{ErrorKind, Read, Write};
 
-// How many bytes are out, and how many reads found other than what is due then.
+// The number of flushed bytes, and the number of reads that observed an unexpected number.
 #[derive(Drop)]
 struct Seen {
     out: Cell<usize>,
     amiss: Cell<usize>,
 }
 
-// A reader that gives at most so many bytes at a time, and before that is interrupted so often. At each read it looks
-// whether as many bytes are out as are due for all lines that it has given to their line feed.
+// A reader that returns at most `most` bytes at a time. Before each read it is interrupted `often` times. At each read
+// it checks whether the flushed bytes are the expected outputs for all lines completed so far.
 #[derive(Drop)]
 struct Looking<'a> {
     left: &'a [u8],
@@ -45,7 +45,7 @@ impl Read for Looking<'_> {
     }
 }
 
-// A writer whose bytes are out when it is flushed.
+// A writer whose bytes are visible after a flush.
 #[derive(Drop)]
 struct Buffered<'a> {
     bytes: Vec<u8>,
@@ -66,7 +66,7 @@ impl Write for Buffered<'_> {
     }
 }
 
-// Adds how many bytes are due where none of the input, one byte of it, and so on to all have come.
+// Appends the number of expected bytes after 0 bytes of input, after one byte, and so on up to all bytes.
 fn push_dues(
     alloc: Global,
     dues: &mut Vec<usize>,
@@ -82,7 +82,7 @@ fn push_dues(
     Ok(())
 }
 
-// The numbers of bytes that are due; none where there is no memory.
+// Returns the numbers of expected bytes, or nothing if an allocation fails.
 fn dues_of(alloc: Global, rows: &str, all: usize) -> Vec<usize> {
     let mut dues = Vec::new(alloc);
     if push_dues(alloc, &mut dues, rows, all).is_err() {
@@ -91,7 +91,7 @@ fn dues_of(alloc: Global, rows: &str, all: usize) -> Vec<usize> {
     dues
 }
 
-// Whether at each read of a conversation what is due was out and no more, and at its end all of it.
+// Checks that at each read exactly the expected output was flushed, and at the end all of it.
 fn is_in_turn<S: BuildHasher + Copy>(
     alloc: Global,
     hasher: S,
@@ -133,7 +133,7 @@ fn is_in_turn<S: BuildHasher + Copy>(
     told
 }
 
-// Whether that is so leniently and strictly, under the default builder of hashers and under two keys.
+// Checks this in both modes, with the default hasher builder and with two keys.
 fn are_in_turn(alloc: Global, most: usize, often: usize) -> bool {
     let (one, other) = keys();
     is_in_turn(alloc, fixed(), Manner::Lenient, LENIENT, most, often)

@@ -1,4 +1,4 @@
--- What is read back from the keys of expressions: expressions of one key are the same.
+-- Expressions can be decoded from their keys, so expressions with equal keys are equal.
 use Rattle.std.specs.Prelude.{◌≡◌, ℕ, zero, suc, pos, Option, Some, None, refl}
 use Rattle.std.proofs.Common.{ap}
 use Rattle.cedar_ids.specs.Name.{NameParts}
@@ -14,7 +14,7 @@ use Rattle.cedar_terms.specs.ExprTree.{val_node, var_node, slot_node, unknown_no
 use Rattle.cedar_terms.specs.ExprTree.{binary_node, is_node, ExprTrees, no_exprs, expr_then}
 use Rattle.cedar_terms.specs.laws.SlotIdLaws.{slot_at, slot_at-slot_index}
 
--- the annotation of a key
+-- The annotation with this key.
 abbrev pub annotation_at : Key → Option NameParts
 annotation_at (tip n) = None
 annotation_at (fork k l) = Some (name_at l)
@@ -23,7 +23,7 @@ annotation_at-annotation_key : (x : Option NameParts) → annotation_at (annotat
 annotation_at-annotation_key None = refl
 annotation_at-annotation_key (Some n) = ap Some (name_at-name_key n)
 
--- the unknown of a key
+-- The unknown with this key.
 abbrev pub unknown_at : Key → UnknownParts
 unknown_at k = record { name = text_at (left_at k); annotation = annotation_at (right_at k) }
 
@@ -34,7 +34,7 @@ unknown_at-unknown_key u = λ i. record {
       annotation_at-annotation_key u.annotation i;
 }
 
--- the operator at a place
+-- The operator with this index.
 abbrev pub operator_at : ℕ → Operator
 operator_at zero = and_operator
 operator_at (suc zero) = eq_operator
@@ -45,7 +45,7 @@ operator_at-operator_index and_operator = refl
 operator_at-operator_index eq_operator = refl
 operator_at-operator_index in_operator = refl
 
--- the expression of a key
+-- The expression with this key.
 abbrev mutual
   pub expr_at : Key → ExprTree
   expr_at (fork (tip (pos zero)) k) = val_node (literal_at k)
@@ -65,7 +65,7 @@ abbrev mutual
   exprs_at (fork k l) = expr_then (expr_at k) (exprs_at l)
   exprs_at k = no_exprs
 
--- an expression is read back from its key
+-- Decoding the key of an expression gives the expression.
 mutual
   pub expr_at-expr_key : (x : ExprTree) → expr_at (expr_key x) ≡ x
   expr_at-expr_key (val_node l) = ap val_node (literal_at-literal_key l)
@@ -83,6 +83,6 @@ mutual
   exprs_at-exprs_key no_exprs = refl
   exprs_at-exprs_key (expr_then e es) = λ i. expr_then (expr_at-expr_key e i) (exprs_at-exprs_key es i)
 
--- expressions of one key are the same
+-- Expressions with equal keys are equal.
 pub expr_key-inj : (x y : ExprTree) → expr_key x ≡ expr_key y → x ≡ y
 expr_key-inj x y h = read_back expr_key expr_at expr_at-expr_key x y h

@@ -1,4 +1,4 @@
--- The laws of an expression's equality and hash.
+-- Laws of the equality and hash of expressions.
 use Rattle.std.specs.Prelude.{◌≡◌, true}
 use Rattle.std.proofs.Common.{ap, sym, ◌∙◌}
 use Rattle.std.specs.Bool.{Decides}
@@ -11,17 +11,17 @@ use Rattle.cedar_terms.specs.laws.ExprKeyLaws.{expr_key-inj}
 use Rattle.cedar_terms.specs.ExprKeys.{expr_key}
 use Rattle.cedar_terms.specs.ExprEquality.{expr_hash, same_expr}
 
--- `==` is an equivalence
+-- `==` is an equivalence.
 pub same_expr_equiv : IsEquivalence same_expr
 same_expr_equiv = on_equiv expr_key (eq_by_cmp_equiv key_cmp_total)
 
--- two expressions are equal exactly where they are the same
+-- `==` decides whether two expressions are identical.
 pub same_expr_decides : (x y : ExprTree) → Decides (same_expr x y) (x ≡ y)
 same_expr_decides x y = (
   λ e. expr_key-inj x y (key_cmp-Equal (expr_key x) (expr_key y) ((Equal-is (key_cmp (expr_key x) (expr_key y))).0 e)),
   λ e. sym (ap (same_expr x) e) ∙ ap is_eq (key_cmp-itself (expr_key x)),
 )
 
--- equal expressions hash alike
+-- Equal expressions have equal hashes.
 pub expr_hash_respects : (x y : ExprTree) → same_expr x y ≡ true → expr_hash x ≡ expr_hash y
 expr_hash_respects x y e = ap expr_hash ((same_expr_decides x y).0 e)

@@ -1,4 +1,4 @@
--- Each expression within an expression is smaller.
+-- An expression inside another expression is smaller.
 use Rattle.std.specs.Prelude.{◌≤◌, ◌+◌, max, List, [], ◌∷◌}
 use Rattle.std.proofs.Common.{arith}
 use denote.Param.Weighed.{most}
@@ -12,7 +12,7 @@ most_exprs : (es : List ExprTree) → most (λ e. expr_size e + 1) es ≤ exprs_
 most_exprs [] = omega arith
 most_exprs (e ∷ es) = omega (arith, most_exprs es)
 
--- no part is as large as the whole
+-- The depth of the parts is at most the size of the expression.
 pub deep_le_size : (k : ExprKind) → max (deep-ExprKind k) 0 ≤ expr_size (node_tree k)
 deep_le_size (kinds.Lit l) = omega arith
 deep_le_size (kinds.Var v) = omega arith

@@ -1,4 +1,4 @@
--- The laws of the equality and hash of extension values.
+-- Laws of the equality and hash of extension values.
 use Rattle.std.specs.Prelude.{◌≡◌, true}
 use Rattle.std.proofs.Common.{ap, sym, ◌∙◌}
 use Rattle.std.specs.Bool.{Decides}
@@ -8,11 +8,11 @@ use Rattle.cedar_ids.specs.Name.{name_eq}
 use Rattle.cedar_ids.specs.laws.NameLaws.{name_eq_equiv, name_eq-Decides}
 use Rattle.cedar_terms.specs.ExtensionParts.{ExtensionParts, arg_part, extension_parts_hash, func_part, same_extension}
 
--- `==` is an equivalence
+-- `==` is an equivalence.
 pub same_extension_equiv : IsEquivalence same_extension
 same_extension_equiv = and_equiv (on_equiv func_part name_eq_equiv) (on_texts_equal arg_part)
 
--- two extension values are equal exactly where they are the same
+-- `==` decides whether two extension values are identical.
 pub same_extension_decides : (x y : ExtensionParts) → Decides (same_extension x y) (x ≡ y)
 same_extension_decides x y = (
   λ e.
@@ -22,7 +22,7 @@ same_extension_decides x y = (
   λ e. sym (ap (same_extension x) e) ∙ same_extension_equiv.refl x,
 )
 
--- equal extension values hash alike
+-- Equal extension values have equal hashes.
 pub extension_hash_respects : (x y : ExtensionParts) → same_extension x y ≡ true
     → extension_parts_hash x ≡ extension_parts_hash y
 extension_hash_respects x y e = ap extension_parts_hash ((same_extension_decides x y).0 e)

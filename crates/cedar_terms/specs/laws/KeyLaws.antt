@@ -1,4 +1,4 @@
--- The laws of keys, and what is read back from a key.
+-- Laws of keys, and decoding from keys.
 use Rattle.std.specs.Prelude.{◌≡◌, ℕ, ℤ, pos, List, [], ◌∷◌, refl}
 use Rattle.std.proofs.Common.{ap, sym, ◌∙◌, arith}
 use Rattle.std.specs.declared.cmp.Ordering.{Ordering}
@@ -31,7 +31,7 @@ then_equal Greater b e = absurd (cc)
 int_equal : (a b : ℤ) → int_cmp a b ≡ Equal → a ≡ b
 int_equal a b e = int_ranked a b Equal (sym e)
 
--- keys that are not told apart are the same
+-- Keys that compare as `Equal` are equal.
 pub key_cmp-Equal : (x y : Key) → key_cmp x y ≡ Equal → x ≡ y
 key_cmp-Equal (tip a) (tip b) e = ap tip (int_equal a b e)
 key_cmp-Equal (tip a) (fork c d) e = absurd (cc)
@@ -42,7 +42,7 @@ key_cmp-Equal (fork a b) (fork c d) e =
     let r : b ≡ d = key_cmp-Equal b d p.1 in
     λ i. fork (q i) (r i)
 
--- no key stands before itself
+-- A key compares as `Equal` to itself.
 pub key_cmp-itself : (x : Key) → key_cmp x x ≡ Equal
 key_cmp-itself (tip a) = tied_itself int_cmp_total a
 key_cmp-itself (fork a b) = (λ i. ordering_then (key_cmp-itself a i) (key_cmp-itself b i))
@@ -70,7 +70,7 @@ key_trans (fork a b) (fork c d) (fork e f) p q =
     (key_trans a c e) (λ s. ap (λ k. key_cmp k e) (key_cmp-Equal a c s))
     (λ s. sym (ap (λ k. key_cmp a k) (key_cmp-Equal c e s))) (key_trans b d f)
 
--- the order of keys is total
+-- The order of keys is total.
 pub key_cmp_total : IsTotalOrder key_cmp
 key_cmp_total = record {
   antisymm = key_antisymm;
@@ -79,62 +79,62 @@ key_cmp_total = record {
       λ x y z e. ap (λ k. key_cmp k z) (key_cmp-Equal x y e);
 }
 
--- ---- the parts of a key
+-- ---- The parts of a key
 
--- keys that are the same have the same first part
+-- Equal pairs have equal first parts.
 pub left : (a b c d : Key) → fork a b ≡ fork c d → a ≡ c
 left a b c d e = cc
 
--- and the same second part
+-- Equal pairs have equal second parts.
 pub right : (a b c d : Key) → fork a b ≡ fork c d → b ≡ d
 right a b c d e = cc
 
--- the first part of a pair
+-- The first part of a pair.
 abbrev pub left_at : Key → Key
 left_at (tip n) = tip n
 left_at (fork a b) = a
 
--- the second part of a pair
+-- The second part of a pair.
 abbrev pub right_at : Key → Key
 right_at (tip n) = tip n
 right_at (fork a b) = b
 
--- what is read back from its key is told apart by its key
+-- If values can be decoded from their keys, values with equal keys are equal.
 pub read_back : {A : Type 0} (f : A → Key) (g : Key → A) → ((x : A) → g (f x) ≡ x) → (x y : A) → f x ≡ f y → x ≡ y
 read_back f g h x y e = sym (h x) ∙ ap g e ∙ h y
 
--- ---- keys of numbers and lists
+-- ---- Keys of numbers and lists
 
--- the integer of a key
+-- The integer with this key.
 abbrev pub int_at : Key → ℤ
 int_at (tip n) = n
 int_at (fork a b) = pos 0
 
--- the number of a key
+-- The natural number with this key.
 abbrev pub nat_at : Key → ℕ
 nat_at (tip (pos n)) = n
 nat_at k = 0
 
--- numbers of one key are the same
+-- Numbers with equal keys are equal.
 pub nat_key-inj : (a b : ℕ) → nat_key a ≡ nat_key b → a ≡ b
 nat_key-inj a b e = cc
 
--- numbers are ordered as their keys are
+-- Numbers are ordered as their keys.
 pub nat_key-cmp : (a b : ℕ) → key_cmp (nat_key a) (nat_key b) ≡ nat_cmp a b
 nat_key-cmp a b = grind (arith, nat_tests)
 
--- the list of a key
+-- The list with this key.
 abbrev pub list_at : {A : Type 0} → (Key → A) → Key → List A
 list_at g (tip n) = []
 list_at g (fork k l) = g k ∷ list_at g l
 
--- where elements are read back from their keys, so are lists
+-- If elements can be decoded from their keys, lists can be decoded from theirs.
 pub list_at-list_key : {A : Type 0} (f : A → Key) (g : Key → A) → ((x : A) → g (f x) ≡ x) → (xs : List A)
     → list_at g (list_key f xs) ≡ xs
 list_at-list_key f g h [] = refl
 list_at-list_key f g h (x ∷ xs) = λ i. h x i ∷ list_at-list_key f g h xs i
 
--- where elements of one key are the same, so are lists
+-- If elements with equal keys are equal, lists with equal keys are equal.
 pub list_key-inj : {A : Type 0} (f : A → Key) → ((x y : A) → f x ≡ f y → x ≡ y) → (xs ys : List A)
     → list_key f xs ≡ list_key f ys → xs ≡ ys
 list_key-inj f h [] [] e = refl
@@ -145,7 +145,7 @@ list_key-inj f h (x ∷ xs) (y ∷ ys) e =
     let r : xs ≡ ys = list_key-inj f h xs ys (right _ _ _ _ e) in
     λ i. q i ∷ r i
 
--- where elements are ordered as their keys, so are lists
+-- If elements are ordered as their keys, lists are ordered as theirs.
 pub list_key-cmp : {A : Type 0} (f : A → Key) (R : A → A → Ordering) → ((x y : A) → key_cmp (f x) (f y) ≡ R x y)
     → (xs ys : List A) → key_cmp (list_key f xs) (list_key f ys) ≡ slice_cmp R xs ys
 list_key-cmp f R h [] [] = refl
@@ -153,18 +153,18 @@ list_key-cmp f R h [] (y ∷ ys) = refl
 list_key-cmp f R h (x ∷ xs) [] = refl
 list_key-cmp f R h (x ∷ xs) (y ∷ ys) = λ i. ordering_then (h x y i) (list_key-cmp f R h xs ys i)
 
--- the text of a key
+-- The text with this key.
 abbrev pub text_at : Key → List ℕ
 text_at k = list_at nat_at k
 
--- a text is read back from its key
+-- Decoding the key of a text gives the text.
 pub text_at-text_key : (s : List ℕ) → text_at (text_key s) ≡ s
 text_at-text_key s = list_at-list_key nat_key nat_at (λ n. refl) s
 
--- texts of one key are the same
+-- Texts with equal keys are equal.
 pub text_key-inj : (s t : List ℕ) → text_key s ≡ text_key t → s ≡ t
 text_key-inj s t e = read_back text_key text_at text_at-text_key s t e
 
--- texts are ordered as their keys are
+-- Texts are ordered as their keys.
 pub text_key-cmp : (s t : List ℕ) → key_cmp (text_key s) (text_key t) ≡ slice_cmp nat_cmp s t
 text_key-cmp s t = list_key-cmp nat_key nat_cmp nat_key-cmp s t

@@ -1,4 +1,4 @@
--- The laws of a literal's equality, order and hash.
+-- Laws of the equality, order and hash of literals.
 use Rattle.std.specs.Prelude.{◌≡◌, ℕ, zero, suc, pos, Bool, true, false, refl}
 use Rattle.std.proofs.Common.{ap, sym, ◌∙◌, subst}
 use Rattle.std.specs.Bool.{Decides}
@@ -15,7 +15,7 @@ use Rattle.cedar_terms.specs.ValueHash.{literal_hash}
 use Rattle.cedar_terms.specs.declared.literal.Literal.{Literal}
 use Rattle.cedar_terms.specs.Views.{literal_tree}
 
--- the truth value of a key
+-- The Boolean with this key.
 abbrev pub bool_at : Key → Bool
 bool_at (tip (pos zero)) = false
 bool_at k = true
@@ -30,29 +30,29 @@ bool_key-cmp false true = refl
 bool_key-cmp true false = refl
 bool_key-cmp true true = refl
 
--- the literal of a kind and of the key of its content
+-- The literal with this kind and the key of its content.
 abbrev pub literal_of : ℕ → Key → LiteralTree
 literal_of zero k = bool_literal (bool_at k)
 literal_of (suc zero) k = long_literal (int_at k)
 literal_of (suc (suc zero)) k = string_literal (text_at k)
 literal_of n k = uid_literal (uid_at k)
 
--- the literal of a key
+-- The literal with this key.
 abbrev pub literal_at : Key → LiteralTree
 literal_at k = literal_of (nat_at (left_at k)) (right_at k)
 
--- a literal is read back from its key
+-- Decoding the key of a literal gives the literal.
 pub literal_at-literal_key : (x : LiteralTree) → literal_at (literal_key x) ≡ x
 literal_at-literal_key (bool_literal b) = ap bool_literal (bool_at-bool_key b)
 literal_at-literal_key (long_literal n) = refl
 literal_at-literal_key (string_literal s) = ap string_literal (text_at-text_key s)
 literal_at-literal_key (uid_literal u) = ap uid_literal (uid_at-uid_key u)
 
--- literals of one key are the same
+-- Literals with equal keys are equal.
 pub literal_key-inj : (x y : LiteralTree) → literal_key x ≡ literal_key y → x ≡ y
 literal_key-inj x y e = read_back literal_key literal_at literal_at-literal_key x y e
 
--- literals are ordered as their keys are
+-- Literals are ordered as their keys.
 pub literal_key-cmp : (x y : LiteralTree) → key_cmp (literal_key x) (literal_key y) ≡ literal_cmp x y
 literal_key-cmp (bool_literal a) (bool_literal b) = bool_key-cmp a b
 literal_key-cmp (bool_literal a) (long_literal b) = refl
@@ -71,15 +71,15 @@ literal_key-cmp (uid_literal a) (long_literal b) = refl
 literal_key-cmp (uid_literal a) (string_literal b) = refl
 literal_key-cmp (uid_literal a) (uid_literal b) = uid_key-cmp a b
 
--- the order of literals is total
+-- The order of literals is total.
 pub literal_cmp_total : IsTotalOrder literal_cmp
 literal_cmp_total = subst IsTotalOrder (λ i x y. literal_key-cmp x y i) (on_total literal_key key_cmp_total)
 
--- `==` is an equivalence
+-- `==` is an equivalence.
 pub same_literal_equiv : IsEquivalence same_literal
 same_literal_equiv = eq_by_cmp_equiv literal_cmp_total
 
--- two literals are equal exactly where they are the same value
+-- `==` decides whether two literals are identical.
 pub same_literal_decides : (x y : LiteralTree) → Decides (same_literal x y) (x ≡ y)
 same_literal_decides x y = (
   λ e. literal_key-inj x y (key_cmp-Equal (literal_key x) (literal_key y) (literal_key-cmp x y
@@ -87,7 +87,7 @@ same_literal_decides x y = (
   λ e. ap (λ z. is_eq (literal_cmp x z)) (sym e) ∙ ap is_eq (tied_itself literal_cmp_total x),
 )
 
--- equal literals hash alike
+-- Equal literals have equal hashes.
 pub literal_hash_respects : (x y : Literal) → on literal_tree same_literal x y ≡ true
     → literal_hash (literal_tree x) ≡ literal_hash (literal_tree y)
 literal_hash_respects x y e = ap literal_hash ((same_literal_decides (literal_tree x) (literal_tree y)).0 e)

@@ -1,4 +1,4 @@
--- The laws of the equality and hash of partial values.
+-- Laws of the equality and hash of partial values.
 use Rattle.std.specs.Prelude.{◌≡◌, true}
 use Rattle.std.proofs.Common.{ap}
 use Rattle.std.specs.Bool.{Decides}
@@ -9,7 +9,7 @@ use Rattle.cedar_terms.specs.declared.partial_value.PartialValue.{PartialValue}
 use Rattle.cedar_terms.specs.declared.partial_value.PartialValue.TheVariants as partials
 use Rattle.cedar_terms.specs.PartialViews.{partial_hash, same_partial}
 
--- two partial values are equal exactly where they are the same
+-- `==` decides whether two partial values are identical.
 pub same_partial_decides : (x y : PartialValue) → Decides (same_partial x y) (x ≡ y)
 same_partial_decides (partials.Value v) (partials.Value w) =
     (λ e. ap partials.Value ((same_value_decides v w).0 e), λ e. (same_value_decides v w).1 (cc))
@@ -18,10 +18,10 @@ same_partial_decides (partials.Residual d) (partials.Value w) = (λ h. absurd (c
 same_partial_decides (partials.Residual d) (partials.Residual e) =
     (λ h. ap partials.Residual ((same_expr_decides d e).0 h), λ h. (same_expr_decides d e).1 (cc))
 
--- `==` is an equivalence
+-- `==` is an equivalence.
 pub same_partial_equiv : IsEquivalence same_partial
 same_partial_equiv = decided same_partial same_partial_decides
 
--- equal partial values hash alike
+-- Equal partial values have equal hashes.
 pub partial_hash_respects : (x y : PartialValue) → same_partial x y ≡ true → partial_hash x ≡ partial_hash y
 partial_hash_respects x y e = ap partial_hash ((same_partial_decides x y).0 e)

@@ -1,4 +1,4 @@
--- The laws of the equality, order and hash of slot ids.
+-- Laws of the equality, order and hash of slot ids.
 use Rattle.std.specs.Prelude.{◌≡◌, ℕ, zero, suc, List, [], ◌∷◌, Bool, true, false, refl, nat_eq}
 use Rattle.std.proofs.Common.{ap, ◌∙◌, sym, cond, inl, inr}
 use Rattle.std.proofs.lemmas.Bool.{eqb-true, false≢true, or_cases, and_parts, and_from}
@@ -11,45 +11,45 @@ use Rattle.cedar_terms.specs.declared.slot.SlotId.{SlotId}
 use Rattle.cedar_terms.specs.declared.slot.SlotId.TheVariants.{Principal, Action, Resource}
 use Rattle.cedar_terms.specs.SlotTree.{all_slots, same_slot, slot_cmp, slot_hash, slot_index}
 
--- the slot id at a place
+-- The slot id with this index.
 abbrev pub slot_at : ℕ → SlotId
 slot_at zero = Principal
 slot_at (suc zero) = Action
 slot_at (suc (suc n)) = Resource
 
--- each slot id stands at its place
+-- The slot id with the index of `s` is `s`.
 pub slot_at-slot_index : (s : SlotId) → slot_at (slot_index s) ≡ s
 slot_at-slot_index Principal = refl
 slot_at-slot_index Action = refl
 slot_at-slot_index Resource = refl
 
--- each slot id is among all
+-- Every slot id is in `all_slots`.
 pub is_among_all : (s : SlotId) → list_any (same_slot s) all_slots ≡ true
 is_among_all Principal = refl
 is_among_all Action = refl
 is_among_all Resource = refl
 
--- slot ids at one place are the same
+-- Slot ids with equal indices are equal.
 pub slot_index-inj : (x y : SlotId) → slot_index x ≡ slot_index y → x ≡ y
 slot_index-inj x y e = sym (slot_at-slot_index x) ∙ ap slot_at e ∙ slot_at-slot_index y
 
--- `==` is an equivalence
+-- `==` is an equivalence.
 pub same_slot_equiv : IsEquivalence same_slot
 same_slot_equiv = on_equiv slot_index nat_eq_equiv
 
--- the order is total
+-- The order is total.
 pub slot_cmp_total : IsTotalOrder slot_cmp
 slot_cmp_total = on_total slot_index nat_cmp_total
 
--- `==` holds of what the order does not tell apart
+-- Two slot ids are equal if the order reports `Equal`, and only then.
 pub slot_ties : (x y : SlotId) → same_slot x y ≡ eq_by_cmp slot_cmp x y
 slot_ties x y = unsigned_ties (slot_index x) (slot_index y)
 
--- and so it is a partial order
+-- The order is a partial order.
 pub slot_po : IsPartialOrder same_slot (as_partial_cmp slot_cmp)
 slot_po = po slot_cmp_total slot_ties
 
--- two slot ids are equal exactly where they are the same
+-- `==` decides whether two slot ids are identical.
 pub same_slot_decides : (x y : SlotId) → Decides (same_slot x y) (x ≡ y)
 same_slot_decides x y = (
   λ e. slot_index-inj x y (eqb-true (slot_index x) (slot_index y) e),
@@ -66,7 +66,7 @@ module _ (p : SlotId → Bool) where
         | inr r ↦ each_of xs both.1 s r
       ]
 
-  -- what holds at all slot ids holds at each
+  -- A test that is true of all elements of `all_slots` is true of every slot id.
   pub at_each : list_all p all_slots ≡ true → (s : SlotId) → p s ≡ true
   at_each h s = each_of all_slots h s (is_among_all s)
 
@@ -74,7 +74,7 @@ module _ (p : SlotId → Bool) where
   all_of [] h = refl
   all_of (x ∷ xs) h = and_from (p x) (list_all p xs) (h x) (all_of xs h)
 
-  -- and the other way round
+  -- A test that is true of every slot id is true of all elements of `all_slots`.
   pub of_each : ((s : SlotId) → p s ≡ true) → list_all p all_slots ≡ true
   of_each h = all_of all_slots h
 
@@ -91,7 +91,7 @@ module _ (p : SlotId → Bool) where
         | inr r ↦ left_out xs none.1 s r
       ]
 
-  -- where none of all slot ids passes, each fails
+  -- If no element of `all_slots` passes a test, the test is false of every slot id.
   pub none_passes : filter p all_slots ≡ [] → (s : SlotId) → p s ≡ false
   none_passes h s = left_out all_slots h s (is_among_all s)
 
@@ -99,10 +99,10 @@ module _ (p : SlotId → Bool) where
   all_left_out [] h = refl
   all_left_out (x ∷ xs) h = ap (λ b. cond b (x ∷ filter p xs) (filter p xs)) (h x) ∙ all_left_out xs h
 
-  -- and the other way round
+  -- If a test is false of every slot id, no element of `all_slots` passes it.
   pub passes_none : ((s : SlotId) → p s ≡ false) → filter p all_slots ≡ []
   passes_none h = all_left_out all_slots h
 
--- equal slot ids hash alike
+-- Equal slot ids have equal hashes.
 pub slot_hash_respects : (x y : SlotId) → same_slot x y ≡ true → slot_hash x ≡ slot_hash y
 slot_hash_respects x y e = ap slot_hash ((same_slot_decides x y).0 e)

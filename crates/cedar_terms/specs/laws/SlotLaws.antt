@@ -1,4 +1,4 @@
--- The slots of an expression, by those of its parts.
+-- The slots of an expression, in terms of the slots of its parts.
 use mathlib.Core.List.{append-nil}
 use Rattle.std.specs.Prelude.{◌≡◌, List, [], ◌∷◌, ◌++◌, reverse, refl}
 use Rattle.std.proofs.Common.{ap, sym, ◌∙◌}
@@ -11,7 +11,7 @@ use Rattle.cedar_terms.specs.ExprTree.{Operator, ExprTree, set_node, call_node, 
 use Rattle.cedar_terms.specs.ExprTree.{eq_node, in_node, is_node, expr_trees}
 use Rattle.cedar_terms.specs.Walk.{walk, walk_back, slot_of, slots_of}
 
--- those of the second operand, then those of the first
+-- The slots of a binary node: those in the second operand, followed by those in the first.
 pub slots_of-binary : (o : Operator) (x y : ExprTree) → slots_of (binary_node o x y) ≡ slots_of y ++ slots_of x
 slots_of-binary o x y = filter_map-append slot_of (walk y) (walk x)
 
@@ -38,7 +38,7 @@ slots_back (e ∷ es) =
     ∙ sym (flat_map-append slots_of (reverse es) (e ∷ []))
     ∙ ap (flat_map slots_of) (sym (reverse-append (e ∷ []) es))
 
--- those of the last expression first
+-- The slots of a set: those in its expressions, from the last expression to the first.
 pub slots_of-set : (es : List ExprTree) → slots_of (set_node (expr_trees es)) ≡ flat_map slots_of (reverse es)
 slots_of-set es = slots_back es
 

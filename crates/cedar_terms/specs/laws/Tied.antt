@@ -1,4 +1,4 @@
--- What numbers and two orders in turn do not tell apart.
+-- Numbers that compare as `Equal`, and pairs that do so under two orders, are equal.
 use Rattle.std.specs.Prelude.{◌≡◌, ℕ, refl}
 use Rattle.std.proofs.Common.{◌∙◌}
 use Rattle.std.specs.declared.cmp.Ordering.{Ordering}

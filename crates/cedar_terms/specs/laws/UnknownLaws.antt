@@ -1,4 +1,4 @@
--- The laws of the equality and hash of unknowns.
+-- Laws of the equality and hash of unknowns.
 use Rattle.std.specs.Prelude.{◌≡◌, true, Option, Some, None, nat_eq, refl}
 use Rattle.std.proofs.Common.{ap, sym, ◌∙◌}
 use Rattle.std.specs.Bool.{Decides}
@@ -9,7 +9,7 @@ use Rattle.cedar_ids.specs.Name.{NameParts, name_eq}
 use Rattle.cedar_ids.specs.laws.NameLaws.{name_eq_equiv, name_eq-Decides}
 use Rattle.cedar_terms.specs.UnknownParts.{UnknownParts, same_unknown, unknown_annotation, unknown_hash, unknown_name}
 
--- `==` is an equivalence
+-- `==` is an equivalence.
 pub same_unknown_equiv : IsEquivalence same_unknown
 same_unknown_equiv = and_equiv (on_texts_equal unknown_name) (on_equiv unknown_annotation (options_equiv name_eq_equiv))
 
@@ -19,7 +19,7 @@ same_annotation None (Some m) e = absurd (cc)
 same_annotation (Some n) None e = absurd (cc)
 same_annotation (Some n) (Some m) e = ap Some ((name_eq-Decides n m).0 e)
 
--- two unknowns are equal exactly where they are the same
+-- `==` decides whether two unknowns are identical.
 pub same_unknown_decides : (x y : UnknownParts) → Decides (same_unknown x y) (x ≡ y)
 same_unknown_decides x y = (
   λ e.
@@ -30,6 +30,6 @@ same_unknown_decides x y = (
   λ e. sym (ap (same_unknown x) e) ∙ same_unknown_equiv.refl x,
 )
 
--- equal unknowns hash alike
+-- Equal unknowns have equal hashes.
 pub unknown_hash_respects : (x y : UnknownParts) → same_unknown x y ≡ true → unknown_hash x ≡ unknown_hash y
 unknown_hash_respects x y e = ap unknown_hash ((same_unknown_decides x y).0 e)

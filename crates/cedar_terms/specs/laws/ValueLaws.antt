@@ -1,4 +1,4 @@
--- The laws of a value's equality, order and hash, and the keys of values.
+-- Laws of the equality, order and hash of values, and the keys of values.
 use Rattle.std.specs.Prelude.{◌≡◌, zero, suc, pos, refl, true}
 use Rattle.std.proofs.Common.{ap, sym, ◌∙◌, subst}
 use Rattle.std.specs.Bool.{Decides}
@@ -16,7 +16,7 @@ use Rattle.cedar_terms.specs.ValueTree.{no_values, value_then, FieldTrees, no_fi
 use Rattle.cedar_terms.specs.ValueTree.{fields_cmp, same_value}
 use Rattle.cedar_terms.specs.ValueHash.{value_hash}
 
--- the key of a value: the place of its kind, and the keys of what it holds
+-- The key of a value: the index of its kind, and the keys of its contents.
 abbrev mutual
   pub value_key : ValueTree → Key
   value_key (literal_value l) = fork (nat_key 0) (literal_key l)
@@ -32,7 +32,7 @@ abbrev mutual
   fields_key no_fields = nat_key 0
   fields_key (field_then k v fs) = fork (fork (text_key k) (value_key v)) (fields_key fs)
 
--- the value of a key
+-- The value with this key.
 abbrev mutual
   pub value_at : Key → ValueTree
   value_at (fork (tip (pos zero)) k) = literal_value (literal_at k)
@@ -48,7 +48,7 @@ abbrev mutual
   fields_at (fork (fork k l) m) = field_then (text_at k) (value_at l) (fields_at m)
   fields_at k = no_fields
 
--- a value is read back from its key
+-- Decoding the key of a value gives the value.
 mutual
   pub value_at-value_key : (x : ValueTree) → value_at (value_key x) ≡ x
   value_at-value_key (literal_value l) = ap literal_value (literal_at-literal_key l)
@@ -65,11 +65,11 @@ mutual
   fields_at-fields_key (field_then k v fs) = λ i. field_then (text_at-text_key k i) (value_at-value_key v i)
       (fields_at-fields_key fs i)
 
--- values of one key are the same
+-- Values with equal keys are equal.
 pub value_key-inj : (x y : ValueTree) → value_key x ≡ value_key y → x ≡ y
 value_key-inj x y e = read_back value_key value_at value_at-value_key x y e
 
--- values are ordered as their keys are
+-- Values are ordered as their keys.
 mutual
   pub value_key-cmp : (x y : ValueTree) → key_cmp (value_key x) (value_key y) ≡ value_cmp x y
   value_key-cmp (literal_value a) (literal_value b) = literal_key-cmp a b
@@ -103,19 +103,19 @@ mutual
   fields_key-cmp (field_then k v vs) (field_then l w ws) =
       λ i. ordering_then (ordering_then (text_key-cmp k l i) (value_key-cmp v w i)) (fields_key-cmp vs ws i)
 
--- the order of values is total
+-- The order of values is total.
 pub value_cmp_total : IsTotalOrder value_cmp
 value_cmp_total = subst IsTotalOrder (λ i x y. value_key-cmp x y i) (on_total value_key key_cmp_total)
 
--- `==` is an equivalence
+-- `==` is an equivalence.
 pub same_value_equiv : IsEquivalence same_value
 same_value_equiv = eq_by_cmp_equiv value_cmp_total
 
--- and the order agrees with it
+-- The order is a partial order that agrees with `==`.
 pub value_po : IsPartialOrder same_value (as_partial_cmp value_cmp)
 value_po = po value_cmp_total (λ x y. refl)
 
--- two values are equal exactly where they are the same
+-- `==` decides whether two values are identical.
 pub same_value_decides : (x y : ValueTree) → Decides (same_value x y) (x ≡ y)
 same_value_decides x y = (
   λ e. value_key-inj x y (key_cmp-Equal (value_key x) (value_key y) (value_key-cmp x y
@@ -123,6 +123,6 @@ same_value_decides x y = (
   λ e. ap (λ z. is_eq (value_cmp x z)) (sym e) ∙ ap is_eq (tied_itself value_cmp_total x),
 )
 
--- equal values hash alike
+-- Equal values have equal hashes.
 pub value_hash_respects : (x y : ValueTree) → same_value x y ≡ true → value_hash x ≡ value_hash y
 value_hash_respects x y e = ap value_hash ((same_value_decides x y).0 e)

@@ -1,4 +1,4 @@
--- Each value within a value is smaller.
+-- A value inside another value is smaller.
 use Rattle.std.specs.Prelude.{◌≤◌, ◌+◌, max, List, [], ◌∷◌, String}
 use Rattle.std.proofs.Common.{arith}
 use Rattle.std.specs.declared.alloc.Global.{Global}
@@ -19,7 +19,7 @@ most_fields : (fs : List (String Global × ValueTree)) → most (λ v. value_siz
 most_fields [] = omega arith
 most_fields (f ∷ fs) = omega (arith, most_fields fs)
 
--- no part is as large as the whole
+-- The depth of the parts is at most the size of the value.
 pub deep_le_size : (k : ValueKind) → max (deep-ValueKind k) 0 ≤ value_size (kind_tree k)
 deep_le_size (kinds.Lit l) = omega arith
 deep_le_size (kinds.Set v) = omega (arith, most_values v.value.items)

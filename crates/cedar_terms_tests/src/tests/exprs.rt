@@ -1,4 +1,4 @@
-// Expressions: their texts, the walk, and which are valid.
+// Tests of expressions: printed texts, traversals and validation.
 use super::{
     both, copies, copy_of, counted, has_slots, hash_of, is_eq, is_written, named, not, number,
     owned, shows, slot, truth, typed, uid, with_last,
@@ -89,10 +89,10 @@ fn two_is_not_one(alloc: Global) -> Option<Expr> {
     not(alloc, two_is_one(alloc))
 }
 
-// How many expressions `nth` has.
+// The number of expressions of `nth`.
 const EXPRS: usize = 21;
 
-// Expressions of each kind, no two of them equal.
+// Returns expressions of each kind. No two of them are equal.
 fn nth(alloc: Global, place: usize) -> Option<Expr> {
     match place {
         0 => truth(alloc),
@@ -137,7 +137,7 @@ fn action_in_none(alloc: Global) -> Option<Expr> {
     )
 }
 
-// How the expressions of `nth` are written.
+// The printed texts of the expressions of `nth`.
 const TEXTS: [&str; 21] = [
     "true",
     "false",
@@ -170,12 +170,12 @@ fn each_kind_is_written(rt: HostRuntime) {
     }
 }
 
-// Whether two expressions are equal and hash alike just where they are the same.
+// Returns whether two expressions are equal and have equal hashes, if and only if `same` is true.
 fn told_apart(a: &Expr, b: &Expr, same: bool) -> bool {
     (a == b) == same && (hash_of(a) == hash_of(b)) == same
 }
 
-// Whether the expressions at two places are equal and hash alike just where they are the same.
+// Returns whether the expressions at two indices are equal and have equal hashes, if and only if the indices are equal.
 fn nth_told_apart(alloc: Global, i: usize, j: usize) -> bool {
     match both(nth(alloc, i), nth(alloc, j)) {
         Some((a, b)) => {
@@ -313,7 +313,7 @@ fn with_slots(alloc: Global) -> Option<Expr> {
     )
 }
 
-// What the walk through it meets.
+// The nodes of `with_slots`, in the order of `subexpressions`.
 const NODES: [&str; 12] = [
     "(?principal in f([?resource, ?action, ?principal], ?resource)) && (!(1 is A))",
     "!(1 is A)",
@@ -329,7 +329,7 @@ const NODES: [&str; 12] = [
     "?principal",
 ];
 
-// Whether expressions are written so, in turn.
+// Returns whether expressions have these printed texts, in order.
 fn are_written(alloc: Global, nodes: &Vec<&Expr>, want: &[&str]) -> bool {
     let mut all = nodes.len() == want.len();
     for (node, text) in nodes.iter().zip(want) {
@@ -338,7 +338,7 @@ fn are_written(alloc: Global, nodes: &Vec<&Expr>, want: &[&str]) -> bool {
     all
 }
 
-// Whether the walk through an expression that could be made meets these.
+// Returns whether the nodes of an expression have these printed texts, in order.
 fn walks(alloc: Global, made: Option<Expr>, want: &[&str]) -> bool {
     match made {
         Some(expr) => {
@@ -373,7 +373,7 @@ fn with_unknowns(alloc: Global) -> Option<Expr> {
     and(alloc, left, not(alloc, unknown(alloc, "a")))
 }
 
-// Whether unknowns have these names, in turn.
+// Returns whether unknowns have these names, in order.
 fn have_names(unknowns: &Vec<&Unknown>, want: &[&str]) -> bool {
     let same = unknowns
         .iter()
@@ -382,7 +382,7 @@ fn have_names(unknowns: &Vec<&Unknown>, want: &[&str]) -> bool {
     unknowns.len() == want.len() && same
 }
 
-// The unknowns of an expression have these names.
+// Returns whether the unknowns of an expression have these names, in order.
 fn has_unknowns(alloc: Global, made: Option<Expr>, want: &[&str]) -> bool {
     match made {
         Some(expr) => {
@@ -404,7 +404,7 @@ fn unknowns_come_as_the_walk_meets_them(rt: HostRuntime) {
     assert!(rt; has_unknowns(alloc, two_is_one(alloc), &[]));
 }
 
-// Whether a verdict names this function, or, if it is empty, is no refusal.
+// Returns whether a result is an error that names this function. An empty name means that the result must be `Ok`.
 fn names(alloc: Global, verdict: Result<(), ExprValidationError>, want: &str) -> bool {
     match verdict {
         Ok(()) => want.is_empty(),
@@ -417,7 +417,8 @@ fn names(alloc: Global, verdict: Result<(), ExprValidationError>, want: &str) ->
     }
 }
 
-// Whether an expression is refused for calling this function, or, if it is empty, not at all.
+// Returns whether validation returns an error that names this function. An empty name means that the expression must be
+// valid.
 fn refused_for(alloc: Global, made: Option<Expr>, want: &str) -> bool {
     match made {
         Some(expr) => {
@@ -441,7 +442,7 @@ fn four_functions_are_known(rt: HostRuntime) {
     assert!(rt; refused_for(alloc, two_is_not_one(alloc), ""));
 }
 
-// `f(g(), h())`, of these names
+// `f(g(), h())`, with these names.
 fn calls(alloc: Global, f: &str, g: &str, h: &str) -> Option<Expr> {
     call_of(alloc, f, pair(alloc, call(alloc, g), call(alloc, h)))
 }
@@ -471,7 +472,7 @@ fn refusal(alloc: Global) -> Option<ExprValidationError> {
     }
 }
 
-// Whether a refusal that could be made is the one for want of memory.
+// Returns whether an error is `Memory`.
 fn is_memory(made: Option<ExprValidationError>) -> bool {
     match made {
         Some(ExprValidationError::Memory) => true,

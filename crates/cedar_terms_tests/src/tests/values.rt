@@ -1,4 +1,4 @@
-// Values: their texts, their order, and how sets and records are made.
+// Tests of values: printed texts, order, and the creation of sets and records.
 use super::{
     boolean, both, called, copies, copy_of, differ, entity, extension, hash_of, is_written, long,
     longs, owned, place, record, record_of, set_of, shows, start_of, text, with_last,
@@ -7,10 +7,10 @@ use cedar_terms::literal::Literal;
 use cedar_terms::value::{Value, ValueKind};
 use std::alloc::Global;
 
-// How many values `nth` has.
+// The number of values of `nth`.
 const VALUES: usize = 29;
 
-// Values, each below the next.
+// Returns values in ascending order.
 fn nth(alloc: Global, place: usize) -> Option<Value> {
     match place {
         0 => Some(boolean(false)),
@@ -45,7 +45,7 @@ fn nth(alloc: Global, place: usize) -> Option<Value> {
     }
 }
 
-// How the values of `nth` are written.
+// The printed texts of the values of `nth`.
 const TEXTS: [&str; 29] = [
     "false",
     "true",
@@ -86,7 +86,7 @@ fn values_are_written(rt: HostRuntime) {
     }
 }
 
-// Whether two values stand as their places do, in each way of comparing them.
+// Returns whether two values compare as their indices do, in each comparison.
 fn stand(a: &Value, b: &Value, i: usize, j: usize) -> bool {
     let same = i == j;
     a.cmp(b) == i.cmp(&j)
@@ -97,7 +97,7 @@ fn stand(a: &Value, b: &Value, i: usize, j: usize) -> bool {
         && (hash_of(&a.value) == hash_of(&b.value)) == same
 }
 
-// Whether the values at two places stand as their places do, in each way of comparing them.
+// Returns whether the values at two indices compare as the indices do, in each comparison.
 fn nth_stand(alloc: Global, i: usize, j: usize) -> bool {
     match both(nth(alloc, i), nth(alloc, j)) {
         Some((a, b)) => {
@@ -120,7 +120,7 @@ fn values_have_one_order(rt: HostRuntime) {
     }
 }
 
-// What the value at a place holds.
+// Returns the kind and content of the value at an index.
 fn kind_of(alloc: Global, place: usize) -> Option<ValueKind> {
     match nth(alloc, place) {
         Some(value) => {
@@ -132,7 +132,7 @@ fn kind_of(alloc: Global, place: usize) -> Option<ValueKind> {
     }
 }
 
-// Whether a copy of what the value at a place holds is equal to it.
+// Returns whether a copy of the content of the value at an index equals it.
 fn kind_copies(alloc: Global, place: usize) -> bool {
     match both(copy_of(kind_of(alloc, place)), kind_of(alloc, place)) {
         Some((copy, kind)) => {
@@ -154,7 +154,7 @@ fn a_copy_is_equal(rt: HostRuntime) {
     }
 }
 
-// `[{"k": 1, "j": 2}, [5, 4]]`, not yet sorted, and two more values.
+// `[{"k": 1, "j": 2}, [5, 4]]`, unsorted, and two more values.
 fn inner(alloc: Global) -> Option<Vec<Value>> {
     let first = with_last(Some(Vec::new(alloc)), record(alloc, &[("k", 1), ("j", 2)]));
     let second = with_last(first, longs(alloc, &[5, 4]));
@@ -162,7 +162,7 @@ fn inner(alloc: Global) -> Option<Vec<Value>> {
     with_last(third, text(alloc, "t"))
 }
 
-// A record of a set of these.
+// A record with the set of these values.
 fn outer(alloc: Global) -> Option<Value> {
     let field = both(owned(alloc, "s"), set_of(alloc, inner(alloc)));
     record_of(alloc, with_last(Some(Vec::new(alloc)), field))
@@ -199,7 +199,7 @@ fn extension_values_are_told_apart(rt: HostRuntime) {
     assert!(rt; differ(called(alloc, "ip", "1"), called(alloc, "decimal", "1")));
 }
 
-// A number at a place.
+// A number with a location.
 fn long_at(alloc: Global, n: i64, start: usize) -> Option<Value> {
     match place(alloc, start) {
         Some(loc) => Some(Value::new(ValueKind::Lit(Literal::Long(n)), Some(loc))),
@@ -207,7 +207,7 @@ fn long_at(alloc: Global, n: i64, start: usize) -> Option<Value> {
     }
 }
 
-// The set of some numbers, each with the place where it stands.
+// The set of some numbers, each with a location.
 fn set_at(alloc: Global, pairs: &[(i64, usize)]) -> Option<Value> {
     let mut values = Some(Vec::new(alloc));
     for (n, start) in pairs {
@@ -216,7 +216,7 @@ fn set_at(alloc: Global, pairs: &[(i64, usize)]) -> Option<Value> {
     set_of(alloc, values)
 }
 
-// Whether the elements of a set stand at these places.
+// Returns whether the elements of a set have these locations.
 fn stand_at(set: &Value, starts: &[usize]) -> bool {
     match &set.value {
         ValueKind::Set(elements) => {
@@ -228,7 +228,7 @@ fn stand_at(set: &Value, starts: &[usize]) -> bool {
     }
 }
 
-// Whether a set that could be made is written so, and its elements stand at these places.
+// Returns whether a set has this printed text, and its elements have these locations.
 fn is_set_at(alloc: Global, made: Option<Value>, want: &str, starts: &[usize]) -> bool {
     match made {
         Some(set) => {

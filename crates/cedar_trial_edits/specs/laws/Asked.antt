@@ -1,4 +1,4 @@
--- The part of a store that a trial of an edit looks at.
+-- The part of a store that a dry run reads.
 use Rattle.std.specs.Prelude.{◌≡◌, true, List}
 use Rattle.std.specs.FinSet as set
 use Rattle.std.specs.List.{AllByRecursion}
@@ -10,16 +10,16 @@ use Rattle.cedar_entity_maps.specs.Plain.{StoreView, IsPlainStore}
 use Rattle.cedar_entity_maps.specs.World.{World}
 use Rattle.cedar_slice.specs.Slices.{sliced, IsPlainSlice}
 
--- the list has the uid of an entity and those of its parents
+-- Holds if the list has the uid of the entity and the uids of its parents.
 abbrev pub IsAsked : List EntityUID → EntityView → Type 0
 IsAsked U e = (is_member same_uid U e.uid ≡ true)
     × ((p : EntityUID) → set.contains e.parents p ≡ true → is_member same_uid U p ≡ true)
 
--- and those of each of some entities
+-- Holds if the list has the uids and the parents of all of the entities.
 abbrev pub AreAsked : List EntityUID → List EntityView → Type 0
 AreAsked U L = AllByRecursion (IsAsked U) L
 
--- N is the slice of S at uids that have those of each of some entities
+-- Holds if N is a slice of S at uids that include the uids and the parents of the entities.
 pub record IsPartFor (S : StoreView) (L : List EntityView) (N : StoreView) : Type 0 where
   pub uids : List EntityUID
   pub asked : AreAsked uids L

@@ -1,4 +1,4 @@
--- An edit that passes is refused for want of memory alone.
+-- An edit that passes can fail only with an allocation error.
 use Rattle.std.specs.Prelude.{◌≡◌, List, [], ◌∷◌, ◌++◌}
 use Rattle.std.proofs.Common.{refl, subst}
 use Rattle.std.specs.List.{AllByRecursion}
@@ -17,24 +17,24 @@ all_at : {X : Type 0} (P : X → Type 0) (xs : List X) (y : X) (ys : List X) →
 all_at P [] y ys a = a.0
 all_at P (x ∷ xs) y ys a = all_at P xs y ys a.1
 
--- where each of a list agrees, none is the first that differs
+-- If each entity of a list agrees, none is the first that differs.
 none_differs : (W : World) (L : List Given) (u : EntityUID) → AllAgree W L → FirstDiffers W L u → ⊥
 none_differs W L u all d =
     d.differs (all_at (Agrees W L) d.before d.at d.after (subst (AllByRecursion (Agrees W L)) d.place all))
 
--- what names a cycle of a world shows one
+-- An error that names a cycle shows that there is one.
 cyclic_of : (W : World) (t : TcError EntityUID) → NamesCycle W t → IsCyclic W
 cyclic_of W (tc.MissingTcEdge e) h = absurd h
 cyclic_of W (tc.HasCycle e) h = (vertex_of e, h)
 cyclic_of W tc.Memory h = absurd h
 
--- adding a list that passes is refused for memory alone
+-- Adding a list that passes can fail only with an allocation error.
 pub adding_passes : (W : World) (L : List Given) (e : EntitiesError) → Passes W (Add L) → IsAddingRefused W L e
     → e ≡ Memory
 adding_passes W L e p = refusal_cases (FirstDiffers W L) (λ t. AllAgree W L × NamesCycle (added W L) t) (λ x. x ≡ Memory)
     (λ u d. absurd (none_differs W L u p.0 d)) (λ t h. absurd (p.1 (cyclic_of (added W L) t h.1))) refl e
 
--- and so is putting one over
+-- Overwriting with a list that passes can fail only with an allocation error.
 pub overwriting_passes : (W : World) (L : List Given) (e : EntitiesError) → Passes W (Upsert L)
     → IsOverwritingRefused W L e → e ≡ Memory
 overwriting_passes W L e p = refusal_cases (λ _. ⊥) (NamesCycle (overwritten W L)) (λ x. x ≡ Memory) (λ u d. absurd d)

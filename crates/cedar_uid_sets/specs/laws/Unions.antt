@@ -1,4 +1,4 @@
--- Two ascending lists of uids in one.
+-- The union of two ascending lists of uids.
 use Rattle.std.specs.Prelude.{◌≡◌, Bool, true, false, ◌||◌, List, [], ◌∷◌, length, ◌<◌}
 use Rattle.std.proofs.Common.{arith, ap, sym, refl, subst, ◌∙◌}
 use Rattle.std.specs.List.{AllByRecursion}
@@ -13,7 +13,7 @@ use Rattle.cedar_ids.specs.declared.entity.EntityUID.{EntityUID}
 use Rattle.cedar_uid_sets.specs.UidSets.{Ascend}
 use Rattle.cedar_uid_sets.specs.laws.Sets.{one_equal}
 
--- the uids of both, each once where each list ascends
+-- The uids of both lists, in ascending order and without duplicates, if both lists are ascending.
 abbrev pub union_of : List EntityUID → List EntityUID → List EntityUID
 union_of us vs = sorted_merge uid_order true us vs
 
@@ -62,7 +62,7 @@ ascend_at x xs s h (y ∷ ys) t = by_rank (IsStrictlySortedBy uid_order) (uid_or
       ascend_at x xs s h ys t.1,
     ))
 
--- the union of two ascending lists ascends
+-- The union of two ascending lists is ascending.
 pub union_ascends : (us vs : List EntityUID) → Ascend us → Ascend vs → Ascend (union_of us vs)
 unfolding IsStrictlySortedBy
 union_ascends [] vs s t = t
@@ -99,7 +99,7 @@ member_at q x xs h (y ∷ ys) = by_rank (λ l. is_member same_uid l q
     (λ k. ap (λ b. same_uid q y || b) (member_at q x xs h ys)
     ∙ swap (same_uid q y) (is_member same_uid (x ∷ xs) q) (is_member same_uid ys q))
 
--- the union has what one of the two has
+-- The members of the union are the members of both lists.
 pub union_has : (us vs : List EntityUID) (q : EntityUID)
     → is_member same_uid (union_of us vs) q ≡ (is_member same_uid us q || is_member same_uid vs q)
 union_has [] vs q = refl
@@ -113,7 +113,7 @@ empty : (us : List EntityUID) → length us ≡ 0 → us ≡ []
 empty [] h = refl
 empty (u ∷ us) h = absurd (cc)
 
--- what a walk takes where the other list is at its end
+-- The next uid of the union if the other list is at its end.
 pub first_alone : (us vs xs s : List EntityUID) (x : EntityUID) → union_of us vs ≡ s → us ≡ x ∷ xs → length vs ≡ 0
     → s ≡ x ∷ union_of xs vs
 first_alone us vs xs s x e f g =

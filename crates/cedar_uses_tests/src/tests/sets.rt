@@ -1,4 +1,4 @@
-// Uses over policy sets.
+// Uses of policy sets.
 use super::{id_of, uid_of};
 use cedar_store::{
     ActionConstraint, Annotations, Effect, PolicySet, PrincipalConstraint, ResourceConstraint,
@@ -9,7 +9,7 @@ use cedar_uses::{grant, take_in};
 use std::alloc::Global;
 use std::test::Fail;
 
-// A template on the principal's slot.
+// Creates a template with a slot for the principal.
 fn template_of(alloc: Global, text: &str) -> Result<Template, Fail> {
     let template = Template::new(
         alloc,
@@ -25,7 +25,7 @@ fn template_of(alloc: Global, text: &str) -> Result<Template, Fail> {
     Ok(template?)
 }
 
-// A static policy that constrains nothing.
+// Creates a static policy without constraints.
 fn static_of(alloc: Global, text: &str, effect: Effect) -> Result<StaticPolicy, Fail> {
     let policy = StaticPolicy::new(
         alloc,
@@ -51,7 +51,7 @@ fn add_template(alloc: Global, set: &mut PolicySet, text: &str) -> Result<(), Fa
     Ok(set.add_template(alloc, template_of(alloc, text)?)?)
 }
 
-// The set of static policies with these ids.
+// Creates the set of static policies with the ids.
 fn set_of(alloc: Global, texts: &str, effect: Effect) -> Result<PolicySet, Fail> {
     let mut set = PolicySet::new(alloc);
     for text in texts.split_whitespace() {
@@ -61,14 +61,14 @@ fn set_of(alloc: Global, texts: &str, effect: Effect) -> Result<PolicySet, Fail>
     Ok(set)
 }
 
-// The set of a template and a static policy.
+// Creates the set of a template and a static policy.
 fn set_of_both(alloc: Global) -> Result<PolicySet, Fail> {
     let mut set = set_of(alloc, "s", Effect::Permit)?;
     let done = add_template(alloc, &mut set, "t");
     kept(set, done)
 }
 
-// Grants, and writes the link or the refusal.
+// Grants, and returns the text of the link or of the error.
 fn granted(
     alloc: Global,
     set: &mut PolicySet,
@@ -89,7 +89,7 @@ fn granted(
     }
 }
 
-// What granting leaves of the set of a template and a static policy.
+// Returns the result of granting in the set of a template and a static policy.
 pub(super) fn left_by_granting(alloc: Global, asked: &str) -> Result<String, Fail> {
     let (template, rest) = asked.split_once(' ').unwrap_or((asked, ""));
     let (id, user) = rest.split_once(' ').unwrap_or((rest, ""));
@@ -99,7 +99,7 @@ pub(super) fn left_by_granting(alloc: Global, asked: &str) -> Result<String, Fai
     told
 }
 
-// The ids of a set's policies, behind a number.
+// Returns a number and the ids of a set's policies.
 fn ids_of(alloc: Global, set: &PolicySet, number: usize) -> Result<String, Fail> {
     let mut text = format!(in alloc; "{number}:")?;
     for policy in set.policies() {
@@ -111,8 +111,8 @@ fn ids_of(alloc: Global, set: &PolicySet, number: usize) -> Result<String, Fail>
     Ok(text)
 }
 
-// How many ids are renamed when a set of policies that forbid is taken into one of policies that permit, and the ids
-// then.
+// Merges a set of policies that forbid into a set of policies that permit. Returns the number of renamed ids and the
+// ids afterwards.
 pub(super) fn left_by_taking_in(alloc: Global, given: &str, asked: &str) -> Result<String, Fail> {
     let (mut set, other) = beside(
         set_of(alloc, given, Effect::Permit)?,

@@ -1,5 +1,5 @@
-// Uses over stores. A list of users and groups is parted by commas, each with the groups that it belongs to behind its
-// name; in a log a name behind `-` is taken out.
+// Uses of stores. A list of users and groups is separated by commas. Each name is followed by the groups to which it
+// belongs. In a log, a name after `-` is removed.
 ghost use Rattle.std.specs.Prelude.{IfOk};
 ghost use Rattle.std.specs.List.{AllByRecursion};
 ghost use Rattle.cedar_entity_maps.specs.Plain.{IsBare};
@@ -15,12 +15,12 @@ use std::alloc::Global;
 use std::rc::Rc;
 use std::test::Fail;
 
-// The uid of a group, to be shared.
+// Returns the shared uid of a group.
 fn shared_of(alloc: Global, name: &str) -> Result<SharedUid, Fail> {
     Ok(SharedUid::new(alloc, uid_of(alloc, name)?)?)
 }
 
-// The groups with these names.
+// Returns the groups with the names.
 fn groups_of(alloc: Global, names: &str) -> Result<Vec<SharedUid>, Fail> {
     let mut list = Vec::new(alloc);
     for name in names.split_whitespace() {
@@ -29,13 +29,13 @@ fn groups_of(alloc: Global, names: &str) -> Result<Vec<SharedUid>, Fail> {
     Ok(list)
 }
 
-// A user with its groups.
+// Returns a user with its groups.
 fn member_of(alloc: Global, text: &str) -> Result<(EntityUID, Vec<SharedUid>), Fail> {
     let (name, groups) = text.split_once(' ').unwrap_or((text, ""));
     beside(uid_of(alloc, name)?, groups_of(alloc, groups))
 }
 
-// Users with their groups.
+// Returns users with their groups.
 fn members_of(alloc: Global, texts: &str) -> Result<Vec<(EntityUID, Vec<SharedUid>)>, Fail> {
     let mut list = Vec::new(alloc);
     for text in texts.split(", ") {
@@ -44,7 +44,7 @@ fn members_of(alloc: Global, texts: &str) -> Result<Vec<(EntityUID, Vec<SharedUi
     Ok(list)
 }
 
-// A user as an entity.
+// Returns a user as an entity.
 fn entity_of(alloc: Global, text: &str) -> Result<Entity, Fail>
     ensures { IfOk result IsBare }
 {
@@ -52,7 +52,7 @@ fn entity_of(alloc: Global, text: &str) -> Result<Entity, Fail>
     Ok(Entity::with_shared_parents(alloc, uid, groups)?)
 }
 
-// A call of a log.
+// Returns a call of a log.
 fn call_of(alloc: Global, text: &str) -> Result<EntityCall, Fail>
     ensures { IfOk result HasBareEntities }
 {
@@ -62,7 +62,7 @@ fn call_of(alloc: Global, text: &str) -> Result<EntityCall, Fail>
     }
 }
 
-// A log.
+// Returns a log.
 fn log_of(alloc: Global, texts: &str) -> Result<Vec<EntityCall>, Fail>
     ensures { IfOk result (λ v. AllByRecursion HasBareEntities v.items) }
 {
@@ -79,7 +79,7 @@ fn log_of(alloc: Global, texts: &str) -> Result<Vec<EntityCall>, Fail>
     Ok(list)
 }
 
-// The store that a log leaves.
+// Returns the store after a log.
 fn store_of(alloc: Global, texts: &str) -> Result<Entities, Fail> {
     match replay_entities(alloc, log_of(alloc, texts)?) {
         Ok(store) => Ok(store),
@@ -90,13 +90,13 @@ fn store_of(alloc: Global, texts: &str) -> Result<Entities, Fail> {
     }
 }
 
-// The user and the group that are asked of.
+// Returns the user and the group of a query.
 fn pair_of(alloc: Global, asked: &str) -> Result<(EntityUID, EntityUID), Fail> {
     let (user, group) = asked.split_once(' ').unwrap_or((asked, ""));
     beside(uid_of(alloc, user)?, uid_of(alloc, group))
 }
 
-// What is answered of a list of users.
+// Returns the result for a list of users.
 pub(super) fn told_of_members(alloc: Global, given: &str, asked: &str) -> Result<String, Fail> {
     let ((user, group), members) = beside(pair_of(alloc, asked)?, members_of(alloc, given))?;
     let told = is_member(alloc, members, &user, &group);
@@ -108,7 +108,7 @@ pub(super) fn told_of_members(alloc: Global, given: &str, asked: &str) -> Result
     }
 }
 
-// What is answered of a log of two uids, which are let go.
+// Returns the result for a log and two uids, which it drops.
 fn asked_of_log(
     alloc: Global,
     log: Vec<EntityCall>,
@@ -123,7 +123,7 @@ fn asked_of_log(
     told
 }
 
-// What is answered of a log.
+// Returns the result for a log.
 pub(super) fn told_of_log(alloc: Global, given: &str, asked: &str) -> Result<String, Fail> {
     let (user, group) = pair_of(alloc, asked)?;
     match log_of(alloc, given) {
@@ -139,14 +139,14 @@ pub(super) fn told_of_log(alloc: Global, given: &str, asked: &str) -> Result<Str
     }
 }
 
-// A refusal behind the number of calls before it.
+// Returns an error after the number of calls before it.
 fn numbered(alloc: Global, done: usize, error: EntitiesError) -> Result<String, Fail> {
     let text = format!(in alloc; "{done} {error}");
     drop(error);
     Ok(text?)
 }
 
-// The text of the store after a user moved and a group was closed.
+// Returns the text of the store after a user moved and a group was closed.
 pub(super) fn left_by_moving(alloc: Global, given: &str, asked: &str) -> Result<String, Fail> {
     let (member, closed) = asked.split_once(", ").unwrap_or((asked, ""));
     let (store, (user, groups)) = beside(store_of(alloc, given)?, member_of(alloc, member))?;

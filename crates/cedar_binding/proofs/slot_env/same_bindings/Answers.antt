@@ -13,7 +13,7 @@ use Rattle.cedar_binding.specs.Views.{env_of}
 use Rattle.cedar_binding.specs.laws.Fits.{same_answer}
 use Rattle.cedar_binding.proofs.slot_env.same_bindings.Goals as goal
 
--- uids are equal where their parts are
+-- Optional uids are equal if their optional parts are.
 alike : (x y : Option EntityUID) → option_eq same_uid x y
     ≡ option_eq uid_eq (option_map uid_parts x) (option_map uid_parts y)
 alike None None = refl
@@ -21,7 +21,7 @@ alike None (Some v) = refl
 alike (Some u) None = refl
 alike (Some u) (Some v) = refl
 
--- maps are equal exactly where they bind each slot alike
+-- Maps are equal if they bind each slot to equal uids, and only then.
 same_maps : {S : Type 0} (m n : HashMap SlotId EntityUID S) → hash_map_eq same_slot same_uid m n
     ≡ same_env (env_of m) (env_of n)
 same_maps m n =

@@ -3,6 +3,7 @@ use Rattle.std.specs.Set.{is_member}
 use Rattle.std.proofs.lemmas.Iterator.Consumers.{YieldsList-from_first, YieldsList-end}
 use Rattle.std.proofs.lemmas.List.{map-append}
 use Rattle.cedar_entity.specs.View.{has_ancestor}
+use Rattle.cedar_entity.specs.laws.Views.{members_of_both}
 use Rattle.cedar_ids.specs.UidOf.{same_uid}
 use Rattle.cedar_ids.specs.declared.entity.EntityUID.{EntityUID}
 use Rattle.cedar_c_stores.specs.Noted.{AreNumbersOf}
@@ -38,4 +39,4 @@ returns-clause-row g c =
     c.next.ensures.steps).0 in
     row_alike c.loop-uid.numbers (is_member same_uid (map (λ x. x.now) c.loop-uid.yielded)) (has_ancestor c.args.entity.now)
     c.loop-uid.row.items
-    (λ q. ap (λ l. is_member same_uid l q) whole ∙ c.shared_ancestors-uid-items.ensures q) c.loop-uid.invariant.1
+    (λ q. ap (λ l. is_member same_uid l q) whole ∙ members_of_both c.shared_ancestors-uid-items.ensures q) c.loop-uid.invariant.1

@@ -17,7 +17,8 @@ returns-in-Var c =
     (λ h. writes_all (node (var_item v) no_trees) (Unit {0}) (var_item v) [] c.args.draft.now c.put.new.self
     c.args.pending.now.items tt
     (adds_one _ (var_item v) c.args.draft.now c.put.new.self h
-    (refl, (let f : SFits w64 c.var_number.result = search rules in rw to_z-of_z c.var_number.ensures))) refl)
+    (refl, (let f : SFits w64 c.var_number.result = search rules in rw to_z-of_z c.var_number.ensures)) (refl, refl))
+    refl)
     c.put.ensures)
 
 pub returns-in-Slot : goal.returns-in-Slot
@@ -28,7 +29,8 @@ returns-in-Slot c =
     (λ h. writes_all (node (slot_item s) no_trees) (Unit {0}) (slot_item s) [] c.args.draft.now c.put-in-Slot.new.self
     c.args.pending.now.items tt
     (adds_one _ (slot_item s) c.args.draft.now c.put-in-Slot.new.self h
-    (refl, (let f : SFits w64 c.slot_number.result = search rules in rw to_z-of_z c.slot_number.ensures))) refl)
+    (refl, (let f : SFits w64 c.slot_number.result = search rules in rw to_z-of_z c.slot_number.ensures)) (refl, refl))
+    refl)
     c.put-in-Slot.ensures)
 
 pub returns-in_ok-put-in-Set : goal.returns-in_ok-put-in-Set
@@ -40,7 +42,7 @@ returns-in_ok-put-in-Set c =
     c.args.draft.now c.put-in-Set.new.self c.args.pending.now.items c.push_exprs.new.pending.items
     (adds_one _ (set_item (exprs_count (expr_trees es))) c.args.draft.now c.put-in-Set.new.self
     c.in_ok-put-in-Set.ensures
-    (refl, sym (exprs_counted es))))
+    (refl, sym (exprs_counted es)) (refl, refl)))
     c.push_exprs.ensures)
 
 pub returns-in_ok-write_call-in-Call : goal.returns-in_ok-write_call-in-Call
@@ -60,7 +62,8 @@ returns-in_ok-put-in-Not c =
     (writes_one not_item (expr_plan c.in-Not.operand.now) (HasNames c.in-Not.operand.now) c.args.draft.now
     c.put-in-Not.new.self c.args.pending.now.items
     c.push_expr.new.pending.items
-    (adds_one _ not_item c.args.draft.now c.put-in-Not.new.self c.in_ok-put-in-Not.ensures refl))
+    (adds_one _ not_item c.args.draft.now c.put-in-Not.new.self c.in_ok-put-in-Not.ensures refl
+    (refl, refl, refl)))
     c.push_expr.ensures)
 
 pub returns-in_ok-put-in-And : goal.returns-in_ok-put-in-And
@@ -70,7 +73,8 @@ returns-in_ok-put-in-And c =
     (writes_two (binary_item and_operator) (expr_plan c.in-And.left.now) (expr_plan c.in-And.right.now)
     (HasNames c.in-And.left.now × HasNames c.in-And.right.now) c.args.draft.now
     c.put-in-And.new.self c.args.pending.now.items c.push_two.new.pending.items
-    (adds_one _ (binary_item and_operator) c.args.draft.now c.put-in-And.new.self c.in_ok-put-in-And.ensures refl))
+    (adds_one _ (binary_item and_operator) c.args.draft.now c.put-in-And.new.self c.in_ok-put-in-And.ensures refl
+    (refl, refl, refl)))
     c.push_two.ensures)
 
 pub returns-in_ok-put-in-Eq : goal.returns-in_ok-put-in-Eq
@@ -80,7 +84,8 @@ returns-in_ok-put-in-Eq c =
     (writes_two (binary_item eq_operator) (expr_plan c.in-Eq.left.now) (expr_plan c.in-Eq.right.now)
     (HasNames c.in-Eq.left.now × HasNames c.in-Eq.right.now) c.args.draft.now
     c.put-in-Eq.new.self c.args.pending.now.items c.push_two-in-Eq.new.pending.items
-    (adds_one _ (binary_item eq_operator) c.args.draft.now c.put-in-Eq.new.self c.in_ok-put-in-Eq.ensures refl))
+    (adds_one _ (binary_item eq_operator) c.args.draft.now c.put-in-Eq.new.self c.in_ok-put-in-Eq.ensures refl
+    (refl, refl, refl)))
     c.push_two-in-Eq.ensures)
 
 pub returns-in_ok-put-in-In : goal.returns-in_ok-put-in-In
@@ -90,5 +95,6 @@ returns-in_ok-put-in-In c =
     (writes_two (binary_item in_operator) (expr_plan c.in-In.left.now) (expr_plan c.in-In.right.now)
     (HasNames c.in-In.left.now × HasNames c.in-In.right.now) c.args.draft.now
     c.put-in-In.new.self c.args.pending.now.items c.push_two-in-In.new.pending.items
-    (adds_one _ (binary_item in_operator) c.args.draft.now c.put-in-In.new.self c.in_ok-put-in-In.ensures refl))
+    (adds_one _ (binary_item in_operator) c.args.draft.now c.put-in-In.new.self c.in_ok-put-in-In.ensures refl
+    (refl, refl, refl)))
     c.push_two-in-In.ensures)

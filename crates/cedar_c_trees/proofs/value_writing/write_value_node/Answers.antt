@@ -16,7 +16,8 @@ returns-in_ok-put-in-Set c =
     c.put.new.self
     c.args.pending.now.items c.push_values.new.pending.items
     (adds_one _ (set_item (values_count (value_trees vs))) c.args.draft.now c.put.new.self c.in_ok-put-in-Set.ensures
-    (refl, omega (arith, c.len.ensures, ap vec_len c.deref.ensures, c.in-Set.elements.value.ok.0, values_counted vs))))
+    (refl, omega (arith, c.len.ensures, ap vec_len c.deref.ensures, c.in-Set.elements.value.ok.0, values_counted vs))
+    (refl, refl)))
     (rw c.deref-in-Set.ensures at c.push_values.ensures))
 
 pub returns-in_ok-put-in-Record : goal.returns-in_ok-put-in-Record
@@ -29,5 +30,6 @@ returns-in_ok-put-in-Record c =
     c.put-in-Record.new.self c.args.pending.now.items c.push_fields.new.pending.items
     (adds_one _ (record_item (fields_count (field_trees fs))) c.args.draft.now c.put-in-Record.new.self
     c.in_ok-put-in-Record.ensures
-    (refl, c.len-in-Record.ensures.len ∙ ap btree_map_len c.deref-in-Record.ensures ∙ sym (fields_counted fs))))
+    (refl, c.len-in-Record.ensures.len ∙ ap btree_map_len c.deref-in-Record.ensures ∙ sym (fields_counted fs))
+    (refl, refl)))
     (rw c.deref-in-Record-2.ensures at c.push_fields.ensures))

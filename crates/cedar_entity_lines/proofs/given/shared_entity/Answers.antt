@@ -5,7 +5,7 @@ use Rattle.cedar_entity.specs.View.{EntityView}
 use Rattle.cedar_entity_maps.specs.Plain.{IsBare, given_of}
 use Rattle.cedar_entity_lines.proofs.given.shared_entity.Goals as goal
 
--- the entity is as it was made
+-- The shared entity is the one that was created.
 pub returns-in-Ok : goal.returns-in-Ok
 returns-in-Ok c ps is =
     let entity : set.FinSet uid_order → EntityView = λ p. record {

@@ -3,6 +3,7 @@ use Rattle.std.specs.Set.{is_member}
 use Rattle.std.proofs.lemmas.Iterator.Consumers.{YieldsList-from_first, YieldsList-end}
 use Rattle.cedar_ids.specs.UidOf.{same_uid}
 use Rattle.cedar_ids.specs.laws.UidOfLaws.{same_uid_decides}
+use Rattle.cedar_entity.specs.laws.Views.{members_of_both}
 use Rattle.cedar_entity_maps.specs.laws.Lists.{member_next}
 use Rattle.cedar_entity_maps.specs.laws.LossLaws.{and_both}
 use Rattle.cedar_entity_maps.proofs.Touched.{key_case}
@@ -30,4 +31,4 @@ returns g c q =
     c.next.ensures.steps).0 in
     c.loop-uid.invariant q ∙ ap (λ l. is_member same_uid l q && is_member same_uid keys q) whole
     ∙ and_both (is_member same_uid us q) (is_member same_uid keys q)
-    ∙ ap (λ b. is_member same_uid keys q && b) (c.shared_ancestors-uid-items.ensures q)
+    ∙ ap (λ b. is_member same_uid keys q && b) (members_of_both c.shared_ancestors-uid-items.ensures q)

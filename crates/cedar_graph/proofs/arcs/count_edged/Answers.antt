@@ -28,7 +28,6 @@ returns g c = λ nothing q b h.
     (All-weaker Q P (λ e out b edge. absurd (out b edge)) m.entries none)) q b h in
     absurd (omega (arith, slice_get_within [] n.0 n.1 n.2))
 
--- a count of none for a truth is that of a falsity
 none_counted : (b : Bool) → bool_byte b ≡ 0 → b ≡ false
 none_counted true h = absurd (omega (arith, h))
 none_counted false h = refl

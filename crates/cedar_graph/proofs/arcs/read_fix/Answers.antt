@@ -1,6 +1,8 @@
-use Rattle.std.proofs.Common.{◌≡◌, ◌<◌, ◌≤◌, arith, rules, get_or, sym, refl, subst, ◌∙◌, length, take}
+use Rattle.std.proofs.Common.{◌≡◌, ◌<◌, ◌≤◌, Some, arith, ap, rules, get_or, sym, refl, subst, ◌∙◌, length, take, inl, inr}
+use Rattle.std.specs.List.{slice_get}
+use Rattle.std.proofs.lemmas.Bool.{cases_lt}
 use Rattle.std.specs.Set.{is_member}
-use Rattle.std.proofs.lemmas.Option.{slice_get_within}
+use Rattle.std.proofs.lemmas.Option.{get_or_from_slice_get, slice_get_within}
 use Rattle.cedar_graph.specs.Graph.{graph_of}
 use Rattle.cedar_graph.specs.laws.Arcs.{IsPrefix}
 use Rattle.cedar_graph.proofs.Reaches.{graph_from, and_parts, and_from}
@@ -72,4 +74,28 @@ returns g c =
       near_fixed = rw (near_len, near_is) (λ x h.
           let n = numbered.all x h in
           member_of_got eq keys1 n.0 n.1 x (prefix_got keys0 keys1 first n.0 n.1 n.2) n.3);
+      only_near = rw (near_len) (λ i k lt got.
+          let at_i = prefix_back keys1 keys two.on.keys i k lt got in
+          elim (cases_lt i (length keys0)) [
+            | inl fixed ↦ inl (numbered.only i k (prefix_back keys0 keys1 first i k fixed at_i))
+            | inr further ↦
+                let from_start : length c.in_ok-s.s.keys.keys ≤ i = subst (λ ks. length ks.keys ≤ i)
+                (sym c.in_ok-s.ensures.0) further in
+                let t = one.on.targets i from_start lt in
+                let led = one.read.arcs in
+                let in_to = slice_get_within c.read_rows.new.s.to.items t.0 i t.1 in
+                let in_from : t.0 < length c.read_rows.new.s.from.items = omega (arith, led.same_len, in_to) in
+                let a = get_or c.read_rows.new.s.from.items t.0 0 in
+                let a_in : a < length keys0 = omega (arith, led.from_in t.0 in_from) in
+                let x = got_some keys1 a (omega (arith, a_in, first_in)) in
+                let at_to : slice_get keys1 (get_or c.read_rows.new.s.to.items t.0 0) ≡ Some k =
+                ap (slice_get keys1) (get_or_from_slice_get c.read_rows.new.s.to.items t.0 i 0 t.1) ∙ at_i in
+                inr (
+                  x.0,
+                  numbered.only a x.0 (prefix_back keys0 keys1 first a x.0 a_in x.1),
+                  led.sound t.0 x.0 k in_from x.1 at_to,
+                )
+          ]);
+      within = omega (arith, near_in, near_len);
+      reads = omega (arith, c.in_ok-s.ensures.3, one.on.reads, two.on.reads);
     }

@@ -3,6 +3,7 @@ use Rattle.std.specs.Set.{is_member}
 use Rattle.cedar_graph.specs.laws.Arcs.{AreArcsIn}
 use Rattle.cedar_graph.proofs.Members.{member_at, refs_more}
 use Rattle.cedar_graph.proofs.Keyed.{prefix_back, prefix_length, prefix_trans, row_end, arc_added}
+use Rattle.cedar_graph.proofs.Progress.{reads_arc, reads_more}
 use Rattle.cedar_graph.proofs.arcs.read_node.Goals as goal
 
 pub loop-edge-preserved : goal.loop-edge-preserved
@@ -27,10 +28,8 @@ loop-edge-preserved g c =
     let within : a < length keys = omega (arith, c.requires.within, prefix_length keys0 keys i.on.keys) in
     record {
       unique = e.unique;
-      on = record {
-        keys = prefix_trans keys0 keys after i.on.keys e.keys;
-        reads = omega (arith, i.on.reads, c.in_ok-add_arc.ensures.reads);
-      };
+      on = reads_more 1 0 c.args.s.now s c.add_arc.new.s i.on
+          (reads_arc eq a key s c.add_arc.new.s b e c.in_ok-add_arc.ensures.reads);
       counts = λ fits. omega (arith, i.counts fits, c.in_ok-add_arc.ensures.reads);
       arcs = λ G read has.
           let arcs : AreArcsIn eq G a after (s.from.items ++ a ∷ []) (s.to.items ++ b ∷ [])

@@ -1,14 +1,15 @@
 use Rattle.std.proofs.Common.{◌≡◌, ◌<◌, false, arith, sym, ap, ◌∙◌, length, slice_get, subst, Some}
 use Rattle.std.proofs.lemmas.Option.{slice_get-get_or}
 use Rattle.cedar_graph.specs.laws.Readings.{IsReadBelow, ReadsOn}
-use Rattle.cedar_graph.proofs.Keyed.{prefix_back, prefix_refl, prefix_trans}
+use Rattle.cedar_graph.proofs.Keyed.{prefix_back}
+use Rattle.cedar_graph.proofs.Progress.{reads_more, reads_none}
 use Rattle.cedar_graph.proofs.arcs.read_nodes.Goals as goal
 
 pub loop-a-init : goal.loop-a-init
 loop-a-init g c = record {
   within = omega arith;
   unique = (c.requires.fresh (λ _ _. false)).unique;
-  on = record { keys = prefix_refl c.args.s.now.keys.keys; reads = omega arith };
+  on = reads_none 0 c.args.s.now;
   counts = λ _. omega arith;
   read = λ G has. c.requires.fresh G;
 }
@@ -29,10 +30,7 @@ loop-a-preserved g c =
     record {
       within = omega arith;
       unique = e.unique;
-      on = record {
-        keys = prefix_trans keys0 keys after i.on.keys e.on.keys;
-        reads = omega (arith, i.on.reads, e.on.reads);
-      };
+      on = reads_more a 1 c.args.s.now c.loop-a.s c.read_node.new.s i.on e.on;
       counts = λ fits. omega (arith, i.counts (omega arith), e.counts (omega (arith, i.counts (omega arith))));
       read = λ G has. e.read G (i.read G has)
           (λ x q h. has a x q node (prefix_back keys0 keys i.on.keys a x within h) at_a);

@@ -7,6 +7,7 @@ use Rattle.cedar_graph.specs.laws.Readings.{IsArc}
 use Rattle.cedar_graph.proofs.Closing.{repaired_only, repaired_has}
 use Rattle.cedar_graph.proofs.Reaches.{and_parts, and_from}
 use Rattle.cedar_graph.proofs.Keyed.{member_alike}
+use Rattle.cedar_graph.proofs.Progress.{at_most_near}
 use Rattle.cedar_graph.proofs.close.repair.Goals as goal
 
 pub close_read-requires-clause-read : goal.close_read-requires-clause-read
@@ -72,6 +73,15 @@ returns-clause-ok g c =
     repaired_has g.met.K.Eq.laws g.V.TCNode.edges g.met.V.TCNode.respects_eq c.args.nodes.now
     c.close_read.new.nodes keys (IsArc s.reading) s.fixed w.ok (take s.near keys) f.same
     (contains eq c.args.fix.now) f.all f.near f.near_fixed w.stays
+
+pub returns-clause-reads : goal.returns-clause-reads
+returns-clause-reads g c =
+    let f = c.in_ok-read.ensures in
+    let s = c.in_ok-read.read in
+    let work = c.in_ok-closed.ensures.work in
+    at_most_near g.met.K.Eq.laws (contains g.K.PartialEq.eq c.args.fix.now)
+    (graph_of g.K.PartialEq.eq g.V.TCNode.edges c.args.nodes.now) s.reading.keys.keys s.near
+    c.in_ok-closed.closed.work.reads f.unique f.within (omega (arith, work.reads, f.reads)) f.only_near
 
 pub returns-clause-closings : goal.returns-clause-closings
 returns-clause-closings g c =

@@ -3,7 +3,7 @@ use Rattle.std.specs.Map.{values_of}
 use Rattle.indexmap.specs.IndexMap.{set_value_at}
 use Rattle.cedar_policy_maps.proofs.grow.share_at.Goals as goal
 
--- what is written in the place of the same value, at a place
+-- Writing the same value at an index changes nothing.
 same_at_place : {V : Type 0} (es : List (List ℕ × V)) (i : ℕ) (s w : V) → slice_get (values_of es) i ≡ Some s
     → w ≡ s → set_value_at es i w ≡ es
 same_at_place [] i s w l q = refl

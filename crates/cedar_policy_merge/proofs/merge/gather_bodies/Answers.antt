@@ -1,8 +1,9 @@
 use Rattle.std.proofs.Common.{◌≡◌, ◌++◌, ◌∷◌, [], Some, arith, sym, ap, ◌∙◌, subst}
 use Rattle.std.specs.List.{find}
+use Rattle.indexmap.specs.IndexSet.{insert_all}
+use Rattle.cedar_ids.specs.Texts.{same_text}
 use Rattle.cedar_body.specs.Bodies.{BodyParts}
 use Rattle.cedar_policy_maps.specs.PolicySets.{is_body_at}
-use Rattle.cedar_policy_merge.specs.Merge.{gathered}
 use Rattle.cedar_policy_merge.specs.laws.GatherLaws.{Bodies, Links, conflicting_bodies}
 use Rattle.cedar_policy_merge.specs.laws.GatherSteps.{gathered_body_step, listed_body_step, body_found}
 use Rattle.cedar_policy_merge.proofs.merge.gather_bodies.Goals as goal
@@ -25,7 +26,7 @@ loop-template-preserved g c =
           c.args.ids.now.keys c.loop-template.ids.keys c.gather_body.new.ids.keys (omega arith) c.template-item.is
           c.loop-template.invariant.ids
           (c.in_ok-gather_body.ensures.ids
-          ∙ ap (λ (b : BodyParts). gathered c.loop-template.ids.keys (conflicting_bodies Bodies h o (b ∷ [])))
+          ∙ ap (λ (b : BodyParts). insert_all same_text c.loop-template.ids.keys (conflicting_bodies Bodies h o (b ∷ [])))
           c.deref.ensures);
       links =
           listed_body_step Links h o ts c.loop-template.template-index c.template-item.result

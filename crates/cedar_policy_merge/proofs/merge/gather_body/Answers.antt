@@ -2,8 +2,10 @@ use Rattle.std.proofs.Common.{◌≡◌, ◌++◌, ◌∷◌, [], cond, sym, ap,
 use Rattle.std.proofs.lemmas.List.{append-nil}
 use Rattle.std.proofs.lemmas.Result.{on_ok_weaker}
 use Rattle.std.specs.List.{find}
+use Rattle.indexmap.specs.IndexSet.{insert_all}
+use Rattle.cedar_ids.specs.Texts.{same_text}
 use Rattle.cedar_policy_maps.specs.PolicySets.{is_body_at}
-use Rattle.cedar_policy_merge.specs.Merge.{has_policy, gathered, is_same_at}
+use Rattle.cedar_policy_merge.specs.Merge.{has_policy, is_same_at}
 use Rattle.cedar_policy_merge.specs.laws.GatherLaws.{looked_at, Bodies, Links}
 use Rattle.cedar_policy_merge.specs.laws.LookedAtLaws.{bodies_differ, no_body_looked, link_here, no_link_looked}
 use Rattle.cedar_policy_merge.proofs.merge.gather_body.Goals as goal
@@ -16,7 +18,7 @@ returns-in-None-clause-ids g c =
     let none : None ≡ find (is_body_at i) h.bodies = c.in-None.ensures
     ∙ ap (λ j. find (is_body_at j) h.bodies) c.id-own.ensures in
     on_ok_weaker c.list_id.result
-    (λ e j. gathered c.args.ids.now.keys (cond (no_body_looked h o i none j) (i ∷ []) []))
+    (λ e j. insert_all same_text c.args.ids.now.keys (cond (no_body_looked h o i none j) (i ∷ []) []))
     c.list_id.ensures
 
 pub returns-in-None-clause-links : goal.returns-in-None-clause-links
@@ -27,7 +29,8 @@ returns-in-None-clause-links g c =
     let none : None ≡ find (is_body_at t.id) h.bodies = c.in-None.ensures
     ∙ ap (λ j. find (is_body_at j) h.bodies) c.id-own.ensures in
     let clashes : c.has_policy.result ≡ (looked_at Links h o t.id && not (is_same_at h o t.id)) =
-    c.has_policy.ensures ∙ ap (has_policy h) c.id-own.ensures ∙ link_here h o t.id t none c.requires in
+    c.has_policy.ensures ∙ ap (has_policy h) c.id-own.ensures ∙ link_here h o t.id t c.is_empty.ensures.policy_set
+    c.is_empty-2.ensures.policy_set none c.requires in
     on_ok_weaker c.list_id.result
     (λ e. e ∙ (λ j. c.args.links.now.items ++ cond (clashes j) (c.id-own.ensures j ∷ []) []))
     c.list_id.ensures
@@ -44,7 +47,7 @@ returns-in-Some-clause-ids g c =
     c.is_other_body-clashes.ensures
     ∙ sym (bodies_differ h o t.id s t c.is_empty.ensures.policy_set c.is_empty-2.ensures.policy_set stands c.requires) in
     on_ok_weaker c.gather_id.result
-    (λ e. e ∙ (λ j. gathered c.args.ids.now.keys (cond (clashes j) (c.id-own.ensures j ∷ []) [])))
+    (λ e. e ∙ (λ j. insert_all same_text c.args.ids.now.keys (cond (clashes j) (c.id-own.ensures j ∷ []) [])))
     c.gather_id.ensures
 
 pub returns-in-Some-clause-links : goal.returns-in-Some-clause-links

@@ -1,8 +1,9 @@
 use Rattle.std.proofs.Common.{◌≡◌, ◌++◌, ◌∷◌, [], Some, cond, arith, ◌∙◌, take}
 use Rattle.std.specs.List.{find}
+use Rattle.indexmap.specs.IndexSet.{insert_all}
+use Rattle.cedar_ids.specs.Texts.{same_text}
 use Rattle.cedar_policy.specs.Policies.{policy_id}
 use Rattle.cedar_policy_maps.specs.PolicySets.{is_policy_at}
-use Rattle.cedar_policy_merge.specs.Merge.{gathered}
 use Rattle.cedar_policy_merge.specs.laws.GatherLaws.{Policies, Templates, conflicting_policies}
 use Rattle.cedar_policy_merge.specs.laws.GatherSteps.{gathered_policy_step, listed_policy_step, policy_found}
 use Rattle.cedar_policy_merge.specs.laws.LookedAtLaws.{clashes_is, lies_over_is}
@@ -36,7 +37,7 @@ loop-policy-preserved g c =
           gathered_policy_step Policies h o ps c.loop-policy.policy-index q c.args.ids.now.keys c.loop-policy.ids.keys
           c.gather_policy.new.ids.keys (omega arith) c.policy-item.is c.loop-policy.invariant.ids
           (c.in_ok-gather_policy.ensures.ids
-          ∙ (λ j. gathered c.loop-policy.ids.keys
+          ∙ (λ j. insert_all same_text c.loop-policy.ids.keys
           (cond (clashes_is h o q c.is_empty.ensures.policy_set c.is_empty-2.ensures.policy_set found j)
           (policy_id q ∷ []) [])));
       templates =
@@ -44,5 +45,6 @@ loop-policy-preserved g c =
           c.loop-policy.templates.items c.gather_policy.new.templates.items (omega arith) c.policy-item.is
           c.loop-policy.invariant.templates
           (c.in_ok-gather_policy.ensures.templates
-          ∙ (λ j. c.loop-policy.templates.items ++ cond (lies_over_is h o q found j) (policy_id q ∷ []) []));
+          ∙ (λ j. c.loop-policy.templates.items ++ cond (lies_over_is h o q c.is_empty.ensures.policy_set
+          c.is_empty-2.ensures.policy_set found j) (policy_id q ∷ []) []));
     }

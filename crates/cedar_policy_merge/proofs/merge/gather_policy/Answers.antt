@@ -2,9 +2,11 @@ use Rattle.std.proofs.Common.{◌≡◌, ◌++◌, ◌∷◌, [], cond, sym, ap,
 use Rattle.std.proofs.lemmas.List.{append-nil}
 use Rattle.std.proofs.lemmas.Result.{on_ok_weaker}
 use Rattle.std.specs.List.{find}
+use Rattle.indexmap.specs.IndexSet.{insert_all}
+use Rattle.cedar_ids.specs.Texts.{same_text}
 use Rattle.cedar_policy.specs.Policies.{policy_id}
 use Rattle.cedar_policy_maps.specs.PolicySets.{is_policy_at}
-use Rattle.cedar_policy_merge.specs.Merge.{has_body, gathered}
+use Rattle.cedar_policy_merge.specs.Merge.{has_body}
 use Rattle.cedar_policy_merge.specs.laws.LookedAtLaws.{clashes_with, clashes, lies_over, over_body, not_over}
 use Rattle.cedar_policy_merge.specs.laws.TemplatesAlike.{one_id, templates_same}
 use Rattle.cedar_policy_merge.proofs.merge.gather_policy.Goals as goal
@@ -33,7 +35,7 @@ returns-in-None-clause-ids g c =
     let none : None ≡ find (is_policy_at (policy_id q)) h.policies = c.in-None.ensures
     ∙ ap (λ j. find (is_policy_at j) h.policies) c.id-own.ensures in
     on_ok_weaker c.list_id.result
-    (λ e j. gathered c.args.ids.now.keys (cond (clashes_with (none j) q) (policy_id q ∷ []) []))
+    (λ e j. insert_all same_text c.args.ids.now.keys (cond (clashes_with (none j) q) (policy_id q ∷ []) []))
     c.list_id.ensures
 
 pub returns-in-None-clause-templates : goal.returns-in-None-clause-templates
@@ -57,7 +59,7 @@ returns-in-Some-clause-ids g c =
     let told : c.is_other_policy-clashes.result ≡ clashes h q = c.is_other_policy-clashes.ensures
     ∙ ap (λ r. clashes_with r q) stands in
     on_ok_weaker c.gather_id.result
-    (λ e. e ∙ (λ j. gathered c.args.ids.now.keys (cond (told j) (c.id-own.ensures j ∷ []) [])))
+    (λ e. e ∙ (λ j. insert_all same_text c.args.ids.now.keys (cond (told j) (c.id-own.ensures j ∷ []) [])))
     c.gather_id.ensures
 
 pub returns-in-Some-clause-templates : goal.returns-in-Some-clause-templates

@@ -16,7 +16,7 @@ pub returns : goal.returns
 returns g c = record {
   merges = search (rules, once_free, none_bound_of, numbers_below);
   differ =
-      conflicts_differ c.args.here.now c.args.other.now c.is_empty.ensures.policy_set c.is_empty-2.ensures.policy_set;
+      conflicts_differ c.args.here.now c.args.other.now;
   apart = search (rules, once_free, none_bound_of, numbers_below);
   unbound = search (rules, once_free, none_bound_of, numbers_below);
   below = search (rules, once_free, none_bound_of, numbers_below);
@@ -26,7 +26,7 @@ pub returns-in-Some : goal.returns-in-Some
 returns-in-Some g c = record {
   merges = search rules;
   differ =
-      conflicts_differ c.args.here.now c.args.other.now c.is_empty.ensures.policy_set c.is_empty-2.ensures.policy_set;
+      conflicts_differ c.args.here.now c.args.other.now;
   apart = search rules;
   unbound = search rules;
   below = search rules;
@@ -36,7 +36,7 @@ pub returns-in_err-clone : goal.returns-in_err-clone
 returns-in_err-clone g c = record {
   merges = search rules;
   differ =
-      conflicts_differ c.args.here.now c.args.other.now c.is_empty.ensures.policy_set c.is_empty-2.ensures.policy_set;
+      conflicts_differ c.args.here.now c.args.other.now;
   apart = search rules;
   unbound = search rules;
   below = search rules;
@@ -46,7 +46,7 @@ pub returns-in_err-ids : goal.returns-in_err-ids
 returns-in_err-ids g c = record {
   merges = search rules;
   differ =
-      conflicts_differ c.args.here.now c.args.other.now c.is_empty.ensures.policy_set c.is_empty-2.ensures.policy_set;
+      conflicts_differ c.args.here.now c.args.other.now;
   apart = search rules;
   unbound = search rules;
   below = search rules;
@@ -56,7 +56,7 @@ pub returns-in_err-renaming : goal.returns-in_err-renaming
 returns-in_err-renaming g c = record {
   merges = search rules;
   differ =
-      conflicts_differ c.args.here.now c.args.other.now c.is_empty.ensures.policy_set c.is_empty-2.ensures.policy_set;
+      conflicts_differ c.args.here.now c.args.other.now;
   apart = search rules;
   unbound = search rules;
   below = search rules;
@@ -66,7 +66,7 @@ pub returns-in_err-put_merged : goal.returns-in_err-put_merged
 returns-in_err-put_merged g c = record {
   merges = search rules;
   differ =
-      conflicts_differ c.args.here.now c.args.other.now c.is_empty.ensures.policy_set c.is_empty-2.ensures.policy_set;
+      conflicts_differ c.args.here.now c.args.other.now;
   apart = search rules;
   unbound = search rules;
   below = search rules;

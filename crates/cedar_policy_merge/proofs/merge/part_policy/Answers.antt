@@ -11,12 +11,12 @@ use Rattle.cedar_policy_merge.specs.laws.MergeLaws.{policy_new}
 use Rattle.cedar_policy_merge.specs.laws.RenamingLaws.{AreFreeHere, first_of, second_of}
 use Rattle.cedar_policy_merge.proofs.merge.part_policy.Goals as goal
 
--- what was looked up under a policy's id is no id that is bound here
+-- This set does not use the new id of a policy.
 free_here : (h : SetParts) (r : List (List ℕ × List ℕ)) (p : PolicyParts) (i : List ℕ) (o : Option (List ℕ))
     → AreFreeHere h r → i ≡ policy_id p → o ≡ lookup (same_text i) r → IfSome o (λ v. is_bound h v ≡ false)
 free_here h r p i o a e l = subst (λ (o : Option (List ℕ)). IfSome o (λ v. is_bound h v ≡ false)) (sym l) (a i)
 
--- the id that a policy gets
+-- The id of a renamed policy.
 got : (r : List (List ℕ × List ℕ)) (p : PolicyParts) (i j : List ℕ) (o : Option (List ℕ)) → i ≡ policy_id p
     → j ≡ policy_id p → o ≡ lookup (same_text i) r → unwrap_or o j ≡ policy_id (renamed_policy (new_id r) p)
 got r p i j o e k l =

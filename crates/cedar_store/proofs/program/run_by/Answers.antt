@@ -7,7 +7,7 @@ use Rattle.std.specs.Result.{IfOk, MatchResult, is_ok}
 use Rattle.cedar_store.specs.Output.{IsOutput}
 use Rattle.cedar_store.proofs.program.run_by.Goals as goal
 
--- what holds of a value holds of it where only the errors are mapped
+-- A property of a value stays true if only errors are mapped.
 kept : {T E D : Type 0} (P : T → Type 0) (Q : E → Type 0) (r : Result T E) (m : Result T D) (x : T)
     → MatchResult r (λ y. m ≡ Ok y) Q → is_ok m ≡ is_ok r → IfOk r P → m ≡ Ok x → P x
 kept P Q (Ok y) m x h v p is = IfOk-at_ok P (sym h ∙ is) p

@@ -10,8 +10,14 @@ known_plain_with-requires g c = λ W p. (
       c.in_ok-held.ensures c.partial_as-copy.ensures)) p,
 )
 
-pub returns : goal.returns
-returns g c =
+pub returns-clause-value : goal.returns-clause-value
+returns-clause-value g c =
     c.known_plain_with.ensures
     ∙ as_partial c.args.store.now c.in_ok-held.held c.partial_as-copy.result c.in_ok-held.ensures
     c.partial_as-copy.ensures
+
+pub returns-clause-plain : goal.returns-clause-plain
+returns-clause-plain g c = λ W p.
+    subst (IsPlainStore W) (sym (c.known_plain_with.ensures
+    ∙ as_partial c.args.store.now c.in_ok-held.held c.partial_as-copy.result c.in_ok-held.ensures
+    c.partial_as-copy.ensures)) p

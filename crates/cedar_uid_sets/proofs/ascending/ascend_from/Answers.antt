@@ -1,4 +1,4 @@
-use Rattle.std.proofs.Common.{◌≡◌, true, false, sym, subst, refl, ◌∙◌, arith, length}
+use Rattle.std.proofs.Common.{◌≡◌, true, false, ap, sym, subst, refl, ◌∙◌, arith, length}
 use Rattle.std.specs.Ordering.{is_lt}
 use Rattle.std.proofs.lemmas.Bool.{false≢true}
 use Rattle.cedar_ids.specs.UidOf.{uid_order}
@@ -16,16 +16,17 @@ loop-at-init c = record {
 pub overflow_sub-at : goal.overflow_sub-at
 overflow_sub-at c = c.loop-at.invariant.some
 
-pub returns-then-not-is_less : goal.returns-then-not-is_less
-returns-then-not-is_less c =
+pub returns-then-not-is_lt : goal.returns-then-not-is_lt
+returns-then-not-is_lt c =
     let us = c.args.uids.now in
     let one = c.index-uids-at.result in
     let next = c.index-uids-at-in-loop-at.result in
-    let told : is_lt (uid_order one next) ≡ false = (λ i. is_lt (uid_order (sym c.key.ensures i)
-    (sym c.key-in-loop-at.ensures i))) ∙ sym c.is_less.ensures ∙ c.if-not-is_less.true in (
+    let order : uid_order one next ≡ c.order_of.result = (λ i. uid_order (sym c.key.ensures i)
+    (sym c.key-in-loop-at.ensures i)) ∙ sym c.order_of.ensures in
+    let not_less : is_lt (uid_order one next) ≡ false = ap is_lt order ∙ sym c.is_lt.ensures ∙ c.if-not-is_lt.true in (
       λ h. absurd (false≢true h),
       λ s. absurd (not_there us one next c.loop-at.at c.loop-at.invariant.some c.loop-at-test.true c.index-uids-at.is
-          c.index-uids-at-in-loop-at.is told s),
+          c.index-uids-at-in-loop-at.is not_less s),
     )
 
 pub loop-at-preserved : goal.loop-at-preserved
@@ -34,13 +35,14 @@ loop-at-preserved c =
     let one = c.index-uids-at.result in
     let next = c.index-uids-at-in-loop-at.result in
     let run = c.run_end-at.ensures in
-    let told : is_lt (uid_order one next) ≡ true = (λ i. is_lt (uid_order (sym c.key.ensures i)
-    (sym c.key-in-loop-at.ensures i))) ∙ sym c.is_less.ensures ∙ c.if-not-is_less.false in
+    let order : uid_order one next ≡ c.order_of.result = (λ i. uid_order (sym c.key.ensures i)
+    (sym c.key-in-loop-at.ensures i)) ∙ sym c.order_of.ensures in
+    let less : is_lt (uid_order one next) ≡ true = ap is_lt order ∙ sym c.is_lt.ensures ∙ c.if-not-is_lt.false in
     record {
       some = omega (arith, run.after);
       within = run.within;
       rises = rises_both us one next c.loop-at.at c.run_end-at.result c.loop-at.invariant.some c.loop-at-test.true
-          c.index-uids-at.is c.index-uids-at-in-loop-at.is told c.loop-at.invariant.rises run.rises;
+          c.index-uids-at.is c.index-uids-at-in-loop-at.is less c.loop-at.invariant.rises run.rises;
     }
 
 pub returns : goal.returns

@@ -15,7 +15,7 @@ returns-then-one-other c =
     ]
     ∙ λ i. same_uid (c.one.view_is i) (c.other.view_is i)
 
--- the names are one, so the eids tell
+-- The names are equal, so the eids decide.
 pub returns : goal.returns
 returns c =
     c.have_one_eid.ensures

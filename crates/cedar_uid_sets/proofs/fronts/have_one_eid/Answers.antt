@@ -1,10 +1,10 @@
-use Rattle.std.specs.Prelude.{◌≡◌, ◌≤◌, length, nat_eq, slice_index, List, ℕ}
-use Rattle.std.proofs.Common.{ap, sym, subst, ◌∙◌}
+use Rattle.std.specs.Prelude.{◌≡◌, ◌≤◌, length, nat_eq, List, ℕ}
+use Rattle.std.proofs.Common.{subst, ◌∙◌}
 use Rattle.cedar_ids.specs.UidOf.{uid_parts}
 use Rattle.cedar_uid_sets.proofs.Abbreviations.{lengths_tell}
 use Rattle.cedar_uid_sets.proofs.fronts.have_one_eid.Goals as goal
 
--- eids of at most eight bytes that begin alike are the same where they are of one length
+-- Eids of at most eight bytes with the same front are equal if their lengths are.
 pub returns-then-one-le8 : goal.returns-then-one-le8
 returns-then-one-le8 c =
     let one : c.as_ref-one.result.now ≡ (uid_parts c.args.one.now).eid = c.as_ref-one.ensures ∙ c.eid.ensures in

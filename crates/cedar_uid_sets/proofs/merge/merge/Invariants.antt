@@ -4,7 +4,7 @@ use Rattle.std.specs.VecDeque.{deque_len}
 use Rattle.cedar_uid_sets.specs.laws.Merged.{merged}
 use Rattle.cedar_uid_sets.proofs.merge.merge.Given as goal
 
--- what is left to merge goes after what is merged, and there is room for it
+-- The rest of the merge is appended to the merged uids, and there is capacity for it.
 abbrev pub invariant-loop-shared : goal.invariant-loop-shared
 invariant-loop-shared l =
     (l.to.items ++ merged l.left.items l.right.items ≡ merged l.fn.left.items l.fn.right.items)

@@ -4,7 +4,7 @@ use Rattle.cedar_ids.specs.UidOf.{uid_order}
 use Rattle.cedar_uid_sets.proofs.Search.{searched}
 use Rattle.cedar_uid_sets.proofs.order.place.Goals as goal
 
--- the closure compares what is shared with the uid
+-- The closure compares a shared uid with the uid to look up.
 pub returns : goal.returns
 returns c =
     let by_uid = c.binary_search_by.ensures.position

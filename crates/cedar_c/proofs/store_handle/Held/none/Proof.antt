@@ -1,4 +1,4 @@
--- `none` makes a handle of the null pointer, which owns nothing.
+-- `none` creates a value with the null pointer, which owns nothing.
 use mathlib.Core.Path.{refl, sym, subst}
 use mathlib.Core.List.{List, [], ◌∷◌, ◌++◌}
 use lib.Dec.{lit<}

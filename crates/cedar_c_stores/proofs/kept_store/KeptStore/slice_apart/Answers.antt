@@ -7,7 +7,7 @@ use Rattle.cedar_c_stores.specs.Stores.{Copies, IsSlice, SlicesAt}
 use Rattle.cedar_c_stores.specs.declared.kept_store.KeptStore.{KeptStore}
 use Rattle.cedar_c_stores.proofs.kept_store.KeptStore.slice_apart.Goals as goal
 
--- a copy of a slice is that slice
+-- A copy of a slice is a slice.
 copied_slice : {B H : Type 0} (text : List ℕ) (spans : List Span) (S : StoreView) (part : KeptStore B H)
     → SlicesAt text spans S (Ok part) → (r : Result (KeptStore B H) Reason) → Copies part.store r → SlicesAt text spans S r
 copied_slice text spans S part (U, read, slice, untold) (Ok k) (same, new) =

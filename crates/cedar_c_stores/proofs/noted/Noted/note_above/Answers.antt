@@ -8,8 +8,8 @@ use Rattle.cedar_c_stores.proofs.noted.Noted.note_above.Goals as goal
 pub returns-in_err-row : goal.returns-in_err-row
 returns-in_err-row g c S u read held a = noted_stays S c.args.self.now _ c.row_of.ensures.keeps refl refl a
 
-pub returns-in_err-text : goal.returns-in_err-text
-returns-in_err-text g c S u read held a = noted_stays S c.args.self.now _ c.row_of.ensures.keeps refl refl a
+pub returns-in_err-key : goal.returns-in_err-key
+returns-in_err-key g c S u read held a = noted_stays S c.args.self.now _ c.row_of.ensures.keeps refl refl a
 
 pub returns-in_err-insert : goal.returns-in_err-insert
 returns-in_err-insert g c S u read held a =
@@ -20,10 +20,10 @@ returns g c S u read held a =
     let before = noted_stays S c.args.self.now record c.args.self.now { numbers = c.row_of.new.numbers } c.row_of.ensures.keeps refl refl a in
     record {
       distinct = before.distinct;
-      above = noted_put c.args.self.now.above c.insert.new.self c.in_ok-text.text c.in_ok-row.row
+      above = noted_put c.args.self.now.above c.insert.new.self c.in_ok-key.key c.in_ok-row.row
           c.in_ok-insert.ensures.updates
           (λ t o. IfSome o (λ p. IfSome p (λ row. IsRowAt S c.row_of.new.numbers t row.items)))
-          (some_then _ _ (λ row r. (u, c.args.entity.now, subst (IsReadOf u) (sym c.in_ok-text.ensures.items) read, held, r)) c.in_ok-row.row c.in_ok-row.ensures.row)
+          (some_then _ _ (λ row r. (u, c.args.entity.now, subst (IsReadOf u) (sym c.in_ok-key.ensures.items) read, held, r)) c.in_ok-row.row c.in_ok-row.ensures.row)
           before.above;
       names = before.names;
     }

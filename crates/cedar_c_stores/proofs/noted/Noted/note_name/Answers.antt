@@ -5,8 +5,8 @@ use Rattle.std.specs.Option.{IfSome}
 use Rattle.cedar_c_stores.specs.Noted.{IsNamed}
 use Rattle.cedar_c_stores.proofs.noted.Noted.note_name.Goals as goal
 
-pub returns-in_err-text : goal.returns-in_err-text
-returns-in_err-text g c S read a =
+pub returns-in_err-key : goal.returns-in_err-key
+returns-in_err-key g c S read a =
     noted_stays S c.args.self.now _
     (keeps_with c.args.self.now.numbers c.number_of.new.self c.args.uid c.in_ok-number.ensures.uids
     c.in_ok-number.ensures.number.1) refl refl a
@@ -26,11 +26,11 @@ returns g c S read a =
     record {
       distinct = before.distinct;
       above = before.above;
-      names = noted_put c.args.self.now.names c.insert.new.self c.in_ok-text.text c.in_ok-number.number
+      names = noted_put c.args.self.now.names c.insert.new.self c.in_ok-key.key c.in_ok-number.number
           c.in_ok-insert.ensures.updates (λ t o. IfSome o (IsNamed us t)) (
             c.args.uid,
             c.in_ok-number.ensures.number.0,
-            subst (IsReadOf c.args.uid) (sym c.in_ok-text.ensures.items) read,
+            subst (IsReadOf c.args.uid) (sym c.in_ok-key.ensures.items) read,
           )
           before.names;
     }

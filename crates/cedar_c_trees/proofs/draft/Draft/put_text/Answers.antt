@@ -8,4 +8,4 @@ returns c =
     c.push.new.self.items c.end_of-start.result c.end_of-end.result _ c.args.self.now c.self.view_is c.utf8.text
     c.end_of-start.ensures
     (c.in_ok-extend_from_slice.ensures.items ∙ ap (λ l. c.self.inside.bytes.items ++ l) c.as_bytes.ensures.value)
-    c.end_of-end.ensures c.in_ok-push.ensures.items refl
+    c.end_of-end.ensures c.in_ok-push.ensures.items refl refl

@@ -29,4 +29,4 @@ returns g c p q =
     c.in-None.is c.next.ensures.steps).0 in
     c.loop-parent.invariant p q ∙ ap (λ l. old || (is_member same_uid l p && child)) whole
     ∙ ap (λ b. old || b) (and_comm (is_member same_uid parents p) child)
-    ∙ ap (λ b. old || (child && b)) (c.shared_parents-parent-items.ensures p)
+    ∙ ap (λ b. old || (child && b)) (c.shared_parents-parent-items.ensures.lists.members p)

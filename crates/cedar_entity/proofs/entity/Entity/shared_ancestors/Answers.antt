@@ -1,14 +1,24 @@
-use Rattle.std.proofs.Common.{ap, ◌∙◌, List}
-use Rattle.std.specs.Set.{is_member}
-use Rattle.cedar_ids.specs.UidOf.{same_uid}
-use Rattle.cedar_ids.specs.declared.entity.EntityUID.{EntityUID}
-use Rattle.cedar_entity.specs.View.{EntityView, has_ancestor}
-use Rattle.cedar_entity.proofs.UidSteps.{both_listed}
+use Rattle.std.proofs.Common.{ap, sym, subst, ◌∙◌}
+use Rattle.std.specs.FinSet as set
+use Rattle.cedar_uid_sets.specs.UidSets.{UidValues}
+use Rattle.cedar_uid_sets.specs.laws.Sets.{contains_listed}
+use Rattle.cedar_entity.specs.Listing.{ListsAncestors}
+use Rattle.cedar_entity.specs.View.{EntityView}
+use Rattle.cedar_entity.proofs.UidSteps.{lists_ascending}
 use Rattle.cedar_entity.proofs.entity.Entity.shared_ancestors.Goals as goal
 
 pub returns : goal.returns
-returns c q =
-    ap (λ (us : List EntityUID). is_member same_uid us q) c.of.ensures
-    ∙ both_listed c.pointers.result.now c.pointers-2.result.now c.self.inside.parents c.self.inside.indirect_ancestors
-    c.pointers.ensures.all c.pointers-2.ensures.all q
-    ∙ ap (λ (e : EntityView). has_ancestor e q) c.self.view_is
+returns c =
+    let us = c.pointers.result.now in
+    let vs = c.pointers-2.result.now in
+    subst (λ (e : EntityView). ListsAncestors e c.of.result) c.self.view_is (record {
+      first = us;
+      others = vs;
+      in_turn = c.of.ensures;
+      parents = lists_ascending c.self.inside.parents us (λ q. sym (contains_listed us q)
+          ∙ ap (λ (s : UidValues). set.contains s q) c.pointers.ensures.all) c.pointers.ensures.ascending;
+      indirect = lists_ascending c.self.inside.indirect_ancestors vs (λ q. sym (contains_listed vs q)
+          ∙ ap (λ (s : UidValues). set.contains s q) c.pointers-2.ensures.all) c.pointers-2.ensures.ascending;
+      parents_ascend = c.pointers.ensures.ascending;
+      indirect_ascend = c.pointers-2.ensures.ascending;
+    })

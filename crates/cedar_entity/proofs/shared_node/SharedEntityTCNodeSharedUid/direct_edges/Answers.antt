@@ -12,6 +12,6 @@ returns c =
     record {
       exact = IfOk-weaker c.listed_pointers.result _ _
           (λ v h q. ap (λ (l : List EntityUID). is_member same_uid l q) h
-          ∙ c.shared_parents.ensures q ∙ ap (λ (e : EntityView). set.contains e.parents q) c.deref.ensures)
+          ∙ c.shared_parents.ensures.lists.members q ∙ ap (λ (e : EntityView). set.contains e.parents q) c.deref.ensures)
           c.listed_pointers.ensures;
     }

@@ -5,7 +5,7 @@ use Rattle.cedar_entity_maps.specs.laws.Held.{held_map}
 use Rattle.cedar_entity_maps.specs.laws.Indexes.{IsIndexOf}
 use Rattle.cedar_refused_entities_tests.proofs.tests.steps.touched.Goals as goal
 
--- of an index that knows nothing all that it says is so
+-- An index without information is right.
 pub returns : goal.returns
 returns c =
     c.touched_by.ensures.ok (held_map c.args.map.now)

@@ -6,7 +6,8 @@ use Rattle.cedar_entity_lines.specs.EntityCommand.{Ent}
 use Rattle.cedar_store.specs.Command.{Entity, Policy}
 use Rattle.cedar_store.specs.Sessions.{SessionView, StandsAt}
 use Rattle.cedar_store.specs.laws.Sessions.{TakesKind}
-use Rattle.cedar_store.proofs.Joined.{entity_takes, line_taken, line_left, nothing_taken, none_of_line}
+use Rattle.cedar_store.proofs.Joined.{entity_takes, line_taken, line_left, nothing_taken, none_of_ent}
+use Rattle.cedar_store.proofs.Joined.{none_of_line}
 use Rattle.cedar_store.proofs.session.Session.take_fields_of.Goals as goal
 
 pub returns-then-is_empty : goal.returns-then-is_empty
@@ -51,17 +52,39 @@ returns-then-on_store g c s h =
     let i = c.self.inside in
     let text : c.in_ok-is_text.is_text ≡ true = c.if-not-is_text.false in
     let readable : list_all is_line_byte c.args.line.now ≡ true = sym c.in_ok-is_text.ensures.readable ∙ text in
-    let same : map (λ f. f.now) c.deref-3.result.now ≡ slice_split (λ b. b == 9) c.args.line.now =
-    ap (map (λ f. f.now)) c.deref-3.ensures.value ∙ c.in_ok-is_text.ensures.fields text in
+    let same : map (λ f. f.now) c.deref-4.result.now ≡ slice_split (λ b. b == 9) c.args.line.now =
+    ap (map (λ f. f.now)) c.deref-4.ensures.value ∙ c.in_ok-is_text.ensures.fields text in
     let left = (rw c.if-waits.false at c.in_ok-waits.ensures).1 in
     let is = subst (λ m. StandsAt (record { entities = m; policy_sets = i.sets; is_lost = i.is_lost }) s) (sym left)
     (subst (λ v. StandsAt v s) (sym c.self.view_is) h) in
     let none = rw c.if-on_sets.false at (c.in_ok-on_sets.ensures s is) in
     let took = rw c.if-on_store.true at (c.in_ok-on_store.ensures s none.1) in
-    line_taken Entity c.args.line.now (map (λ f. f.now) c.deref-3.result.now) s _ c.args.out.now.items _ readable same
+    line_taken Entity c.args.line.now (map (λ f. f.now) c.deref-4.result.now) s _ c.args.out.now.items _ readable same
     (subst
-    (λ o. TakesKind Entity true (map (λ f. f.now) c.deref-3.result.now) s c.take_on_store.new.self o
+    (λ o. TakesKind Entity true (map (λ f. f.now) c.deref-4.result.now) s c.take_on_store.new.self o
     c.take_on_store.new.out.items) none.2 took)
+
+pub returns-then-begins_with_ent : goal.returns-then-begins_with_ent
+returns-then-begins_with_ent g c s h =
+    let i = c.self.inside in
+    let text : c.in_ok-is_text.is_text ≡ true = c.if-not-is_text.false in
+    let line = c.args.line.now in
+    let same-1 : map (λ f. f.now) c.deref.result.now ≡ slice_split (λ b. b == 9) line =
+    ap (map (λ f. f.now)) c.deref.ensures.value ∙ c.in_ok-is_text.ensures.fields text in
+    let same-2 : map (λ f. f.now) c.deref-2.result.now ≡ slice_split (λ b. b == 9) line =
+    ap (map (λ f. f.now)) c.deref-2.ensures.value ∙ c.in_ok-is_text.ensures.fields text in
+    let same-3 : map (λ f. f.now) c.deref-3.result.now ≡ slice_split (λ b. b == 9) line =
+    ap (map (λ f. f.now)) c.deref-3.ensures.value ∙ c.in_ok-is_text.ensures.fields text in
+    let no_ent = rw c.if-waits.false at c.in_ok-waits.ensures in
+    let is = subst (λ m. StandsAt (record { entities = m; policy_sets = i.sets; is_lost = i.is_lost }) s) (sym no_ent.1)
+    (subst (λ v. StandsAt v s) (sym c.self.view_is) h) in
+    let none = rw c.if-on_sets.false at (c.in_ok-on_sets.ensures s is) in
+    line_left line s _ c.args.out.now.items _ (λ e. false≢true (sym c.if-is_empty.false ∙ c.is_empty.ensures ∙ ap (λ l.
+    length l == 0) e))
+    (none_of_ent line (map (λ f. f.now) c.deref.result.now) (map (λ f. f.now) c.deref-3.result.now) same-1 same-3
+    (sym c.begins_with_ent.ensures ∙ c.if-begins_with_ent.true) no_ent.0)
+    (none_of_line Policy line (map (λ f. f.now) c.deref-2.result.now) same-2 none.0)
+    none.1 none.2
 
 pub returns : goal.returns
 returns g c s h =
@@ -70,8 +93,8 @@ returns g c s h =
     let line = c.args.line.now in
     let same-2 : map (λ f. f.now) c.deref-2.result.now ≡ slice_split (λ b. b == 9) line =
     ap (map (λ f. f.now)) c.deref-2.ensures.value ∙ c.in_ok-is_text.ensures.fields text in
-    let same-3 : map (λ f. f.now) c.deref-3.result.now ≡ slice_split (λ b. b == 9) line =
-    ap (map (λ f. f.now)) c.deref-3.ensures.value ∙ c.in_ok-is_text.ensures.fields text in
+    let same-4 : map (λ f. f.now) c.deref-4.result.now ≡ slice_split (λ b. b == 9) line =
+    ap (map (λ f. f.now)) c.deref-4.ensures.value ∙ c.in_ok-is_text.ensures.fields text in
     let left = (rw c.if-waits.false at c.in_ok-waits.ensures).1 in
     let is = subst (λ m. StandsAt (record { entities = m; policy_sets = i.sets; is_lost = i.is_lost }) s) (sym left)
     (subst (λ v. StandsAt v s) (sym c.self.view_is) h) in
@@ -79,6 +102,6 @@ returns g c s h =
     let more = rw c.if-on_store.false at (c.in_ok-on_store.ensures s none.1) in
     line_left line s _ c.args.out.now.items _ (λ e. false≢true (sym c.if-is_empty.false ∙ c.is_empty.ensures ∙ ap (λ l.
     length l == 0) e))
-    (none_of_line Entity line (map (λ f. f.now) c.deref-3.result.now) same-3 more.0)
+    (none_of_line Entity line (map (λ f. f.now) c.deref-4.result.now) same-4 more.0)
     (none_of_line Policy line (map (λ f. f.now) c.deref-2.result.now) same-2 none.0)
     more.1 (more.2 ∙ none.2)

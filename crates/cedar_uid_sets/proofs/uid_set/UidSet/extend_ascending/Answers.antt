@@ -2,15 +2,15 @@ use Rattle.std.proofs.Common.{rules}
 use Rattle.cedar_uid_sets.proofs.Merging.{ascend_merged, set_merged, union_none, union_with_none}
 use Rattle.cedar_uid_sets.proofs.uid_set.UidSet.extend_ascending.Goals as goal
 
--- the set was empty
+-- The set was empty.
 pub returns-then-is_empty-clause-ok : goal.returns-then-is_empty-clause-ok
 returns-then-is_empty-clause-ok c = union_none c.args.self.now _ (c.is_empty.ensures.0 c.if-is_empty.true)
 
--- there is nothing to put in
+-- There is nothing to insert.
 pub returns-then-is_empty-2-clause-ok : goal.returns-then-is_empty-2-clause-ok
 returns-then-is_empty-2-clause-ok c = union_with_none c.args.self.now c.args.uids.items (search rules)
 
--- both were merged
+-- Both were merged.
 pub invariant_of-self-2 : goal.invariant_of-self-2
 invariant_of-self-2 c =
     rw (c.merge.ensures, c.replace-before.ensures.value) (ascend_merged _ _ c.requires c.self.invariant)

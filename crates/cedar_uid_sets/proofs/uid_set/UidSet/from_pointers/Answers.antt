@@ -3,7 +3,7 @@ use Rattle.std.proofs.lemmas.Result.{IfOk-weaker}
 use Rattle.cedar_uid_sets.proofs.Sorting.{set_sorted}
 use Rattle.cedar_uid_sets.proofs.uid_set.UidSet.from_pointers.Goals as goal
 
--- a sort keeps the set
+-- Sorting does not change the set.
 pub returns : goal.returns
 returns c = IfOk-weaker c.gathered.result _ _
     (λ s h. h ∙ set_sorted c.args.uids.items _ c.sort_unstable.ensures.permutation) c.gathered.ensures

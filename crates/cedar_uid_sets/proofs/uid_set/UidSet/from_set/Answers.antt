@@ -3,7 +3,7 @@ use Rattle.std.specs.List.Sorted.{IsPermutation}
 use Rattle.cedar_uid_sets.proofs.Sorting.{ascend_sorted, set_sorted}
 use Rattle.cedar_uid_sets.proofs.uid_set.UidSet.from_set.Goals as goal
 
--- no two were equal, and they are sorted
+-- The uids were distinct, and they are sorted.
 pub from_ascending-requires : goal.from_ascending-requires
 from_ascending-requires g c =
     let moved =
@@ -11,7 +11,7 @@ from_ascending-requires g c =
     c.in_ok-sort.ensures.permutation in
     ascend_sorted c.args.uids.keys _ c.shared.ensures.once moved c.in_ok-sort.ensures.sorted
 
--- a sort keeps the set
+-- Sorting does not change the set.
 pub returns : goal.returns
 returns g c =
     let moved =

@@ -2,7 +2,7 @@ use Rattle.std.proofs.Common.{sym, ◌∙◌}
 use Rattle.cedar_uid_sets.specs.laws.Sets.{contains_listed}
 use Rattle.cedar_uid_sets.proofs.uid_set.UidSet.holds.Goals as goal
 
--- numbers that none has tell that the uid is not there
+-- If no uid has these numbers, the uid is not in the set.
 pub returns-else-may_be_among : goal.returns-else-may_be_among
 returns-else-may_be_among c = c.if-may_be_among.false ∙ sym (c.may_be_among.ensures c.if-may_be_among.false)
     ∙ sym (rw (← c.self.view_is, ← c.deref.ensures.value, c.key.ensures) (contains_listed _ c.args.shared.now))

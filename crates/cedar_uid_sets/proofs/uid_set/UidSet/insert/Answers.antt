@@ -1,13 +1,13 @@
 use Rattle.cedar_uid_sets.proofs.Edits.{present, sorted_insert, set_insert, set_insert_present}
 use Rattle.cedar_uid_sets.proofs.uid_set.UidSet.insert.Goals as goal
 
--- it was there
+-- The set contained the uid.
 pub returns-in-Ok-clause-ok : goal.returns-in-Ok-clause-ok
 returns-in-Ok-clause-ok c =
     set_insert_present _ _
     (rw (← c.self.view_is, ← c.deref.ensures.value, ← c.key.ensures) (present _ _ _ c.in-Ok.ensures))
 
--- it went into its gap
+-- The uid was inserted at its gap.
 pub invariant_of-self-in-Err : goal.invariant_of-self-in-Err
 invariant_of-self-in-Err c =
     rw c.in_ok-insert-in-Err.ensures.items

@@ -6,7 +6,7 @@ use Rattle.cedar_ids.specs.UidOf.{uid_order}
 use Rattle.cedar_uid_sets.proofs.Filtered.{is_other, set_difference}
 use Rattle.cedar_uid_sets.proofs.uid_set.UidSet.keep_others.Goals as goal
 
--- a filter keeps the order
+-- A filter does not change the order.
 pub invariant_of-self : goal.invariant_of-self
 invariant_of-self c =
     rw (filter_same _ (is_other c.args.others.now) _ (λ x b f' k. search rules) _ _ c.retain.ensures.filtered)

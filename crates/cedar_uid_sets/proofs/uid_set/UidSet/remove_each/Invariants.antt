@@ -2,6 +2,6 @@ use Rattle.std.specs.Prelude.{◌≡◌, take}
 use Rattle.std.specs.FinSet as set
 use Rattle.cedar_uid_sets.proofs.uid_set.UidSet.remove_each.Given as goal
 
--- the uids so far are out
+-- The uids before the index were removed.
 abbrev pub invariant-loop-shared : goal.invariant-loop-shared
 invariant-loop-shared l = l.self ≡ set.difference l.initial.self (set.from_list (take l.shared-index l.uids))

@@ -1,7 +1,7 @@
 use Rattle.cedar_uid_sets.proofs.Edits.{absent, sorted_remove, set_remove, set_remove_absent}
 use Rattle.cedar_uid_sets.proofs.uid_set.UidSet.remove_key.Goals as goal
 
--- it goes from its place
+-- The uid is removed from its position.
 pub invariant_of-self : goal.invariant_of-self
 invariant_of-self c = rw c.remove.ensures.items (sorted_remove _ _ c.self.invariant)
 
@@ -11,7 +11,7 @@ returns-in-Ok c =
     (set_remove (c.self.inside.uids.items) c.in-Ok.at c.args.uid.now c.self.invariant
     (rw (← c.deref.ensures.value) c.in-Ok.ensures))
 
--- it was not there
+-- The set did not contain the uid.
 pub returns-in_default : goal.returns-in_default
 returns-in_default c =
     set_remove_absent _ _ (rw (← c.self.view_is, ← c.deref.ensures.value) (absent _ _ _ c.in_default.ensures))

@@ -2,7 +2,7 @@ use Rattle.std.proofs.Common.{refl}
 use Rattle.cedar_uid_sets.proofs.Filtered.{ascend_chosen}
 use Rattle.cedar_uid_sets.proofs.uid_set.UidSet.retain.Goals as goal
 
--- what stays was chosen from uids that ascend
+-- The remaining uids are a selection of ascending uids.
 pub invariant_of-self : goal.invariant_of-self
 invariant_of-self g c =
     rw c.retain.ensures.filtered.4 (ascend_chosen c.retain.ensures.filtered.0 c.self.inside.uids.items c.self.invariant)

@@ -8,7 +8,7 @@ use Rattle.cedar_uid_sets.specs.laws.Sets.{same_uids_decides}
 use Rattle.cedar_uid_sets.proofs.Same.{one_listing}
 use Rattle.cedar_uid_sets.proofs.uid_set.UidSetPartialEq.eq.Goals as goal
 
--- the lists are the same where the sets are
+-- The lists are equal if and only if the sets are.
 pub returns : goal.returns
 returns c =
     let lists =
