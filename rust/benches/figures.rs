@@ -1,4 +1,5 @@
-//! What calls take, in time: `cargo bench`. Each figure is the least of several runs, on one thread but where it says more.
+//! Measures the time of calls: `cargo bench`. Each figure is the shortest of several runs, on one thread unless the
+//! label says otherwise.
 use cedar_store::ast::{
     ActionConstraint, Annotations, Effect, Entity, EntityUID, PolicyID, PolicySet, PrincipalConstraint,
     ResourceConstraint, SlotEnv, SlotId, Template,
@@ -14,7 +15,7 @@ const SIZE: usize = 100_000;
 const FAN: usize = 8;
 
 fn node(number: usize) -> EntityUID {
-    EntityUID::with_eid_and_type("Node", &format!("n{number}")).expect("a type's name")
+    EntityUID::with_eid_and_type("Node", &format!("n{number}")).expect("a valid entity type")
 }
 
 fn entity(number: usize, parent: Option<usize>) -> Entity {
@@ -35,7 +36,7 @@ fn built(size: usize) -> Entities {
     Entities::from_entities(tree(size), TCComputation::ComputeNow).expect("no cycle")
 }
 
-/// Prints the least time of some runs, each over what is made for it, for each of so many things.
+/// Prints the shortest time of several runs, in total and for each of `things` items. Each run gets a new input.
 fn least<T, R>(what: &str, things: usize, mut make: impl FnMut() -> T, mut run: impl FnMut(T) -> R) {
     let once = || {
         let given = make();
@@ -66,7 +67,7 @@ fn stores() {
     let store = built(SIZE);
     let (leaves, top) = ((SIZE - 10_000..SIZE).map(node).collect::<Vec<_>>(), node(0));
     least(
-        "10,000 questions for a descendant",
+        "10,000 queries for a descendant",
         leaves.len(),
         || (),
         |()| {
@@ -91,7 +92,7 @@ fn stores() {
     least("copying the tree of 100,000", SIZE, || (), |()| store.clone());
     let small = built(10_000);
     least(
-        "1,000 overwritings of one in a tree of 10,000",
+        "overwriting one entity of 10,000, 1,000 times",
         1_000,
         || small.clone(),
         |store| {
@@ -117,11 +118,11 @@ fn sets() {
     let id = |number: usize| PolicyID::from_string(format!("link{number}"));
     let linked = || {
         let mut set = PolicySet::new();
-        set.add_template(template.clone()).expect("a free id");
+        set.add_template(template.clone()).expect("the id is not bound");
         for number in 0..10_000 {
             let bound = SlotEnv::from([(SlotId::principal(), node(number))]);
             set.link(PolicyID::from_string("t"), id(number), bound)
-                .expect("a free id");
+                .expect("the id is not bound");
         }
         set
     };
@@ -137,14 +138,14 @@ fn sets() {
         },
     );
     least(
-        "10,000 looks for a policy",
+        "10,000 lookups of a policy",
         10_000,
         || (0..10_000).map(id).collect(),
         |ids: Vec<_>| ids.iter().filter(|id| set.get(id).is_some()).count(),
     );
 }
 
-/// Questions a second that so many threads ask of one store.
+/// Prints the number of queries per second of one store by several threads.
 fn throughput() {
     let (store, top) = (built(SIZE), node(0));
     let leaves: Vec<EntityUID> = (SIZE - 20_000..SIZE).map(node).collect();
@@ -164,7 +165,7 @@ fn throughput() {
         });
         let rate = (threads * 10 * leaves.len()) as f64 / start.elapsed().as_secs_f64();
         println!(
-            "questions of one store by {threads} threads {:>36.2} million a second",
+            "queries of one store by {threads} threads   {:>36.2} million per second",
             rate / 1e6
         );
     }

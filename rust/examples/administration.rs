@@ -1,5 +1,5 @@
-//! A service that administers policies: it adds, links, unlinks and merges them, and shows what each refusal says. A refused
-//! call leaves the set as it was.
+//! A service that administers policies: it adds, links, unlinks and merges them, and shows the message of each error. A
+//! call that returns an error leaves the set unchanged.
 use cedar_store::ast::{
     ActionConstraint, Annotations, Effect, EntityUID, LinkingError, PolicyID, PolicySet, PolicySetError,
     PrincipalConstraint, ResourceConstraint, SlotEnv, SlotId, StaticPolicy, Template,
@@ -52,31 +52,33 @@ fn main() -> Result<(), Box<dyn Error>> {
     )?;
     println!("live: {:?}", names(&live));
 
-    // an id names one thing
+    // an id is bound only once
     match live.add_static(anything("for alice", Effect::Forbid)?) {
-        Err(PolicySetError::Occupied { id }) => println!("refused: {id} is taken"),
-        other => unreachable!("the id is a link's: {other:?}"),
+        Err(PolicySetError::Occupied { id }) => println!("error: the id {id} is already bound"),
+        other => unreachable!("the id belongs to a link: {other:?}"),
     }
     // a link binds every slot
     match live.link(id("per user"), id("for nobody"), SlotEnv::new()) {
-        Err(LinkingError::ArityError { unbound_values, .. }) => println!("refused: {} is not bound", unbound_values[0]),
-        Err(other) => println!("refused: {other}"),
+        Err(LinkingError::ArityError { unbound_values, .. }) => {
+            println!("error: the slot {} is not bound", unbound_values[0])
+        }
+        Err(other) => println!("error: {other}"),
         Ok(link) => println!("linked: {link}"),
     }
-    // a template that is linked stays
+    // a template with links cannot be removed
     if let Err(refusal) = live.remove_template(&id("per user")) {
-        println!("refused: {refusal}");
+        println!("error: {refusal}");
     }
 
-    // what a second team wrote joins, and what conflicts is renamed
+    // the policies of a second team are merged, and conflicting ids are renamed
     let mut team = PolicySet::new();
     team.add_static(anything("policy0", Effect::Forbid)?)?;
     team.add_static(anything("policy1", Effect::Permit)?)?;
     if let Err(refusal) = live.merge_policyset(&team, false) {
-        println!("refused: {refusal}");
+        println!("error: {refusal}");
     }
     for (old, new) in live.merge_policyset(&team, true)?.iter() {
-        println!("{old} of the team is {new} here");
+        println!("renamed: {old} of the team to {new}");
     }
     println!("live: {:?}", names(&live));
 

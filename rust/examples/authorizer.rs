@@ -1,5 +1,5 @@
-//! An authorizer of one afternoon: entities with attributes, templates and links, and requests that are answered by what the
-//! scopes of the policies say. Conditions of policies are an evaluator's, which is another layer: here a policy has none.
+//! A small authorizer: entities with attributes, templates and links, and requests that are decided by the scopes of
+//! the policies. Evaluating conditions is the task of another layer, so the policies here have none.
 use cedar_store::ast::{
     ActionConstraint, Annotations, Effect, Entity, EntityReference, EntityUID, PartialValue, Policy, PolicyID,
     PolicySet, PrincipalConstraint, PrincipalOrResourceConstraint, ResourceConstraint, SlotId, StaticPolicy, Template,
@@ -10,14 +10,14 @@ use std::collections::HashMap;
 use std::error::Error;
 use std::sync::Arc;
 
-/// Who wants to do what to what.
+/// A request: may the principal do the action with the resource?
 struct Request {
     principal: EntityUID,
     action: EntityUID,
     resource: EntityUID,
 }
 
-/// Whether a uid is another, or is below it in the store.
+/// Returns whether a uid is equal to `above` or a descendant of it in the store.
 fn is_in(store: &Entities, uid: &EntityUID, above: &EntityUID) -> bool {
     uid == above || matches!(store.entity(uid), Dereference::Data(entity) if entity.is_descendant_of(above))
 }
@@ -52,7 +52,8 @@ fn applies(store: &Entities, policy: &Policy, request: &Request) -> bool {
         && meets(store, &request.resource, policy.resource_constraint().as_inner())
 }
 
-/// A request is allowed where some policy permits it and none forbids it. Also which policies apply.
+/// Decides a request. It is allowed if a policy permits it and no policy forbids it. Also returns the ids of the
+/// applicable policies.
 fn decide(store: &Entities, policies: &PolicySet, request: &Request) -> (bool, Vec<String>) {
     let applying: Vec<&Policy> = policies
         .policies()
@@ -64,7 +65,7 @@ fn decide(store: &Entities, policies: &PolicySet, request: &Request) -> (bool, V
 }
 
 fn uid(ty: &str, eid: &str) -> EntityUID {
-    EntityUID::with_eid_and_type(ty, eid).expect("a type's name")
+    EntityUID::with_eid_and_type(ty, eid).expect("a valid entity type")
 }
 
 fn person(eid: &str, age: i64, groups: &[&str]) -> Entity {
@@ -83,7 +84,8 @@ fn under(own: EntityUID, parent: EntityUID) -> Entity {
     entity
 }
 
-/// Everybody who is linked to a folder may read what is in it; nobody may touch what is locked.
+/// Creates the policies. Everybody who is linked to a folder may read what is in it. Nobody may do anything with locked
+/// resources.
 fn policies() -> Result<PolicySet, Box<dyn Error>> {
     let mut set = PolicySet::new();
     set.add_template(Template::new(

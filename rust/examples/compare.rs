@@ -1,9 +1,9 @@
-//! Draws programs of lines, and compares what another program of the same lines writes for each with what this package
-//! does, to the byte and with its status: `cargo run --release --example compare -- PROGRAM [COUNT [SEED]]`.
+//! Generates random inputs, and compares the output and the exit status of another program with the program of this
+//! package: `cargo run --release --example compare -- PROGRAM [COUNT [SEED]]`.
 //!
-//! The other program is started once for each, with the lines as its standard input. A program that is drawn has up to
-//! thirty lines over few uids and ids, so that they meet; some are broken on purpose. The first that differ are shown, and
-//! the last line is `N passed, M failed`.
+//! The other program is started once for each input, with the lines as its standard input. An input has up to thirty
+//! lines with few uids and ids, so that the lines interact. Some lines are invalid on purpose. The first inputs with a
+//! difference are shown, and the last line is `N passed, M failed`.
 use cedar_store::program::run;
 use std::env::args;
 use std::io::Write;
@@ -11,7 +11,7 @@ use std::process::{Command, ExitCode, Stdio};
 use std::sync::atomic::{AtomicU64, Ordering};
 use std::thread;
 
-/// Numbers that are drawn: each of them the same for a seed.
+/// A generator of pseudorandom numbers. The same seed always gives the same numbers.
 struct Drawn(u64);
 
 impl Drawn {
@@ -178,14 +178,14 @@ fn program(drawn: &mut Drawn) -> Vec<u8> {
     bytes
 }
 
-/// What this package's program writes, and its status.
+/// Returns the output and the status of the program of this package.
 fn here(lines: &[u8]) -> (Vec<u8>, i32) {
     let mut written = Vec::new();
-    let status = run(&mut &lines[..], &mut written).expect("memory neither fails to be read nor to be written");
+    let status = run(&mut &lines[..], &mut written).expect("reading and writing memory never fails");
     (written, i32::from(status))
 }
 
-/// What the other program writes, and its status.
+/// Returns the output and the status of the other program.
 fn there(program: &str, lines: &[u8]) -> (Vec<u8>, i32) {
     let mut started = Command::new(program)
         .stdin(Stdio::piped())
@@ -198,8 +198,8 @@ fn there(program: &str, lines: &[u8]) -> (Vec<u8>, i32) {
         .expect("a pipe")
         .write_all(lines)
         .expect("it reads its lines");
-    let told = started.wait_with_output().expect("it ends");
-    (told.stdout, told.status.code().expect("it ends by itself"))
+    let told = started.wait_with_output().expect("the thread succeeds");
+    (told.stdout, told.status.code().expect("the program exits normally"))
 }
 
 fn main() -> ExitCode {

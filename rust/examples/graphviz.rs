@@ -1,5 +1,5 @@
-//! A picture of a store's hierarchy, as text for Graphviz: `cargo run --example graphviz | dot -Tsvg > store.svg`. What is a
-//! parent and no entity of the store is dotted.
+//! Draws the hierarchy of a store, as text for Graphviz: `cargo run --example graphviz | dot -Tsvg > store.svg`. A
+//! parent that is not an entity of the store is dotted.
 use cedar_store::ast::{Entity, EntityUID};
 use cedar_store::entities::{Dereference, Entities, TCComputation};
 use std::collections::BTreeSet;

@@ -1,5 +1,5 @@
-//! Ten tasks of who writes an authorizer, an administration service, a policy parser or a validator: the functions that
-//! `docs/GUIDE.md` quotes.
+//! Ten tasks of an authorizer, an administration service, a policy parser or a validator. `docs/GUIDE.md` quotes these
+//! functions.
 use cedar_store::ast::{
     ActionConstraint, Annotations, Effect, Entity, EntityReference, EntityUID, LinkingError, PartialValue, Policy,
     PolicyID, PolicySet, PolicySetError, PolicySetGetLinksError, PolicySetPolicyRemovalError,
@@ -14,7 +14,7 @@ use std::error::Error;
 use std::sync::Arc;
 
 fn uid(ty: &str, eid: &str) -> EntityUID {
-    EntityUID::with_eid_and_type(ty, eid).expect("a type's name")
+    EntityUID::with_eid_and_type(ty, eid).expect("a valid entity type")
 }
 
 fn id(text: &str) -> PolicyID {

@@ -1,8 +1,8 @@
-//! The closure of a graph of one's own: services and what they depend on.
+//! The closure of a graph with custom nodes: services and their dependencies.
 use cedar_store::transitive_closure::{TCNode, TcError, compute_tc, enforce_tc_and_dag};
 use std::collections::{BTreeSet, HashMap};
 
-/// A service, with what it needs by itself and what that needs in turn.
+/// A service with its direct dependencies and its indirect dependencies.
 struct Service {
     name: String,
     needs: BTreeSet<String>,
@@ -53,10 +53,10 @@ fn main() {
         ("mail", &["queue"]),
     ]);
     println!("closed before: {}", enforce_tc_and_dag(&all).is_ok());
-    compute_tc(&mut all, true).expect("nothing needs itself");
+    compute_tc(&mut all, true).expect("there is no cycle");
     println!("closed now: {}", enforce_tc_and_dag(&all).is_ok());
     println!(
-        "shop needs {:?} and over these {:?}",
+        "shop needs {:?} directly and {:?} indirectly",
         all["shop"].needs, all["shop"].over_others
     );
 
@@ -68,6 +68,6 @@ fn main() {
                 ["one", "other"].contains(&cycle.vertex_with_loop().as_str())
             );
         }
-        Err(TcError::MissingTcEdge(_)) | Ok(()) => unreachable!("each needs the other"),
+        Err(TcError::MissingTcEdge(_)) | Ok(()) => unreachable!("there is a cycle"),
     }
 }

@@ -1,5 +1,5 @@
-//! One store that many threads read, while each copies it and edits its own: copies share entities, and an edit of one is
-//! seen in no other.
+//! One store that is read by several threads, while each edits a copy. Copies share entities, and an edit of a copy
+//! does not affect any other copy.
 use cedar_store::ast::{Entity, EntityUID};
 use cedar_store::entities::{Dereference, Entities, TCComputation};
 use std::error::Error;
@@ -9,10 +9,10 @@ use std::thread;
 const LEVELS: usize = 200;
 
 fn node(number: usize) -> EntityUID {
-    EntityUID::with_eid_and_type("Node", &number.to_string()).expect("a type's name")
+    EntityUID::with_eid_and_type("Node", &number.to_string()).expect("a valid entity type")
 }
 
-/// How many stand above the entity that has no children.
+/// Returns the number of ancestors of the entity without children.
 fn above(store: &Entities) -> usize {
     match store.entity(&node(0)) {
         Dereference::Data(entity) => entity.ancestors().count(),
@@ -35,18 +35,18 @@ fn main() -> Result<(), Box<dyn Error>> {
                     let own = Entities::clone(&store);
                     let own = own
                         .remove_entities([node(number * 20)], TCComputation::ComputeNow)
-                        .expect("never refused");
+                        .expect("the removal succeeds");
                     (above(&store), above(&own))
                 })
             })
             .collect();
         started
             .into_iter()
-            .map(|thread| thread.join().expect("it ends"))
+            .map(|thread| thread.join().expect("the thread succeeds"))
             .collect()
     });
     for (number, (whole, own)) in counts.iter().enumerate() {
-        println!("thread {number}: {whole} in the store that is shared, {own} in its own");
+        println!("thread {number}: {whole} ancestors in the shared store, {own} in its own copy");
     }
     Ok(())
 }

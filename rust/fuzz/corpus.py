@@ -1,6 +1,9 @@
 #!/usr/bin/env python3
-"""The corpus of the fuzzer as rows of a text: `corpus.py inputs FOLDER` writes a file for each row of ../tests/corpus.txt, and
-`corpus.py rows FOLDER` makes the rows of the files of a folder, with what the proved program answers to each."""
+"""Converts the corpus of the fuzzer between files and the lines of ../tests/corpus.txt.
+
+- `corpus.py inputs FOLDER` writes a file with the input of each line.
+- `corpus.py rows FOLDER` replaces the lines by the inputs in a folder, with the output of the proved program for each.
+"""
 import hashlib
 import os
 import re
@@ -14,7 +17,7 @@ SIGNS = {'t': b'\t', 'n': b'\n', '\\': b'\\'}
 
 
 def lines_of():
-    """The lines of the text, but for those of its head."""
+    """Returns all lines of the text, including its head."""
     with open(ROWS, encoding='utf-8') as text:
         return text.read().split('\n')
 

@@ -1,6 +1,6 @@
-//! The store layer of the [Cedar](https://www.cedarpolicy.com) authorization language: entities with all their
-//! ancestors, and policies, templates and links in sets, with the names and the signatures of `cedar-policy-core`
-//! 4.14.1, which is called the original here.
+//! The store layer of the [Cedar](https://www.cedarpolicy.com) authorization language: entities with all of their
+//! ancestors, and policies, templates and links in sets. It has the names and signatures of `cedar-policy-core` 4.14.1,
+//! which is called the original here.
 //!
 //! ```
 //! use cedar_store::ast::{Entity, EntityUID};
@@ -18,22 +18,27 @@
 //! # }
 //! ```
 //!
-//! A store closes its entities: each has all that it reaches over parents as its ancestors, and a cycle is refused. A
-//! policy set binds ids to static policies, templates and links of templates, and two sets are merged under new ids
-//! where theirs conflict. Stores, sets and what they hold are `Send` and `Sync`; want of memory ends the program.
+//! A store closes its entities: each entity has everything that it reaches over parents as an ancestor, and a cycle is
+//! an error. A policy set binds ids to static policies, templates and links of templates. Two sets can be merged, with
+//! new ids for items whose ids conflict. Stores, sets and their content are `Send` and `Sync`. The program aborts if an
+//! allocation fails.
 //!
-//! # What may be trusted
+//! # What is proved
 //!
-//! This is the text of a layer that is proved in Rattle, which is Rust with contracts: contracts are erased here, and
-//! the text is compiled by rustc. It is tested to answer as the proved program does, and is never called proved. What
-//! stands between is the tool that erases, what is written by hand (`src/handwritten/`, `src/lib.rs` and the two
-//! programs), rustc and std. What the prover checked at each call is the caller's here:
-//! [`compute_tc`](transitive_closure::compute_tc), [`repair_tc`](transitive_closure::repair_tc) and
-//! [`enforce_tc_and_dag`](transitive_closure::enforce_tc_and_dag) ask that each node stands at its own key,
-//! [`Dereference::unwrap`](entities::Dereference::unwrap) that something was found,
-//! [`Policy::from_when_clause`](ast::Policy::from_when_clause) that no slot stands in the clause, and
-//! [`PolicySet::singleton`](ast::PolicySet::singleton) that a link has another id than its template. None can do worse
-//! than panic or answer wrongly, and a debug build looks.
+//! This package is the text of a layer that is proved in Rattle, a language like Rust with contracts. The contracts are
+//! erased, and rustc compiles the text. Tests compare its results with the results of the proved program. The package
+//! itself is not proved: it also depends on the tool that erases the contracts, on hand-written code
+//! (`src/handwritten/`, `src/lib.rs` and the two programs), on rustc and on std.
+//!
+//! In Rattle, the prover checks the preconditions of each call. Here the caller must ensure them:
+//!
+//! - [`compute_tc`](transitive_closure::compute_tc), [`repair_tc`](transitive_closure::repair_tc) and
+//!   [`enforce_tc_and_dag`](transitive_closure::enforce_tc_and_dag): each node is stored under its own key.
+//! - [`Dereference::unwrap`](entities::Dereference::unwrap): an entity was found.
+//! - [`Policy::from_when_clause`](ast::Policy::from_when_clause): the clause contains no slot.
+//! - [`PolicySet::singleton`](ast::PolicySet::singleton): a link has a different id than its template.
+//!
+//! If a caller violates one of them, the call panics or returns a wrong result. A debug build checks them.
 #![forbid(unsafe_code)]
 
 mod cedar_action;
@@ -62,6 +67,7 @@ mod cedar_slice;
 mod cedar_store;
 mod cedar_talk;
 mod cedar_terms;
+mod cedar_trial_edits;
 mod cedar_uid_sets;
 mod handwritten;
 
@@ -69,6 +75,7 @@ use handwritten::ordered_map;
 
 pub use cedar_keyed_hash::{KeyedHasher, KeyedState};
 pub use cedar_slice::slice;
+pub use cedar_trial_edits::{are_bare, would_add, would_upsert};
 pub use handwritten::renaming::{RenamedIds, Renaming};
 
 /// Ids, entities, values, expressions, constraints, policies, templates and policy sets.
@@ -88,7 +95,7 @@ pub mod ast {
         PolicySet, PolicySetError, PolicySetGetLinksError, PolicySetPolicyRemovalError, PolicySetTemplateRemovalError,
         PolicySetUnlinkError, PolicySetValidationError,
     };
-    pub use crate::cedar_scope::on_variable::{ScopeVariable, VariableConstraint};
+    pub use crate::cedar_scope::on_variable::{Principal, Resource, ScopeVariable, VariableConstraint};
     pub use crate::cedar_scope::{
         EntityReference, PrincipalConstraint, PrincipalOrResource, PrincipalOrResourceConstraint, ResourceConstraint,
     };
@@ -97,12 +104,12 @@ pub mod ast {
         StaticallyTyped, Unknown, Value, ValueKind, Var, is_reserved_key,
     };
 
-    /// Annotations, and their iterators.
+    /// Annotations and their iterators.
     pub mod annotation {
         pub use crate::cedar_annotation::annotation::{Annotation, Annotations, IntoIter, Iter};
     }
 
-    /// Entities and what names them.
+    /// Entities, uids, entity types and ids of entities.
     pub mod entity {
         pub use super::{ACTION_ENTITY_TYPE, Eid, Entity, EntityType, EntityUID, EntityUIDImpl};
     }
@@ -118,13 +125,13 @@ pub mod entities {
     pub use crate::cedar_entities::{Dereference, Entities, IntoIter, Iter, TCComputation};
     pub use crate::cedar_entity::EntitiesError;
 
-    /// Why a call on a store or on an entity is refused.
+    /// Errors of calls on stores and entities.
     pub mod err {
         pub use crate::cedar_entity::EntitiesError;
     }
 }
 
-/// The iterators that calls answer, by name.
+/// The types of the iterators that functions return.
 pub mod iters {
     pub use crate::cedar_action::{EntityIterator, iters::ActionTypeNames};
     pub use crate::cedar_entity::{Ancestors, Keys, Pairs};
@@ -134,17 +141,17 @@ pub mod iters {
     pub use crate::cedar_uid_sets::{Uids, Union};
 }
 
-/// Where a thing was read, and why a text is refused.
+/// Source locations and parse errors.
 pub mod parser {
     pub use crate::cedar_ids::Loc;
 
-    /// Why a text is refused.
+    /// Errors of texts of uids, names and identifiers.
     pub mod err {
         pub use crate::cedar_ids::ParseErrors;
     }
 }
 
-/// The program's lines: from bytes to bytes, line by line, and as a conversation.
+/// The program that runs commands: on a whole input, line by line, and interactively.
 pub mod program {
     pub use crate::cedar_store::{
         RunError, Session, push_not_command, run, run_and_leave, run_and_leave_with, run_with,
@@ -152,14 +159,14 @@ pub mod program {
     pub use crate::cedar_talk::{FIELD_HELP, Manner, POLICY_HELP, STORE_HELP, TalkError, help_texts, talk};
 }
 
-/// Lists of calls on a store and on a policy set.
+/// Lists of calls on a store or a policy set.
 pub mod replay {
     pub use crate::cedar_replay::{
         Answer, EntityCall, PolicyCall, replay_entities, replay_entities_with_hasher, replay_policies,
     };
 }
 
-/// Closures of graphs of any nodes.
+/// Transitive closures of graphs with any type of nodes.
 pub mod transitive_closure {
     pub use crate::cedar_graph::{
         HasCycle, MissingTcEdge, Result, TCNode, TcError, Work, close_dag, compute_tc, compute_tc_counted,
@@ -167,7 +174,7 @@ pub mod transitive_closure {
     };
 }
 
-// The program of the page is tried as the one above is.
+// The program in the README is a documentation test.
 #[cfg(doctest)]
 #[doc = include_str!("../README.md")]
 struct Page;

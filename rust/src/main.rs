@@ -1,4 +1,4 @@
-//! Answers the lines of a file, or of standard input.
+//! Runs the commands in the lines of a file or of standard input.
 use cedar_store::program::{RunError, run_and_leave};
 use std::env;
 use std::ffi::OsString;

@@ -1,5 +1,4 @@
-//! Closures of graphs with nodes of a user's own: keys of which several are equal, all that lead to all, long chains, and
-//! what the refusals say.
+//! Closures of graphs with custom nodes: equal keys, complete graphs, long chains, and the messages of errors.
 #[path = "common/numbered.rs"]
 mod numbered;
 
@@ -11,7 +10,7 @@ use std::collections::{HashMap, HashSet};
 use std::fmt::{self, Display, Formatter};
 use std::hash::{Hash, Hasher};
 
-/// A key that is compared by its number alone; its place says where it was written.
+/// A key that is compared only by its number. The place shows where the key was written.
 #[derive(Clone, Debug)]
 struct Label {
     number: u64,
@@ -67,7 +66,7 @@ fn label(number: u64, place: u64) -> Label {
     Label { number, place }
 }
 
-/// The nodes with one edge each; each place differs.
+/// Returns nodes with one edge each. Their places differ.
 fn labelled(rows: &[(u64, u64)]) -> HashMap<Label, Labelled> {
     let node = |(place, (from, to)): (u64, &(u64, u64))| {
         let targets = HashSet::from([label(*to, 100)]);
@@ -93,7 +92,7 @@ fn equal_keys_are_one_key() {
             .is_some_and(|node| node.has_edge_to(&label(to, 9)))
     };
     assert!(leads(1, 2) && leads(1, 3) && leads(2, 3) && !leads(3, 1) && !leads(2, 1));
-    // each node keeps the key that it came with
+    // each node keeps its own key
     assert!(
         [1, 2]
             .iter()
@@ -105,7 +104,7 @@ fn equal_keys_are_one_key() {
 fn a_cycle_over_equal_keys_is_named() {
     match compute_tc(&mut labelled(&[(1, 2), (2, 1), (3, 1)]), true) {
         Err(TcError::HasCycle(cycle)) => assert!([1, 2].contains(&cycle.vertex_with_loop().number)),
-        _ => panic!("a cycle was to be named"),
+        _ => panic!("the error names no cycle"),
     }
 }
 
@@ -120,7 +119,7 @@ fn nodes_of(edges: impl IntoIterator<Item = (u32, Vec<u32>)>) -> HashMap<u32, Nu
 fn each_of_fifty_leads_to_the_others() {
     let all = || nodes_of((0..50).map(|key| (key, (0..50).filter(|to| *to != key).collect())));
     let mut nodes = all();
-    let work = compute_tc_counted(&mut nodes, false).expect("nothing is refused");
+    let work = compute_tc_counted(&mut nodes, false).expect("the call succeeds");
     assert_eq!(work.reads, 50);
     assert!(nodes.values().all(|node| node.1.len() == 50));
     assert!(matches!(compute_tc(&mut all(), true), Err(TcError::HasCycle(_))));
@@ -137,15 +136,15 @@ fn a_chain_a_star_and_a_ring() {
     assert_eq!((work.reads, work.closings), (100_001, 100_001));
     assert_eq!(star.values().map(|node| node.1.len()).sum::<usize>(), 200_001);
     let mut ring = nodes_of((0..2_000).map(|key| (key, vec![(key + 1) % 2_000])));
-    compute_tc(&mut ring, false).expect("nothing is refused");
+    compute_tc(&mut ring, false).expect("the call succeeds");
     assert!(ring.values().all(|node| node.1.len() == 2_000));
 }
 
-/// The part of a chain of 100,000 keys whose last 50 have nodes.
+/// The part of a chain of 100,000 keys in which only the last 50 have nodes.
 #[test]
 fn the_end_of_a_long_chain() {
     let mut nodes = nodes_of((99_951..=100_000).map(|key| (key, if key < 100_000 { vec![key + 1] } else { vec![] })));
-    compute_tc(&mut nodes, false).expect("nothing is refused");
+    compute_tc(&mut nodes, false).expect("the call succeeds");
     assert_eq!(nodes.values().map(|node| node.1.len()).sum::<usize>(), 1_225);
     assert!(nodes[&99_951].has_edge_to(&100_000));
 }

@@ -1,5 +1,5 @@
-//! Constraints of principals, resources and actions in all of their forms, references, and annotations: how they are
-//! written, what they stand for, their order, and where their slots stand.
+//! Constraints on principals, resources and actions in all of their forms, references, and annotations: their texts,
+//! their expressions, their order, and the locations of their slots.
 mod common;
 
 use cedar_store::ast::{
@@ -38,7 +38,7 @@ fn hash_of<T: Hash>(thing: &T) -> u64 {
     hasher.finish()
 }
 
-/// Each stands where its place is, and is equal to and hashes as its copy alone.
+/// Asserts that the items are in ascending order, and that each is equal only to its copy and has the same hash.
 fn ascend<T: Ord + Hash + Clone + Debug>(all: &[T]) {
     for (i, one) in all.iter().enumerate() {
         assert_eq!((one, hash_of(one)), (&one.clone(), hash_of(&one.clone())));
@@ -48,7 +48,7 @@ fn ascend<T: Ord + Hash + Clone + Debug>(all: &[T]) {
     }
 }
 
-/// The eight forms in their order, by each constructor.
+/// Returns the eight forms in order, each by its constructor.
 fn all() -> [Constraint; 8] {
     [
         Constraint::any(),
@@ -88,7 +88,7 @@ fn all_on_resource() -> [ResourceConstraint; 8] {
     ]
 }
 
-/// How each is written behind a variable, what it stands for, and how it is written once its slot is `B::"u"`.
+/// For each form: its text for a variable V, its expression, and its text after the slot was replaced by `B::"u"`.
 const WRITTEN: [(&str, &str, &str); 8] = [
     ("V", "true", "V"),
     (r#"V in A::"g""#, r#"V in A::"g""#, r#"V in A::"g""#),
@@ -131,7 +131,7 @@ fn constraints_are_written_and_stand_for_expressions() {
             (first.to_string(), second.to_string()),
             (on("principal", filled), on("resource", filled))
         );
-        // once more changes nothing
+        // a second call changes nothing
         assert_eq!(first.clone().with_filled_slot(v.clone()), first);
         assert_eq!(second.clone().with_filled_slot(v), second);
         assert_eq!(PrincipalConstraint::new(plain.clone()).into_inner(), *plain);
@@ -174,7 +174,7 @@ fn references_and_variables() {
     );
     assert_eq!(EntityReference::from_uid(uid(r#"N::T::"x""#)), to(r#"N::T::"x""#));
     ascend(&[to(r#"A::"y""#), to(r#"A::"z""#), to(r#"Z::"a""#), slot(None)]);
-    // no place counts, and each is kept
+    // locations do not affect comparisons, and each is kept
     assert_eq!(slot(at(3)), slot(at(1)));
     assert_eq!(
         (slot(at(3)).cmp(&slot(None)), hash_of(&slot(at(3)))),
@@ -214,7 +214,7 @@ fn listed(texts: &[&str]) -> ActionConstraint {
     ActionConstraint::is_in(texts.iter().map(|text| uid(text)))
 }
 
-/// Constraints of actions in their order, the slots of the last two at places.
+/// Returns constraints on actions in order. The slots of the last two have locations.
 fn all_actions(in_slot: Option<Loc>, eq_slot: Option<Loc>) -> [ActionConstraint; 9] {
     let (a, b) = (r#"Action::"a""#, r#"Action::"b""#);
     [
@@ -230,7 +230,7 @@ fn all_actions(in_slot: Option<Loc>, eq_slot: Option<Loc>) -> [ActionConstraint;
     ]
 }
 
-/// How each is written, what it stands for, and how it is written once its slot is `B::"u"`.
+/// For each constraint: its text, its expression, and its text after the slot was replaced by `B::"u"`.
 const ACTIONS: [(&str, &str, &str); 9] = [
     ("action", "true", "action"),
     ("action in []", "action in []", "action in []"),
@@ -297,7 +297,7 @@ fn constraints_of_actions() {
         listed(&[r#"Action::"c""#, r#"Action::"a""#, r#"Action::"b""#]).to_string(),
         r#"action in [Action::"c",Action::"a",Action::"b"]"#
     );
-    // uids and types come from the back, and repeat
+    // uids and types are iterated from the end of the list, with duplicates
     let texts = |constraint: &ActionConstraint| constraint.iter_euids().map(ToString::to_string).collect::<Vec<_>>();
     assert_eq!(texts(&listed(&[r#"A::"a""#, r#"B::"b""#])), [r#"B::"b""#, r#"A::"a""#]);
     let types = |constraint: &ActionConstraint| {
@@ -378,7 +378,7 @@ fn annotations() {
     for (val, text) in [("", r#""""#), ("x\"y", r#""x\"y""#), ("é\t", r#""é\t""#)] {
         assert_eq!(note(val, None).to_string(), text);
     }
-    // the later of a key counts, and they come by their keys
+    // if a key is repeated, the last annotation is used; annotations are ordered by their keys
     let all = noted(&[("k", "1"), ("j", "2"), ("k", "3")]);
     assert_eq!(all.get(&key("k")).map(AsRef::as_ref), Some("3"));
     assert_eq!(all.get(&key("j")).map(AsRef::as_ref), Some("2"));

@@ -1,5 +1,5 @@
-//! Closures of drawn graphs of nodes of two kinds, some keys without a node, beside what is reached: closing, repairing,
-//! checking, and what the counted calls count.
+//! Closures of random graphs, compared with plain searches: closing, repairing, checking, and the counts of the counted
+//! calls. The nodes are of two kinds, and some keys have no node.
 mod common;
 #[path = "common/numbered.rs"]
 mod numbered;
@@ -15,8 +15,8 @@ use std::collections::{BTreeMap, BTreeSet, HashMap, HashSet};
 
 type Edges = BTreeMap<u8, BTreeSet<u8>>;
 
-/// A node that counts how often its edges are listed. One kind keeps its direct edges apart, the other takes what the
-/// trait gives.
+/// A node that counts how often its edges are listed. One kind implements `direct_edges`, and the other uses the
+/// default of the trait.
 #[derive(Clone, Debug)]
 struct Node {
     key: u8,
@@ -78,7 +78,7 @@ fn edges_of(nodes: &Nodes) -> Edges {
         .collect()
 }
 
-/// What a key reaches over one or more edges.
+/// Returns the keys that are reachable from a key over one or more edges.
 fn reached(graph: &Edges, from: u8) -> BTreeSet<u8> {
     let mut all = BTreeSet::new();
     let mut open: Vec<u8> = graph.get(&from).into_iter().flatten().copied().collect();
@@ -122,7 +122,8 @@ fn names_one_of(error: &TcError<u8>, keys: &BTreeSet<u8>) {
     }
 }
 
-/// Closing: the edges are what is reached, with a check for cycles and without; each node is listed once at most.
+/// Asserts that closing a graph gives exactly the reachable keys as edges, with and without a check for cycles. Each
+/// node is listed at most once.
 fn closes(graph: &Edges) {
     let (due, cycles) = (closure(graph), on_cycles(graph));
     let mut nodes = nodes_of(graph);
@@ -135,7 +136,7 @@ fn closes(graph: &Edges) {
         Err(error) => names_one_of(&error, &cycles),
     }
     assert_eq!(edges_of(&nodes), due);
-    // where a cycle is told before anything is written, nothing was written
+    // a call that reports a cycle before it writes must not have changed the graph
     let mut nodes = nodes_of(graph);
     match close_dag(&mut nodes) {
         Ok(()) => assert!(cycles.is_empty() && edges_of(&nodes) == due),
@@ -146,20 +147,20 @@ fn closes(graph: &Edges) {
     }
     rest_stays(&nodes, graph);
     let mut nodes = nodes_of(graph);
-    let work = compute_tc_counted(&mut nodes, false).expect("without a check for cycles nothing is refused");
+    let work = compute_tc_counted(&mut nodes, false).expect("closing without a check for cycles succeeds");
     let edged = graph.values().filter(|edges| !edges.is_empty()).count();
     assert_eq!(work.reads, nodes.values().map(|node| node.listed.get()).sum());
     assert!(nodes.values().all(|node| node.listed.get() <= 1));
     assert!(
         edged <= work.reads && work.reads <= graph.len() && edged <= work.closings && work.closings <= 2 * graph.len()
     );
-    // closing what is closed changes nothing
+    // closing a closed graph changes nothing
     let mut nodes = nodes_of(&due);
     assert!(compute_tc(&mut nodes, false).is_ok());
     assert_eq!(edges_of(&nodes), due);
 }
 
-/// Checking: refused for a missing edge of a node to a node's edge, else for a loop.
+/// Asserts that checking a graph reports a missing edge if there is one, and otherwise a loop if there is one.
 fn checks(graph: &Edges) {
     let lacks = |one: &u8, other: &u8, last: &u8| {
         graph[one].contains(other)
@@ -182,7 +183,7 @@ fn checks(graph: &Edges) {
     }
 }
 
-/// Repairing some keys, where the others have an edge to all that they reach.
+/// Asserts that repairing some keys closes the graph if every other key has an edge to all keys that it reaches.
 fn repairs(graph: &Edges, fix: &BTreeSet<u8>) {
     let full = closure(graph);
     let mut given = full.clone();
@@ -218,7 +219,7 @@ fn repairs(graph: &Edges, fix: &BTreeSet<u8>) {
         }
     }
     let mut nodes = nodes_of(&given);
-    let work = repair_tc_counted(&fixed, &mut nodes, false).expect("nothing is refused");
+    let work = repair_tc_counted(&fixed, &mut nodes, false).expect("the call succeeds");
     assert_eq!(work.reads, nodes.values().map(|node| node.listed.get()).sum());
     assert!(work.closings <= 2 * fix.len());
     if on_cycles(graph).is_empty() && fix.iter().all(|key| graph.contains_key(key)) {
@@ -226,7 +227,8 @@ fn repairs(graph: &Edges, fix: &BTreeSet<u8>) {
     }
 }
 
-/// Keys, rests and the nodes that are not to be fixed stay, and only what is reached was added.
+/// Asserts that keys, other data and the nodes that are not repaired did not change, and that only edges to reachable
+/// keys were added.
 fn only_adds(nodes: &Nodes, given: &Edges, fix: &BTreeSet<u8>) {
     rest_stays(nodes, given);
     for (key, edges) in edges_of(nodes) {
@@ -238,7 +240,7 @@ fn only_adds(nodes: &Nodes, given: &Edges, fix: &BTreeSet<u8>) {
     }
 }
 
-/// Whatever the graph is, repairing adds reached edges alone.
+/// Asserts that repairing adds only edges to reachable keys, for any graph.
 fn repairs_anything(graph: &Edges, fix: &BTreeSet<u8>) {
     let fixed: HashSet<u8> = fix.iter().copied().collect();
     for enforce_dag in [false, true] {
@@ -302,7 +304,7 @@ fn drawn_graphs() {
     assert!((5_000..25_000).contains(&cyclic), "{cyclic} have cycles");
 }
 
-/// All graphs of three keys, each with or without its node, and every set of keys to fix.
+/// All graphs of three keys, each with or without its node, and every set of keys to repair.
 #[test]
 fn all_graphs_of_three_keys() {
     for present in 1..8_u8 {
@@ -322,7 +324,7 @@ fn all_graphs_of_three_keys() {
     }
 }
 
-/// A star, and a ring whose nodes all reach one another, of sizes that a recursion would not survive.
+/// A star and a ring. They are so large that recursion would overflow the stack.
 #[test]
 fn large_graphs() {
     let node = |key: u32, edges: Vec<u32>| (key, Numbered(key, edges.into_iter().collect()));
@@ -333,7 +335,7 @@ fn large_graphs() {
     compute_tc(&mut star, true).expect("no cycle");
     assert!(star.values().all(|it| it.1.len() == if it.0 == 0 { 1 } else { 2 }));
     let mut ring: HashMap<u32, Numbered> = (0..1_500).map(|key| node(key, vec![(key + 1) % 1_500])).collect();
-    compute_tc(&mut ring, false).expect("nothing is refused");
+    compute_tc(&mut ring, false).expect("the call succeeds");
     assert!(ring.values().all(|it| it.1.len() == 1_500));
     let mut chain: HashMap<u32, Numbered> = (0..100_000).map(|key| node(key, vec![key + 1])).collect();
     let last = HashSet::from([99_990]);

@@ -1,5 +1,5 @@
-//! Calls on stores in the three modes, over stores that are closed and over such that are not: what is fixed of each is
-//! asked. Also slices of stores that were taken as they are.
+//! Random calls on stores in the three modes, over stores that are closed and over stores that are not. Asserts the
+//! properties that hold for each mode. Also slices of stores that are not closed.
 mod common;
 
 use cedar_store::ast::{Entity, EntityUID};
@@ -63,7 +63,7 @@ fn rows_of(store: &Entities) -> Rows {
     rows
 }
 
-/// What is reached over the edges that rows have: over parents alone, or over all ancestors.
+/// Returns everything that is reachable over the given edges: over parents or over all ancestors.
 fn reached(rows: &Rows, from: Name, edges: fn(&Row) -> Names) -> Names {
     let mut all = Names::new();
     let mut open: Vec<Name> = rows.get(&from).map(edges).into_iter().flatten().collect();
@@ -96,7 +96,7 @@ fn is_closed_without_loop(rows: &Rows) -> bool {
     })
 }
 
-/// A refusal of the closure's check is owed to the rows that the call would leave.
+/// Asserts that an error of the closure is justified by the entities that the call would store.
 fn is_owed(error: &EntitiesError, rows: Option<&Rows>) {
     let edges = |name: &EntityUID| {
         rows.and_then(|rows| rows.get(&name_of(name)))
@@ -134,7 +134,7 @@ fn drawn_row(drawn: &mut Drawn, name: Name, uids: usize, indirect: bool) -> Row 
     }
 }
 
-/// A store: plain, closed from other edges, or taken as it is, with all kinds of gaps.
+/// Returns a store that is plain, is closed over arbitrary edges, or is not closed.
 fn drawn_store(drawn: &mut Drawn, uids: usize, plain: bool) -> Option<Entities> {
     let mut rows = Rows::new();
     for name in 0..uids {
@@ -150,11 +150,11 @@ fn drawn_store(drawn: &mut Drawn, uids: usize, plain: bool) -> Option<Entities> 
     Entities::from_entities(rows.iter().map(|(name, row)| entity(*name, row)), mode).ok()
 }
 
-/// What none of the uids of a call touches stays as it was.
+/// Asserts that entities which are not affected by a call did not change.
 fn untouched_stays(before: &Rows, after: &Rows, touching: &Names) {
     for (name, row) in before {
         if !touching.contains(name) && row.ancestors().is_disjoint(touching) {
-            assert_eq!(after.get(name), Some(row), "{name} is not touched by {touching:?}");
+            assert_eq!(after.get(name), Some(row), "{name} is not affected by {touching:?}");
         }
     }
 }
@@ -186,7 +186,7 @@ fn upserts(drawn: &mut Drawn, store: &Entities, uids: usize, mode: TCComputation
     assert_eq!(after.keys().collect::<NameRefs>(), due.keys().collect());
     untouched_stays(&before, &after, &given.keys().copied().collect());
     for (name, row) in &after {
-        assert_eq!(row.parents, due[name].parents, "parents are those that are held");
+        assert_eq!(row.parents, due[name].parents, "the parents are the given ones");
     }
     if mode == TCComputation::ComputeNow {
         let alone = list.iter().all(|(_, row)| row.indirect.is_empty());
@@ -210,7 +210,8 @@ fn upserts(drawn: &mut Drawn, store: &Entities, uids: usize, mode: TCComputation
 
 type NameRefs<'a> = BTreeSet<&'a Name>;
 
-/// Over a plain store: an indirect ancestor stays exactly where no uid of the list is it or lies between.
+/// Asserts which indirect ancestors an overwriting of a plain store removed: exactly those that are a uid of the list,
+/// or that are ancestors over a uid of the list.
 fn strips_exactly(before: &Rows, after: &Rows, given: &Rows) {
     let held: Vec<Name> = given.keys().copied().filter(|name| before.contains_key(name)).collect();
     for (name, row) in before.iter().filter(|(name, _)| !given.contains_key(name)) {
@@ -222,7 +223,7 @@ fn strips_exactly(before: &Rows, after: &Rows, given: &Rows) {
         let due: Names = row.indirect.iter().copied().filter(|far| !goes(far)).collect();
         assert_eq!(
             after[name].indirect, due,
-            "what is left to {name} of {before:?} by {given:?}"
+            "the indirect ancestors of {name} in {before:?} after overwriting {given:?}"
         );
     }
 }
@@ -262,7 +263,7 @@ fn adds(drawn: &mut Drawn, store: &Entities, uids: usize, mode: TCComputation) {
     for _ in 0..drawn.below(4) {
         let name = drawn.below(uids);
         let indirect = drawn.once_in(3);
-        // one that is there is given with its ancestors, so that it agrees
+        // an entity that is already stored is added with its ancestors, so that it agrees with the stored one
         let row = match before
             .get(&name)
             .or_else(|| list.iter().find(|(other, _)| *other == name).map(|(_, row)| row))
@@ -289,7 +290,7 @@ fn adds(drawn: &mut Drawn, store: &Entities, uids: usize, mode: TCComputation) {
             assert!(!(alone && is_plain(&before)) || is_plain(&after));
         }
         (TCComputation::ComputeNow, Err(error)) => is_owed(&error, None),
-        (TCComputation::AssumeAlreadyComputed, told) => assert_eq!(rows_of(&told.expect("never refused")), due),
+        (TCComputation::AssumeAlreadyComputed, told) => assert_eq!(rows_of(&told.expect("the removal succeeds")), due),
         (TCComputation::EnforceAlreadyComputed, Ok(after)) => {
             assert!(is_closed_without_loop(&due));
             assert_eq!(rows_of(&after), due);
@@ -301,8 +302,8 @@ fn adds(drawn: &mut Drawn, store: &Entities, uids: usize, mode: TCComputation) {
     }
 }
 
-/// A slice of any store: the uids that are asked for and are there, those of their ancestors that are there, each with the
-/// parents and the ancestors that it has.
+/// Asserts for a slice of any store: it contains the requested entities and their ancestors, as far as the store
+/// contains them. Each has the parents and ancestors that it has in the store.
 fn slices(drawn: &mut Drawn, store: &Entities, uids: usize) {
     let rows = rows_of(store);
     let asked: Vec<Name> = (0..drawn.below(4)).map(|_| drawn.below(uids)).collect();
@@ -345,7 +346,7 @@ fn drawn_calls_on_drawn_stores() {
     );
 }
 
-/// Long lists of edits at once, which have repeats, absent uids and uids that are ancestors of one another.
+/// Edits by long lists with duplicates, absent uids, and uids that are ancestors of one another.
 #[test]
 fn edits_by_long_lists() {
     for seed in 0..600 {
@@ -394,7 +395,7 @@ fn edits_by_long_lists() {
         let left = store
             .clone()
             .remove_entities(gone.iter().map(|name| uid(*name)), mode)
-            .expect("never refused");
+            .expect("the removal succeeds");
         assert!(is_plain(&rows_of(&left)));
         for name in gone {
             assert!(matches!(left.entity(&uid(name)), Dereference::NoSuchEntity));

@@ -1,7 +1,7 @@
-//! Lists of calls on policy sets, drawn, beside a plain model: one list of bindings in the order in which they came.
+//! Random sequences of calls on policy sets, compared with a plain model: a list of bindings in insertion order.
 #![allow(
     unreachable_patterns,
-    reason = "the errors of the crate for the library have one variant more"
+    reason = "the errors of `cedar-store-proved` have an additional variant"
 )]
 mod common;
 
@@ -14,14 +14,14 @@ use common::{Drawn, id};
 use std::collections::BTreeMap;
 use std::sync::Arc;
 
-/// A body: whether the principal and the resource are slots, and a number in its clause.
+/// A body: whether it has the slots of the principal and the resource, and a number in its clause.
 #[derive(Clone, Copy, Debug, PartialEq)]
 struct Body {
     slots: (bool, bool),
     number: i64,
 }
 
-/// What slots are bound to: the eids of the principal and the resource.
+/// The bindings of a link: the eids of the principal and the resource.
 type Bound = (Option<u8>, Option<u8>);
 
 #[derive(Clone, Debug, PartialEq)]
@@ -31,7 +31,7 @@ enum Binding {
     Link(String, Bound),
 }
 
-/// The texts of what is refused, with the id that is named.
+/// The result of a call. An error is its kind with the id that it names.
 type Answer = Result<Vec<(String, String)>, (&'static str, String)>;
 
 #[derive(Clone, Debug, Default, PartialEq)]
@@ -134,7 +134,8 @@ impl Board {
         }
     }
 
-    /// The ids that conflict: bodies in both, policies in both, templates there that are links here, and the other way.
+    /// Returns the ids that conflict: bodies in both sets, policies in both sets, and templates in one set that are
+    /// links in the other.
     fn conflicting(&self, other: &Board) -> Vec<String> {
         let body = |it: &Binding| !matches!(it, Binding::Link(..));
         let policy = |it: &Binding| !matches!(it, Binding::Template(_));
@@ -166,7 +167,7 @@ impl Board {
             .filter(|name| self.at(name).is_none() && other.at(name).is_none());
         let renaming: Vec<(String, String)> = conflicting
             .into_iter()
-            .map(|name| (name, free.next().expect("numbers do not end")))
+            .map(|name| (name, free.next().expect("there are enough numbers")))
             .collect();
         drop(free);
         let sent = |name: &String| {
@@ -221,7 +222,7 @@ fn bindings((principal, resource): Bound) -> SlotEnv {
         .collect()
 }
 
-/// The set is that of the board: both orders, each binding, the links of each template.
+/// Asserts that the set is equal to the model: both orders, each binding, and the links of each template.
 fn is_that_of(set: &PolicySet, board: &Board) {
     let bodies: Vec<_> = set.all_templates().map(|body| body.id().to_string()).collect();
     let due = board.0.iter().filter(|(_, it)| !matches!(it, Binding::Link(..)));
@@ -232,7 +233,7 @@ fn is_that_of(set: &PolicySet, board: &Board) {
     for (name, binding) in &board.0 {
         match binding {
             Binding::Static(body) => {
-                assert!(set.get(&id(name)).expect("it is held").is_static());
+                assert!(set.get(&id(name)).expect("it is present").is_static());
                 assert_eq!(set.get_template(&id(name)), Some(&template(name, *body)));
                 assert_eq!(linked(set, name), std::slice::from_ref(name));
             }
@@ -242,10 +243,10 @@ fn is_that_of(set: &PolicySet, board: &Board) {
                 assert_eq!(linked(set, name), board.links_of(name).cloned().collect::<Vec<_>>());
             }
             Binding::Link(of, bound) => {
-                let link = set.get(&id(name)).expect("it is held");
+                let link = set.get(&id(name)).expect("it is present");
                 assert_eq!(
                     link.template(),
-                    set.get_template(&id(of)).expect("its template is held")
+                    set.get_template(&id(of)).expect("its template is present")
                 );
                 assert_eq!(link.env(), &bindings(*bound));
                 assert!(set.get_template(&id(name)).is_none());
@@ -318,7 +319,7 @@ fn drawn_bound(drawn: &mut Drawn, body: Option<Body>) -> Bound {
     (slots.0.then(|| eid(drawn)), slots.1.then(|| eid(drawn)))
 }
 
-/// Makes one call on both, and compares what they answer.
+/// Makes the same call on both, and compares the results.
 fn one_call(drawn: &mut Drawn, set: &mut PolicySet, board: &mut Board, names: &[&str]) {
     let (one, two) = (*drawn.one_of(names), *drawn.one_of(names));
     let none = |_| vec![];
@@ -420,18 +421,19 @@ fn merges_of_drawn_sets() {
             renamed += due.as_ref().map_or(0, Vec::len);
             refused += usize::from(due.is_err());
         }
-        // a set merged into itself stays
+        // merging a set into itself changes nothing
         let same = set.clone();
         assert!(set.merge_policyset(&same, false).expect("nothing conflicts").is_empty());
         assert_eq!(set, same);
     }
     assert!(
         renamed > 5_000 && refused > 5_000,
-        "{renamed} ids were renamed and {refused} merges refused"
+        "{renamed} ids were renamed and {refused} merges failed"
     );
 }
 
-/// All pairs of small sets: one binding of each kind, differing or not, under the same id or another.
+/// All pairs of small sets: each has one binding of each kind, which are equal or different and have the same id or
+/// different ids.
 #[test]
 fn merges_of_all_small_sets() {
     let body = |slots, number| Body { slots, number };
@@ -490,7 +492,7 @@ fn merges_of_all_small_sets() {
     assert!(seen[&false] > 30, "{seen:?}");
 }
 
-/// The set of a board, each binding put in by its own call.
+/// Returns the set of a model. Each binding is added by its own call.
 fn made(board: &Board) -> PolicySet {
     let mut set = PolicySet::new();
     for (name, binding) in &board.0 {
@@ -507,7 +509,7 @@ fn made(board: &Board) -> PolicySet {
     set
 }
 
-/// What is linked and unlinked leaves the set as it was.
+/// Linking and unlinking leaves the set unchanged.
 #[test]
 fn a_link_that_is_unlinked_leaves_the_set_as_it_was() {
     for seed in 0..500 {

@@ -1,5 +1,5 @@
-//! Lists of calls on stores, drawn, beside a plain model: what is given is inserted, overwritten and deleted in a map from
-//! uids to parents, and ancestors are found by walking over the parents.
+//! Random sequences of calls on stores, compared with a plain model: a map from uids to parents. The model finds
+//! ancestors by searching over the parents.
 mod common;
 
 use cedar_store::ast::{Entity, EntityUID};
@@ -14,7 +14,7 @@ use std::sync::Arc;
 type Name = usize;
 type Parents = BTreeSet<Name>;
 
-/// What plain insertion, overwriting and deletion leave.
+/// The model: the parents of each entity.
 #[derive(Clone, Debug, Default, PartialEq)]
 struct World(BTreeMap<Name, Parents>);
 
@@ -44,7 +44,8 @@ impl World {
         }
     }
 
-    /// A present entity has to have the ancestors that are held; of several with one uid the first counts.
+    /// Adds entities. A stored entity must have the same ancestors. If several have the same uid, the first one is
+    /// used.
     fn add(&self, list: &[(Name, Parents)]) -> Result<World, Refusal> {
         let mut next = self.clone();
         for (name, parents) in list {
@@ -102,7 +103,7 @@ fn shared(list: &[(Name, Parents)]) -> Vec<Arc<Entity>> {
     list.iter().map(|row| Arc::new(entity(row))).collect()
 }
 
-/// The store is that of the world: its uids, parents and ancestors, and each way of asking for them.
+/// Asserts that the store is equal to the model: its uids, parents and ancestors, by each way to query them.
 fn is_that_of(store: &Entities, world: &World) {
     assert_eq!(store.len(), world.0.len());
     for entity in store {
@@ -131,7 +132,8 @@ fn refusal(error: &EntitiesError, world: &World) -> Refusal {
     }
 }
 
-/// A list of entities: few uids and few parents, so that all kinds of refusals come, and mostly upwards, so that few do.
+/// Returns a list of entities with few uids and few parents, so that every kind of error occurs. Most parents have
+/// greater numbers, so that errors are rare.
 fn drawn_list(drawn: &mut Drawn, world: &World, uids: usize) -> Vec<(Name, Parents)> {
     (0..drawn.below(4))
         .map(|_| {
@@ -146,7 +148,7 @@ fn drawn_list(drawn: &mut Drawn, world: &World, uids: usize) -> Vec<(Name, Paren
                     }
                 })
                 .collect();
-            // at times what is held already, by its ancestors
+            // sometimes an entity that is already stored, with its ancestors
             let parents = if drawn.once_in(4) && world.0.contains_key(&name) {
                 world.reached(name)
             } else {
@@ -157,7 +159,7 @@ fn drawn_list(drawn: &mut Drawn, world: &World, uids: usize) -> Vec<(Name, Paren
         .collect()
 }
 
-/// A world in which the entities of a list stand whatever is refused, to tell whether a uid is on a cycle of it.
+/// Returns the model after the edit, even if the edit returns an error. It shows whether a uid is on a cycle.
 fn forced(world: &World, list: &[(Name, Parents)], over: bool) -> World {
     let mut all = world.clone();
     for (name, parents) in list {
@@ -185,7 +187,7 @@ fn one_list_of_calls(seed: u64, uids: usize, calls: usize) -> (usize, usize) {
             world = world.remove(&list);
             store = store
                 .remove_entities(list.into_iter().map(uid), mode)
-                .expect("a removal is never refused");
+                .expect("a removal never fails");
             made += 1;
         } else {
             let list = drawn_list(&mut drawn, &world, uids);
@@ -218,7 +220,7 @@ fn one_list_of_calls(seed: u64, uids: usize, calls: usize) -> (usize, usize) {
                 }
                 (Err(due), Err(told)) => {
                     assert_eq!(refusal(&told, &forced(&from, &list, over)), due);
-                    // what was copied before stands
+                    // the copy from before the call is unchanged
                     is_that_of(&before, &world);
                     store = before;
                     refused += 1;
@@ -237,13 +239,13 @@ fn one_list_of_calls(seed: u64, uids: usize, calls: usize) -> (usize, usize) {
     (made, refused)
 }
 
-/// A slice has what is asked for and what stands above that, each with its parents and ancestors.
+/// Asserts that a slice contains the requested entities and their ancestors, each with its parents and ancestors.
 fn slices_are_parts(drawn: &mut Drawn, store: &Entities, world: &World, uids: usize) {
     let most = drawn.below(4);
     is_sliced(drawn, (store, world), uids, most);
 }
 
-/// A slice at so many uids, some of them asked for again, and the part of the world that it is.
+/// Returns a slice at `most` uids, which can be repeated, and the model of the slice.
 fn is_sliced(drawn: &mut Drawn, whole: (&Entities, &World), uids: usize, most: usize) -> (Entities, World) {
     let (store, world) = whole;
     let asked: Vec<Name> = (0..most).map(|_| drawn.below(uids + 2)).collect();
@@ -270,11 +272,11 @@ fn lists_of_calls_on_few_uids() {
     }
     assert!(
         made > 50_000 && refused > 5_000,
-        "{made} calls were made and {refused} refused"
+        "{made} calls succeeded and {refused} failed"
     );
 }
 
-/// From 40 entities on a store may list children, and edits go down from their own uids.
+/// A store with 40 or more entities can list children, and then edits search down from their own uids.
 #[test]
 fn lists_of_calls_on_many_uids() {
     for seed in 0..40 {
@@ -282,7 +284,7 @@ fn lists_of_calls_on_many_uids() {
     }
 }
 
-/// Edits alone of a store that is large from the first; now and then a slice of it goes on in its place.
+/// Makes only edits of a large store. Sometimes a slice of the store replaces it.
 fn one_list_of_edits(seed: u64, uids: usize, calls: usize) {
     let mut drawn = Drawn::new(seed);
     let first: Vec<(Name, Parents)> = (0..uids)
@@ -311,8 +313,8 @@ fn one_list_of_edits(seed: u64, uids: usize, calls: usize) {
     }
 }
 
-/// All graphs of three nodes, and of four with edges between different ones: built, each node overwritten without
-/// parents, and each removed.
+/// All graphs of three nodes, and all graphs of four nodes without loops. Each is built, and then each node is
+/// overwritten without parents and removed.
 #[test]
 fn all_small_graphs() {
     for bits in 0..512_u32 {

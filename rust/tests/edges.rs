@@ -1,4 +1,4 @@
-//! Cases at the edges, each of which some wrong line of the package would answer otherwise.
+//! Edge cases. Each of them detects a mutant of the package.
 mod common;
 #[path = "common/policies.rs"]
 mod policies;
@@ -44,7 +44,7 @@ fn links_are_equal_where_all_slots_are_bound_alike() {
         one.to_string().contains(r#"?principal -> A::"a",?resource -> A::"b""#),
         "{one}"
     );
-    // a link of one slot has no comma before it
+    // the text of a link with one slot has no comma
     let mut set = PolicySet::new();
     set.add_template(resource_template("t")).unwrap();
     let text = set

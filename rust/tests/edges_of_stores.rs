@@ -1,4 +1,4 @@
-//! Cases of stores at the edges, each of which some wrong line of the package would answer otherwise.
+//! Edge cases of stores. Each of them detects a mutant of the package.
 mod common;
 
 use cedar_store::ast::Entity;
@@ -24,7 +24,8 @@ fn stores_are_equal_where_their_uids_and_modes_are() {
     }
 }
 
-/// Entities that come with indirect ancestors: an edit of them goes by what is held, not down from the uids alone.
+/// Entities with indirect ancestors of their own: an edit must find affected entities by their ancestors, because a
+/// search down from the uids would miss some.
 #[test]
 fn what_comes_with_indirect_ancestors_is_edited_by_what_is_held() {
     let name = |number: usize| uid(&format!(r#"A::"{number}""#));
@@ -32,13 +33,13 @@ fn what_comes_with_indirect_ancestors_is_edited_by_what_is_held() {
         .map(|number| {
             let mut entity = Entity::with_uid(name(number));
             entity.add_parent(name(number + 1));
-            // one more ancestor than the parents imply
+            // an ancestor that the parents do not imply
             entity.add_indirect_ancestor(name(500));
             entity
         })
         .collect();
     let mut store = Entities::from_entities(entities, TCComputation::ComputeNow).unwrap();
-    // so many edits elsewhere that a store that is known to be plain lists who is a child of whom
+    // enough other edits that a plain store would list the children of each uid
     for number in 1_000..1_040 {
         let other = Arc::new(Entity::with_uid(name(number)));
         store = store.upsert_entities([other], TCComputation::ComputeNow).unwrap();
@@ -48,6 +49,6 @@ fn what_comes_with_indirect_ancestors_is_edited_by_what_is_held() {
     store = store
         .upsert_entities([Arc::new(parent)], TCComputation::ComputeNow)
         .unwrap();
-    let first = store.stored(&name(0)).expect("it is held");
+    let first = store.stored(&name(0)).expect("it is present");
     assert!(first.is_descendant_of(&name(501)), "{first}");
 }

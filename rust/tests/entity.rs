@@ -1,4 +1,4 @@
-//! The cases of uids, types and entities that the original has, under its names.
+//! The test cases of the original for uids, types and entities, under the same names.
 mod common;
 
 use cedar_store::ast::{ACTION_ENTITY_TYPE, Eid, Entity, EntityType, EntityUID, Id, Name, PartialValue, Value};
@@ -89,8 +89,8 @@ fn normalized_euid() {
     }
 }
 
-/// The original compares its quick reader with its parser. Here a text is read exactly where the uid that it is read as
-/// prints it again, and the eid is told beside it.
+/// The original compares its fast reader with its parser. This test checks that a text is accepted exactly if it is the
+/// printed form of the uid that is read. It also checks the eid.
 #[test]
 fn normalized_euid_matches_default() {
     for (text, eid) in [

@@ -1,21 +1,20 @@
-//! Each example writes what stands beside it.
+//! Each example writes the output in the `.out` file next to it.
 use std::path::Path;
 use std::process::Command;
 
 fn writes(example: &str) {
     let top = Path::new(env!("CARGO_MANIFEST_DIR"));
-    // cargo builds the examples before it runs the tests, and puts them beside the tests' own folder
+    // cargo builds the examples before it runs the tests, in a folder next to the folder of the tests
     let built = std::env::current_exe().expect("a test has a path");
     let folder = built
         .parent()
         .and_then(Path::parent)
-        .expect("the tests' folder stands in that of the profile");
+        .expect("the folder of the tests is in the folder of the profile");
     let told = Command::new(folder.join("examples").join(example))
         .output()
         .expect("the example is built");
     assert!(told.status.success(), "{example} ended with {}", told.status);
-    let due =
-        std::fs::read_to_string(top.join(format!("examples/{example}.out"))).expect("what it writes stands beside it");
+    let due = std::fs::read_to_string(top.join(format!("examples/{example}.out"))).expect("the expected output exists");
     assert_eq!(String::from_utf8_lossy(&told.stdout), due, "{example}");
 }
 

@@ -1,5 +1,5 @@
-//! Stores, policy sets, closures and runs under other builders of hashers: two keys, one by which all ids collide, and one of
-//! another order. None shows in what calls answer.
+//! Stores, policy sets, closures and runs with other builders of hashers: two keys, one builder for which all ids
+//! collide, and one with another order. The builder does not affect the results.
 mod common;
 #[path = "common/policies.rs"]
 mod policies;
@@ -14,7 +14,7 @@ use std::collections::HashMap;
 use std::hash::{BuildHasher, Hasher};
 use std::sync::Arc;
 
-/// All ids have one hash.
+/// A builder for which all ids have the same hash.
 #[derive(Clone, Copy, Default)]
 struct Colliding;
 
@@ -34,7 +34,7 @@ impl Hasher for Colliding {
     fn write(&mut self, _: &[u8]) {}
 }
 
-/// Hashes by sums from the back, in no order that another hasher has.
+/// A hasher that sums the bytes from the end, which gives another order than any other hasher.
 #[derive(Clone, Copy, Default)]
 struct Backwards(u64);
 
@@ -70,7 +70,7 @@ fn entity(drawn: &mut Drawn, name: usize) -> Entity {
     entity
 }
 
-/// What a list of drawn calls on a store answers and leaves, as a text.
+/// Returns the results of random calls on a store, and the final store, as a text.
 fn stores<S: BuildHasher + Clone>(hasher: S, seed: u64) -> String {
     let mut drawn = Drawn::new(seed);
     let first: Vec<Entity> = (0..50).map(|name| entity(&mut drawn, name)).collect();
@@ -95,7 +95,7 @@ fn stores<S: BuildHasher + Clone>(hasher: S, seed: u64) -> String {
     told
 }
 
-/// What drawn calls on a policy set, and a merge, answer and leave.
+/// Returns the results of random calls on a policy set and of a merge, and the final set, as a text.
 fn sets<S: BuildHasher + Copy>(hasher: S, seed: u64) -> String {
     let mut drawn = Drawn::new(seed);
     let mut told = String::new();
@@ -122,7 +122,7 @@ fn sets<S: BuildHasher + Copy>(hasher: S, seed: u64) -> String {
         set
     };
     let (mut one, other) = (made(), made());
-    let renaming = one.merge_policyset(&other, true).expect("what conflicts is renamed");
+    let renaming = one.merge_policyset(&other, true).expect("conflicting ids are renamed");
     for (old, new) in renaming.iter() {
         told += &format!("{old} {new} ");
     }
@@ -170,11 +170,11 @@ fn runs_are_alike_under_every_hasher() {
 
 fn ran<S: BuildHasher + Copy>(hasher: S, lines: &str) -> (Vec<u8>, u8) {
     let mut written = Vec::new();
-    let status = run_with(hasher, &mut lines.as_bytes(), &mut written).expect("memory is read and written");
+    let status = run_with(hasher, &mut lines.as_bytes(), &mut written).expect("reading and writing memory never fails");
     (written, status)
 }
 
-/// Maps that a user closes may have any hasher.
+/// A map of nodes can have any hasher.
 #[test]
 fn maps_of_nodes_are_closed_under_every_hasher() {
     fn closed<S: BuildHasher + Clone>(hasher: S) -> Vec<String> {
@@ -184,7 +184,7 @@ fn maps_of_nodes_are_closed_under_every_hasher() {
             entity.add_parent(uid((name * 7 + 3) % 40));
             nodes.insert(uid(name), entity);
         }
-        cedar_store::transitive_closure::compute_tc(&mut nodes, false).expect("nothing is refused");
+        cedar_store::transitive_closure::compute_tc(&mut nodes, false).expect("the call succeeds");
         let mut texts: Vec<String> = nodes.values().map(ToString::to_string).collect();
         texts.sort();
         texts

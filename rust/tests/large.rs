@@ -1,4 +1,4 @@
-//! Much of everything: deep trees of expressions and values, sets of many policies, stores of many entities.
+//! Large inputs: deep expressions and values, sets with many policies, and stores with many entities.
 mod common;
 #[path = "common/policies.rs"]
 mod policies;
@@ -18,14 +18,14 @@ use std::thread;
 
 const LEVELS: usize = 10_000;
 
-/// Printing, comparing, hashing and letting go of a tree go down it by recursion: so on a stack that has room.
+/// Runs a test with a large stack, because printing, comparing, hashing and dropping a tree recurse.
 fn with_room(test: fn()) {
     thread::Builder::new()
         .stack_size(1 << 28)
         .spawn(test)
         .expect("a thread")
         .join()
-        .expect("it ends well");
+        .expect("the test succeeds");
 }
 
 fn hash_of<T: Hash>(thing: &T) -> u64 {
@@ -135,14 +135,14 @@ fn sets_of_many() {
         set.unlink(&PolicyID::from_string(format!("link{number}"))).unwrap();
     }
     assert_eq!(set.get_linked_policies(&id("t")).unwrap().count(), 20_000);
-    // all statics conflict: each gets the next name that neither set has
+    // all static policies conflict: each gets the next name that neither set has
     let mut other = PolicySet::new();
     for number in 0..30_000 {
         other
             .add_static(permit(name(number).as_ref(), Some(Expr::val(false))))
             .unwrap();
     }
-    let renaming = set.merge_policyset(&other, true).expect("what conflicts is renamed");
+    let renaming = set.merge_policyset(&other, true).expect("conflicting ids are renamed");
     for (number, (old, new)) in renaming.iter().enumerate() {
         assert_eq!((old, new), (&name(number), &name(30_000 + number)));
     }
@@ -161,8 +161,9 @@ fn under(number: usize, parents: &[usize]) -> Entity {
     entity
 }
 
-/// A refused cycle costs what reading it costs, a check of a closed chain what its ancestors do, and a slice that repeats a
-/// uid what it has: each would take minutes or gigabytes otherwise.
+/// The cost of an error for a cycle is linear in the input. The cost of a check of a closed chain is linear in its
+/// ancestors. The cost of a slice is linear in its result, even if uids are repeated. Otherwise the test would take
+/// minutes or gigabytes.
 #[test]
 fn what_is_refused_checked_and_repeated() {
     let cycle = (0..100_000).map(|number| under(number, &[(number + 1) % 100_000]));
@@ -197,10 +198,10 @@ fn stores_of_many() {
     });
     let store = Entities::from_entities(tree, TCComputation::ComputeNow).unwrap();
     let Dereference::Data(leaf) = store.entity(&node(99_999)) else {
-        panic!("it is held")
+        panic!("it is present")
     };
     assert!(leaf.is_descendant_of(&node(0)) && leaf.ancestors().count() == 6);
-    // a hub of many children goes, and with it their edges
+    // a hub with many children is removed, and the edges to it
     let hub = (0..50_000).map(|number| under(number + 1, &[0])).chain([under(0, &[])]);
     let store = Entities::from_entities(hub, TCComputation::ComputeNow).unwrap();
     let store = store.remove_entities([node(0)], TCComputation::ComputeNow).unwrap();

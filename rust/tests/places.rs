@@ -1,5 +1,5 @@
-//! Where things of policies stand: their places are kept by copies, by other ids, by links and by merging, count in no
-//! comparison, and are those that refusals name.
+//! Source locations of policies. Copies, other ids, links and merges keep them, no comparison uses them, and errors
+//! report them.
 mod common;
 
 use cedar_store::ast::{
@@ -22,7 +22,7 @@ fn start(loc: Option<&Loc>) -> Option<usize> {
     loc.map(|loc| loc.start)
 }
 
-/// A uid at a place.
+/// Returns a uid with a location.
 fn placed(text: &str, start: usize) -> EntityUID {
     let (ty, eid) = uid(text).components();
     EntityUID::from_components(ty, eid, at(start))
@@ -41,7 +41,8 @@ fn slot(start: usize) -> PrincipalOrResourceConstraint {
     PrincipalOrResourceConstraint::Eq(EntityReference::Slot(at(start)))
 }
 
-/// `t` at 1 with an annotation at 4, the principal's slot at 3, the action's at 6, the resource's at 5, and a clause.
+/// Returns `t` with the location 1, an annotation at 4, the principal's slot at 3, the action's slot at 6, the
+/// resource's slot at 5, and a clause.
 fn template(clause: Option<Expr>) -> Template {
     Template::new(
         id("t"),
@@ -59,7 +60,7 @@ fn principal_slot(start: usize) -> Expr {
     Expr::slot(SlotId::principal()).with_maybe_source_loc(at(start))
 }
 
-/// Where the annotation, the slot of a constraint and the thing itself stand.
+/// Returns the locations of the annotation, of the slot in a constraint, and of the template.
 fn starts_of(template: &Template) -> [Option<usize>; 3] {
     let key = AnyId::from_normalized_str("k").unwrap();
     let note = template.annotation(&key).and_then(|note| note.loc.as_ref());
@@ -95,6 +96,42 @@ fn templates_keep_places_whatever_is_made_of_them() {
         );
     }
     assert_eq!(one.new_id(id("u")).id(), &id("u"));
+}
+
+#[test]
+fn what_is_made_of_shared_parts_and_of_a_clause_has_its_location() {
+    let annotations = shared(notes());
+    let one = Template::new_shared(
+        id("t"),
+        at(1),
+        annotations.clone(),
+        Effect::Permit,
+        PrincipalConstraint::new(slot(3)),
+        ActionConstraint::EqSlot(at(6)),
+        ResourceConstraint::new(slot(5)),
+        Some(shared(principal_slot(7))),
+    );
+    assert_eq!(starts_of(&one), [Some(1), Some(4), Some(3)]);
+    let slots: Vec<_> = one.slots().map(|slot| start(slot.loc.as_ref())).collect();
+    assert_eq!(slots, [Some(7), Some(5), Some(6), Some(3)]);
+    let clause = || Expr::val(true).with_maybe_source_loc(at(8));
+    let bare = Policy::from_when_clause(Effect::Forbid, clause(), id("p"), at(2));
+    let noted = Policy::from_when_clause_annos(Effect::Forbid, shared(clause()), id("p"), at(2), annotations);
+    for policy in [&bare, &noted] {
+        assert_eq!((policy.id(), policy.effect()), (&id("p"), Effect::Forbid));
+        assert_eq!(
+            (start(policy.loc()), start(policy.template().loc())),
+            (Some(2), Some(2))
+        );
+        let clause = policy.non_scope_constraints().expect("it has a clause");
+        assert_eq!(start(clause.source_loc()), Some(8));
+    }
+    assert_eq!(starts_of(noted.template()), [Some(2), Some(4), None]);
+    assert_eq!(starts_of(bare.template()), [Some(2), None, None]);
+    assert_eq!(
+        start(Policy::from_when_clause(Effect::Permit, clause(), id("p"), None).loc()),
+        None
+    );
 }
 
 #[test]
@@ -191,7 +228,7 @@ fn links_have_the_places_of_what_their_slots_are_bound_to() {
     assert_eq!((moved.template().id(), moved.id()), (&id("u"), &id("l")));
     let (own, name, values) = link.clone().into_components();
     assert_eq!((own.id(), name, values.len()), (&id("t"), Some(id("l")), 3));
-    // equal where template, id and bindings are, wherever they stand
+    // equal if the template, the id and the bindings are equal, for any locations
     let elsewhere = SlotEnv::from([
         (SlotId::resource(), uid(r#"A::"r""#)),
         (SlotId::action(), uid(r#"N::Action::"é""#)),
@@ -247,7 +284,7 @@ fn static_policies_keep_places() {
     let policy = Policy::from(one.clone());
     assert_eq!(start(policy.loc()), Some(9));
     assert!(policy.clone().new_template_id(id("u")).is_none());
-    // the nodes that a condition makes stand where the policy does
+    // the new nodes of a condition have the location of the policy
     assert_eq!(start(policy.condition().source_loc()), Some(9));
     let renamed = policy.new_id(id("m"));
     assert_eq!((renamed.id(), renamed.template().id()), (&id("m"), &id("m")));
@@ -283,7 +320,7 @@ fn refusals_name_the_slot_where_it_stands() {
     }
 }
 
-/// A template without slots whose text begins at a place.
+/// Returns a template without slots at a location.
 fn thing_at(name: &str, start: usize) -> Template {
     Template::new(
         id(name),
@@ -297,7 +334,8 @@ fn thing_at(name: &str, start: usize) -> Template {
     )
 }
 
-/// What is bound alike takes the other's value: a static policy, a template, and a template with its link.
+/// A merge takes over the value of the other set for equal items: a static policy, a template, and a template with its
+/// link.
 #[test]
 fn merging_takes_the_others_places() {
     fn thing(start: usize) -> Template {
@@ -335,7 +373,7 @@ fn merging_takes_the_others_places() {
     }
 }
 
-/// Of several policies each takes the place of the one with its id, in whatever order the sets have them.
+/// Each of several policies takes over the location of the policy with its id, for any orders of the two sets.
 #[test]
 fn each_policy_takes_the_others_place_for_its_own_id() {
     fn set_of(ids: [&str; 3], first: usize) -> PolicySet {
@@ -354,7 +392,7 @@ fn each_policy_takes_the_others_place_for_its_own_id() {
     }
 }
 
-/// Where a place begins and ends, and in which text.
+/// Returns the start, the end and the text of a location.
 fn span(loc: Option<&Loc>) -> Option<(usize, usize, String)> {
     loc.map(|loc| (loc.start, loc.end, loc.src.to_string()))
 }
@@ -376,8 +414,8 @@ fn a_name_that_is_qualified_stays_where_it_stands() {
     assert_eq!(span(qualified.loc()), Some((0, 4, "User".to_string())));
 }
 
-/// Equal links of one template that both sets share: the uid that is bound and its type take the other's places, whatever
-/// these differ in.
+/// Equal links of a template that both sets share: the bound uid and its type take over the locations of the other set,
+/// for any kind of difference.
 #[test]
 fn merging_takes_the_others_place_of_a_uid_that_is_bound() {
     let text: std::sync::Arc<str> = r#"User::"x" in more"#.into();

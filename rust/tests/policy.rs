@@ -1,4 +1,4 @@
-//! The cases of constraints, bodies, templates and linking that the original has, under its names.
+//! The test cases of the original for constraints, bodies, templates and linking, under the same names.
 mod common;
 #[path = "common/policies.rs"]
 mod policies;
@@ -11,7 +11,8 @@ use cedar_store::ast::{
 use common::{id, shared, uid, with_eid};
 use std::sync::Arc;
 
-/// Every constraint of a principal or resource but for those by type: of any, of a uid and of a slot, equal and in.
+/// Returns the constraints on a principal or a resource without types: any, and `==` and `in` with a uid and with a
+/// slot.
 fn all_por_constraints() -> [PrincipalOrResourceConstraint; 5] {
     let uid = shared(with_eid("test"));
     [
@@ -33,7 +34,7 @@ fn all_actions_constraints() -> [ActionConstraint; 4] {
     ]
 }
 
-/// The 200 templates of these constraints and both effects.
+/// Returns the 200 templates with these constraints and both effects.
 fn all_templates() -> Vec<Template> {
     let mut all = Vec::new();
     for principal in all_por_constraints() {
@@ -121,7 +122,7 @@ fn test_static_policy_rebuild() {
     }
 }
 
-/// The lists that a refusal for slots names: those that lack a uid, and those that the template lacks.
+/// Returns the lists of an arity error: the slots without a binding, and the bound ids that are not slots.
 fn arity(template: &Arc<Template>, bindings: SlotEnv) -> (Vec<SlotId>, Vec<SlotId>) {
     match Template::link(template.clone(), id("iid"), bindings) {
         Err(LinkingError::ArityError {
@@ -288,7 +289,7 @@ fn por_constraint_display() {
     );
 }
 
-/// The original parses a policy with several clauses; here the clause is made, and what is told of it is the same text.
+/// The original parses a policy with several clauses. This test builds the clause, and expects the same text.
 #[test]
 fn policy_to_expr() {
     let is = |left: i64, right: i64| Expr::is_eq(Expr::val(left), Expr::val(right));
@@ -314,7 +315,7 @@ fn policy_to_expr() {
     );
 }
 
-/// A template is no static policy, and the refusal names the slot, in the scope and in the clause.
+/// A template with slots cannot become a static policy. The error names a slot of the scope or of the clause.
 #[test]
 fn unexpected_templates() {
     use cedar_store::ast::UnexpectedSlotError;

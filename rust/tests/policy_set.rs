@@ -1,4 +1,5 @@
-//! The cases of policy sets that the original has, under its names. Where the original parses a policy, it is made here.
+//! The test cases of the original for policy sets, under the same names. Where the original parses a policy, this test
+//! builds it.
 mod common;
 #[path = "common/policies.rs"]
 mod policies;
@@ -24,7 +25,7 @@ fn occupied(answer: Result<(), PolicySetError>) -> PolicyID {
 fn set_of(policies: impl IntoIterator<Item = StaticPolicy>) -> PolicySet {
     let mut set = PolicySet::new();
     for policy in policies {
-        set.add_static(policy).expect("a free id");
+        set.add_static(policy).expect("the id is not bound");
     }
     set
 }
@@ -42,17 +43,17 @@ fn link_conflicts() {
 #[test]
 fn policyset_add() {
     let mut set = PolicySet::new();
-    set.add(permit("id", None).into()).expect("a free id");
+    set.add(permit("id", None).into()).expect("the id is not bound");
     let template = shared(principal_template("t"));
     let link = |name: &str, eid: &str| {
         Template::link(template.clone(), id(name), principal(uid(eid))).expect("the slot is bound")
     };
     set.add(link("link", r#"Test::"test1""#))
-        .expect("its template comes with it");
+        .expect("its template is added with it");
     assert!(set.get_template_arc(&id("t")).is_some());
     assert_eq!(occupied(set.add(link("link", r#"Test::"test2""#))), id("link"));
     set.add(link("link2", r#"Test::"test2""#))
-        .expect("its template is there");
+        .expect("its template is present");
     let other = shared(resource_template("t"));
     let linked = Template::link(other, id("unique3"), resource(uid(r#"Test::"test3""#))).unwrap();
     assert_eq!(occupied(set.add(linked)), id("t"));
@@ -104,8 +105,11 @@ fn policy_merge_with_conflicts() {
         other => panic!("{other:?}"),
     }
     assert_eq!(one, before);
-    let renaming = one.merge_policyset(&other, true).expect("a conflict is renamed");
-    let fresh = renaming.get(&id("policy1")).expect("the id that conflicts").clone();
+    let renaming = one.merge_policyset(&other, true).expect("conflicting ids are renamed");
+    let fresh = renaming
+        .get(&id("policy1"))
+        .expect("the conflicting id was renamed")
+        .clone();
     assert_eq!(renaming.keys().len(), 1);
     assert_eq!(fresh, id("policy3"));
     for (name, policy) in [
@@ -213,7 +217,7 @@ fn link_slotmap() {
     set.add_template(principal_template("template")).unwrap();
     set.link(id("template"), id("link"), principal(with_eid("eid")))
         .expect("the slot is bound");
-    let link = set.get(&id("link")).expect("it is held");
+    let link = set.get(&id("link")).expect("it is present");
     assert_eq!((link.id(), link.template().id()), (&id("link"), &id("template")));
     assert_eq!(link.env().get(&SlotId::principal()), Some(&with_eid("eid")));
 }
@@ -271,7 +275,8 @@ fn policy_set_insertion_order() {
     let names: Vec<_> = (1..=4).map(|number| id(&format!("id{number}"))).collect();
     let mut set = PolicySet::new();
     for name in &names {
-        set.add(permit(name.as_ref(), None).into()).expect("a free id");
+        set.add(permit(name.as_ref(), None).into())
+            .expect("the id is not bound");
     }
     let told: Vec<_> = set.into_policies().map(|policy| policy.id().clone()).collect();
     assert_eq!(told, names);
@@ -301,7 +306,7 @@ mod policy_set_validate_test {
     fn make_policy_set(templates: impl IntoIterator<Item = Template>) -> PolicySet {
         let mut set = PolicySet::new();
         for template in templates {
-            set.add_template(template).expect("a free id");
+            set.add_template(template).expect("the id is not bound");
         }
         set
     }

@@ -1,7 +1,7 @@
-//! What each refusal says, past ASCII and with what is escaped, and which refusals are equal.
+//! The messages of all errors, also with non-ASCII and escaped characters, and the equality of errors.
 #![allow(
     unreachable_patterns,
-    reason = "the errors of the crate for the library have one variant more"
+    reason = "the errors of `cedar-store-proved` have an additional variant"
 )]
 mod common;
 

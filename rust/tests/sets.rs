@@ -1,7 +1,7 @@
-//! Policy sets after merges, linked and unlinked by the thousand, taken apart, and lists of calls on them and on stores.
+//! Policy sets: merges, thousands of links and unlinks, iteration by value, and replays of calls on sets and stores.
 #![allow(
     unreachable_patterns,
-    reason = "the errors of the crate for the library have one variant more"
+    reason = "the errors of `cedar-store-proved` have an additional variant"
 )]
 mod common;
 #[path = "common/policies.rs"]
@@ -15,11 +15,11 @@ use policies::{permit, principal_template, resource_template};
 use std::sync::Arc;
 
 fn links_of(set: &PolicySet, template: &str) -> Vec<String> {
-    let ids = set.get_linked_policies(&id(template)).expect("it is held");
+    let ids = set.get_linked_policies(&id(template)).expect("it is present");
     ids.map(ToString::to_string).collect()
 }
 
-/// A set of the principal's template `t` and links of it.
+/// Returns a set of the principal's template `t` and links of it.
 fn linked(links: &[(&str, &str)]) -> PolicySet {
     let mut set = PolicySet::new();
     set.add_template(principal_template("t")).unwrap();
@@ -29,7 +29,7 @@ fn linked(links: &[(&str, &str)]) -> PolicySet {
     set
 }
 
-/// The same of the resource's template.
+/// Returns a set of the resource's template `t` and links of it.
 fn resource_linked(links: &[(&str, &str)]) -> PolicySet {
     let mut set = PolicySet::new();
     set.add_template(resource_template("t")).unwrap();
@@ -45,7 +45,7 @@ fn the_links_of_a_template_after_a_merge() {
     set.merge_policyset(&linked(&[("l", "x"), ("m", "y"), ("k", "x")]), true)
         .unwrap();
     assert_eq!(links_of(&set, "t"), ["l", "m", "k"]);
-    // a template that conflicts is renamed, and its links go with it
+    // a conflicting template is renamed, together with its links
     let mut set = linked(&[("l", "x")]);
     let renaming = set
         .merge_policyset(&resource_linked(&[("m", "x"), ("n", "y")]), true)
@@ -56,11 +56,11 @@ fn the_links_of_a_template_after_a_merge() {
         (vec!["l".into()], vec!["m".into(), "n".into()])
     );
     assert_eq!(set.get(&id("m")).unwrap().template().id(), &id("policy0"));
-    // a link that conflicts is renamed on the same template
+    // a conflicting link is renamed, and belongs to the same template
     let mut set = linked(&[("l", "x")]);
     set.merge_policyset(&linked(&[("l", "y")]), true).unwrap();
     assert_eq!(links_of(&set, "t"), ["l", "policy0"]);
-    // what was unlinked before does not come back, and what comes can go
+    // a link that was removed is not restored, and a merged link can be removed
     let mut set = linked(&[("l", "x")]);
     set.unlink(&id("l")).unwrap();
     set.merge_policyset(&linked(&[("m", "y")]), true).unwrap();
@@ -76,7 +76,7 @@ fn the_links_of_a_template_after_a_merge() {
         set.remove_template(&id("t")),
         Err(PolicySetTemplateRemovalError::RemoveTemplateWithLinksError(told)) if told == id("t")
     ));
-    // a static policy is listed on its own body
+    // a static policy is listed under its own id
     let mut set = PolicySet::new();
     set.add_static(permit("a", None)).unwrap();
     let mut other = set.clone();
@@ -111,8 +111,8 @@ fn a_merged_set_is_merged_again() {
     assert_eq!(names, ["a", "policy0", "b", "policy1"]);
 }
 
-/// A hundred policies under the first ids that merging gives, and as many that conflict, or one or two more: bodies and
-/// policies stand in the order in which they came, those that conflict behind by the number of the others.
+/// A set has policies with the first 100 ids that a merge chooses. It is merged with a set of 100 or more policies, and
+/// 100 of them conflict. Bodies and policies keep their insertion order, and the merged ones are last.
 #[test]
 fn orders_after_renaming() {
     for there in [100, 101, 102, 500] {
@@ -176,13 +176,13 @@ fn copies_stand_apart_and_sets_of_one_are_what_adding_leaves() {
     assert_eq!(alone, added);
     added.remove_static(&id("a")).unwrap();
     assert!(added.is_empty());
-    // linking lends the policy
+    // linking returns a reference to the policy
     let mut set = linked(&[]);
     let lent = set.link(id("t"), id("l"), principal(with_eid("x"))).unwrap();
     assert_eq!(lent.id(), &id("l"));
 }
 
-/// A link of a copy of bindings is that of the bindings, and is refused as that is.
+/// Linking with a copy of bindings gives the same result as with the bindings.
 #[test]
 fn links_of_copies_of_bindings() {
     let fit = principal(with_eid("x"));
@@ -265,7 +265,7 @@ fn lists_of_calls_on_a_store() {
         EntityCall::Upsert(vec![shared(child("b", &["d"]))]),
         EntityCall::Remove(vec![uid(r#"A::"z""#)]),
     ])
-    .expect("nothing is refused");
+    .expect("the call succeeds");
     assert!(store.is_partial() && store.len() == 2);
     let again = replay_entities([EntityCall::Partial, EntityCall::From(vec![child("a", &[])])]).unwrap();
     assert!(!again.is_partial());

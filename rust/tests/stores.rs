@@ -1,9 +1,10 @@
-//! Stores: absent parents that come and go, copies and shared entities that stay as they were, look-ups, texts past ASCII,
-//! and which fault of many entities is told.
+//! Stores: absent parents that are added and removed, copies that do not change, shared entities, lookups, non-ASCII
+//! texts, and the fault that is reported for several invalid entities.
 mod common;
 
 use cedar_store::ast::{Entity, EntityUID, Expr, PartialValue, StaticType, Value};
 use cedar_store::entities::{Dereference, Entities, EntitiesError, TCComputation};
+use cedar_store::{are_bare, would_add, would_upsert};
 use common::{shared, uid};
 use std::collections::HashSet;
 use std::sync::Arc;
@@ -21,10 +22,10 @@ fn under(number: usize, parents: &[usize]) -> Entity {
 }
 
 fn computed(entities: impl IntoIterator<Item = Entity>) -> Entities {
-    Entities::from_entities(entities, TCComputation::ComputeNow).expect("nothing is refused")
+    Entities::from_entities(entities, TCComputation::ComputeNow).expect("the call succeeds")
 }
 
-/// How many entities a store has, and how many ancestors these have.
+/// Returns the number of entities, and the total number of their ancestors.
 fn counts(store: &Entities) -> (usize, usize) {
     (store.len(), store.iter().map(|entity| entity.ancestors().count()).sum())
 }
@@ -32,13 +33,51 @@ fn counts(store: &Entities) -> (usize, usize) {
 fn added(store: Entities, number: usize, parents: &[usize]) -> Entities {
     store
         .add_entities([Arc::new(under(number, parents))], TCComputation::ComputeNow)
-        .expect("nothing is refused")
+        .expect("the call succeeds")
 }
 
 fn removed(store: Entities, numbers: &[usize]) -> Entities {
     store
         .remove_entities(numbers.iter().map(|number| node(*number)), TCComputation::ComputeNow)
-        .expect("a removal is never refused")
+        .expect("a removal never fails")
+}
+
+#[test]
+fn a_dry_run_changes_nothing_and_returns_the_error_of_the_edit() {
+    let store = computed([under(1, &[2]), under(2, &[3]), under(3, &[])]);
+    let before = store.clone();
+    let list = |number: usize, parents: &[usize]| [Arc::new(under(number, parents))];
+    let now = TCComputation::ComputeNow;
+    // a new entity, an equal one, one that differs from the stored one, and one that closes a cycle
+    for (number, parents, adds, upserts) in [
+        (9, &[1][..], true, true),
+        (1, &[2, 3], true, true),
+        (1, &[3], false, true),
+        (3, &[1], false, false),
+        (9, &[9], false, false),
+    ] {
+        let list = list(number, parents);
+        assert!(are_bare(&list));
+        let (add, upsert) = (would_add(&store, &list), would_upsert(&store, &list));
+        assert_eq!((add.is_ok(), upsert.is_ok()), (adds, upserts), "{number} {parents:?}");
+        let added = store.clone().add_entities(list.clone(), now);
+        let upserted = store.clone().upsert_entities(list, now);
+        assert_eq!(add.map_err(kind_of).err(), added.map_err(kind_of).err());
+        assert_eq!(upsert.map_err(kind_of).err(), upserted.map_err(kind_of).err());
+    }
+    assert!(store.deep_eq(&before));
+    let mut closed = under(4, &[1]);
+    closed.add_indirect_ancestor(node(2));
+    assert!(!are_bare(&[Arc::new(under(5, &[])), Arc::new(closed)]));
+}
+
+/// The kind of an error: a duplicate, with its uid, or a cycle.
+fn kind_of(error: EntitiesError) -> Option<EntityUID> {
+    match error {
+        EntitiesError::Duplicate(uid) => Some(uid),
+        EntitiesError::TransitiveClosureError(_) => None,
+        other => panic!("{other}"),
+    }
 }
 
 #[test]
@@ -89,7 +128,7 @@ fn copies_and_shared_entities_stay_as_they_were() {
     let changed = removed(store, &[2]);
     assert!(!copy.deep_eq(&changed));
     assert_eq!((counts(&copy), counts(&changed)), ((2, 3), (1, 0)));
-    // a store that is taken apart while a copy shares its entities gives the same
+    // iterating over a store by value gives the same entities even if a copy shares them
     let given: Vec<Entity> = copy.clone().into_iter().collect();
     let again = Entities::from_entities(given, TCComputation::AssumeAlreadyComputed).unwrap();
     assert!(again.deep_eq(&copy));
@@ -109,7 +148,7 @@ fn a_look_up_finds_what_is_there_or_an_unknown_of_its_type() {
             assert_eq!(found.clone().unwrap().uid(), &node(1));
             assert_eq!(found.expect("it was found").uid(), &node(1));
         }
-        _ => panic!("it is held"),
+        _ => panic!("it is present"),
     }
     assert!(matches!(store.entity(&node(2)), Dereference::NoSuchEntity));
     let partial = store.partial();
@@ -125,7 +164,7 @@ fn a_look_up_finds_what_is_there_or_an_unknown_of_its_type() {
                 _ => panic!("one unknown"),
             }
         }
-        _ => panic!("it is not held"),
+        _ => panic!("it is absent"),
     }
 }
 
@@ -149,7 +188,7 @@ fn texts_past_ascii() {
         store.to_string(),
         "A::\"e\":\n  attrs:\n  ancestors:A::\"ß\", A::\"é\"\nA::\"é\":\n  attrs:a: 2; ñ: -1\n  ancestors:A::\"ß\"\n"
     );
-    // uids stand by the last names of their types first
+    // uids are ordered by the last identifier of their types first
     let names = ["A::B::\"x\"", "B::A::\"x\"", "A::\"y\"", "A::A::\"z\"", "A::\"x\""];
     let text = computed(names.map(|name| Entity::with_uid(uid(name)))).to_string();
     let told: Vec<_> = text.lines().filter(|line| !line.starts_with(' ')).collect();
@@ -179,8 +218,8 @@ fn record(keys: &[&str], inner: Value) -> Value {
     Value::record(keys.iter().map(|key| (*key, inner.clone())), None)
 }
 
-/// A reserved key is found in the entity of the least uid; in it in the attribute of the least key, before any tag; there
-/// at the key itself, then in what stands below it.
+/// The first reserved key is reported. Entities are checked in the order of uids, attributes before tags and in the
+/// order of keys, and a key before its value.
 #[test]
 fn the_first_reserved_key_is_told() {
     let told = |error: EntitiesError| match error {
@@ -212,7 +251,7 @@ fn the_first_reserved_key_is_told() {
         &[("a", record(&["__entity"], one()))],
     );
     assert_eq!(told(both.unwrap_err()), "__extn");
-    // a value is walked before the next key
+    // a value is checked before the next key
     let inner = record(&["__extn"], one());
     let walked = Value::record([("A", inner), ("__expr", one())], None);
     assert_eq!(told(attrs(&[], &[("t", walked)]).unwrap_err()), "__extn");

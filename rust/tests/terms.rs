@@ -1,5 +1,5 @@
-//! Variables, slots, types, unknowns and reserved keys; and where values and expressions stand, which no comparison looks
-//! at and each copy keeps.
+//! Variables, slots, types, unknowns and reserved keys. Also the locations of values and expressions, which copies keep
+//! and comparisons ignore.
 mod common;
 
 use cedar_store::ast::{
@@ -26,7 +26,7 @@ fn hash_of<T: Hash>(thing: &T) -> u64 {
     hasher.finish()
 }
 
-/// Equal, and hashed alike.
+/// Asserts that both are equal and have the same hash.
 fn agree<T: PartialEq + Hash + Debug>(one: &T, other: &T) {
     assert_eq!((one, hash_of(one)), (other, hash_of(other)));
 }
@@ -122,7 +122,7 @@ fn values_keep_their_places() {
         ValueKind::Record(fields) => start(fields.values().next().and_then(|value| value.loc.as_ref())),
         _ => None,
     };
-    // of a key that is given twice the later value counts
+    // if a key is repeated, the last value is used
     let twice = Value::record([("k", one_at(3)), ("k", one_at(4))], None);
     assert_eq!(
         (first(&record), first(&twice), first(&twice.clone())),
@@ -153,7 +153,7 @@ fn partial_values() {
     assert_eq!(place_of(&PartialValue::Residual(placed()).clone()), Some(3));
 }
 
-/// `?principal == 1`, each node at a place of its own.
+/// Returns `?principal == 1`, in which each node has its own location.
 fn placed() -> Expr {
     let slot = Expr::slot(SlotId::principal()).with_maybe_source_loc(at(1));
     let one = Expr::val(1).with_maybe_source_loc(at(2));
@@ -193,7 +193,7 @@ fn types_keep_their_places() {
     assert_eq!(of(&placed.type_of()), Some(3));
     let unknown = Unknown::new_with_type("x", StaticType::Entity { ty: type_at(4) }).clone();
     assert_eq!(unknown.type_annotation.as_ref().and_then(of), Some(4));
-    // the derived text tells each place
+    // the output of the derived `Debug` contains each location
     let derived = |start: usize| format!("{:?}", Expr::is_entity_type(Expr::val(true), type_at(start)).clone());
     assert_eq!(
         derived(4),

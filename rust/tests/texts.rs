@@ -1,5 +1,5 @@
-//! How bodies, templates, static policies and links are written, what their conditions are, in which order their slots
-//! stand, what their annotations are, and which entities their unknowns name.
+//! The texts of bodies, templates, static policies and links, their conditions, the order of their slots, their
+//! annotations, and the unknown entities in them.
 mod common;
 
 use cedar_store::ast::{
@@ -220,7 +220,7 @@ fn annotations_are_found_by_their_keys_and_shared() {
     assert_eq!(again, one);
 }
 
-/// An unknown with a type and a printed uid of that type names it, each uid once.
+/// An unknown names an entity if it has a type and its name is a printed uid of that type. Each uid is returned once.
 #[test]
 fn unknowns_name_entities() {
     let typed = |name: &str, text: &str| {

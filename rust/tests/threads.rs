@@ -1,4 +1,4 @@
-//! What is shared between threads is read by all of them, and what one edits is its own.
+//! Threads can read shared stores and sets, and an edit by one thread is not visible to the others.
 mod common;
 #[path = "common/policies.rs"]
 mod policies;

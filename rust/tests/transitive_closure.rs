@@ -1,5 +1,5 @@
-//! The cases of closures that the original has, under its names. It asks its private checks; here `enforce_tc_and_dag`
-//! is asked, which names a missing edge before a cycle.
+//! The test cases of the original for closures, under the same names. The original calls its private checks. These
+//! tests call `enforce_tc_and_dag`, which reports a missing edge before a cycle.
 mod common;
 
 use cedar_store::ast::{Entity, EntityUID};
@@ -9,12 +9,13 @@ use std::collections::{BTreeMap, BTreeSet, HashMap};
 
 type Graph = HashMap<EntityUID, Entity>;
 
-/// Whether an edge is missing: a node has an edge to a second, which has one to a third, and the first has none to that.
+/// Returns whether an edge is missing. This is so if there are edges from a first node to a second and from there to a
+/// third, but no edge from the first to the third.
 fn lacks_an_edge(entities: &Graph) -> bool {
     matches!(enforce_tc_and_dag(entities), Err(TcError::MissingTcEdge(_)))
 }
 
-/// The eids of a node's ancestors.
+/// Returns the eids of the ancestors of a node.
 fn above(entities: &Graph, eid: &str) -> BTreeSet<String> {
     entities[&with_eid(eid)]
         .ancestors()
@@ -22,7 +23,7 @@ fn above(entities: &Graph, eid: &str) -> BTreeSet<String> {
         .collect()
 }
 
-/// What each key reaches over one or more edges, found by adding edges of edges until nothing changes.
+/// Returns the keys that each key reaches over one or more edges. Adds edges of edges until nothing changes.
 fn reached(rows: &[(&str, &[&str])]) -> BTreeMap<String, BTreeSet<String>> {
     let mut all: BTreeMap<String, BTreeSet<String>> = rows
         .iter()
@@ -50,11 +51,11 @@ fn reached(rows: &[(&str, &[&str])]) -> BTreeMap<String, BTreeSet<String>> {
     }
 }
 
-/// Closes a graph that is not closed, and has each node's ancestors be exactly what it reaches.
+/// Closes a graph, and asserts that the ancestors of each node are exactly what it reaches.
 fn closes(rows: &[(&str, &[&str])], is_closed_before: bool, cycle: &[&str]) {
     let mut entities = graph(rows);
     assert_eq!(lacks_an_edge(&entities), !is_closed_before);
-    compute_tc(&mut entities, false).expect("without a check for cycles nothing is refused");
+    compute_tc(&mut entities, false).expect("closing without a check for cycles succeeds");
     for (eid, due) in reached(rows) {
         assert_eq!(above(&entities, &eid), due, "{eid}");
     }
@@ -67,7 +68,7 @@ fn closes(rows: &[(&str, &[&str])], is_closed_before: bool, cycle: &[&str]) {
         }
         Err(fault) => panic!("{fault}"),
     }
-    // with the check it is refused exactly there, and the closure stands nevertheless
+    // with the check, an error is returned exactly for a cyclic graph, and the graph is closed nevertheless
     let mut checked = graph(rows);
     assert_eq!(compute_tc(&mut checked, true).is_err(), !cycle.is_empty());
     for (uid, entity) in &entities {
@@ -115,7 +116,7 @@ fn multi_parents() {
     );
 }
 
-/// A graph with two ways from its least node to its greatest.
+/// A graph with two paths from its least node to its greatest node.
 const DAG: &[(&str, &[&str])] = &[
     ("A", &["B", "F"]),
     ("B", &["C", "D"]),
@@ -132,7 +133,7 @@ fn dag() {
     closes(DAG, false, &[]);
 }
 
-/// Some edges that the closure asks for are there already.
+/// Some edges of the closure are already present.
 const ALREADY_EDGES: &[(&str, &[&str])] = &[
     ("A", &["B", "C", "D"]),
     ("B", &["C", "E"]),
@@ -211,7 +212,7 @@ fn updated() {
     compute_tc(&mut entities, false).unwrap();
     assert!(entities[&with_eid("A")].has_edge_to(&with_eid("C")));
     assert!(!entities[&with_eid("A")].has_edge_to(&with_eid("D")));
-    // B leads to D now, and A is made anew, without what it had over B
+    // B has an edge to D now, and A is replaced by a node without the ancestors that it had over B
     for entity in [child("A", &["B"]), child("B", &["D"]), child("D", &[])] {
         entities.insert(entity.uid().clone(), entity);
     }
@@ -227,7 +228,7 @@ fn updated() {
     assert!(enforce_tc_and_dag(&entities).is_ok());
 }
 
-/// The original compares two ways of closing; here the closure is compared with what is reached.
+/// The original compares two algorithms. This test compares the closure with the reachable keys.
 #[test]
 fn cyclic_tc_oracle_on_dags() {
     closes(DAG, false, &[]);
@@ -241,7 +242,7 @@ fn cyclic_tc_oracle_on_cycles() {
     closes(DISJOINT_CYCLES, false, &["B", "C", "D", "E", "H"]);
 }
 
-/// Rings of up to twelve nodes, with a node below and one above.
+/// Cycles of up to eleven nodes, with a node below and a node above.
 #[test]
 fn compute_tc_no_dag_matches_cyclic_tc_on_cycles() {
     let names: Vec<String> = (0..14).map(|number| format!("n{number}")).collect();

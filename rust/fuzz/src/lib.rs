@@ -1,8 +1,8 @@
-//! One input through the program of the package and through the proved one of the static library for C, in one process. An
-//! input for which they differ ends the process, which a fuzzer tells.
+//! A fuzz target. It runs one input through the program of the package and through the proved program of the static
+//! library for C, in one process. If the outputs differ, the process aborts, which the fuzzer reports.
 use std::slice;
 
-// The program as the static library has it: crates/cedar_c.
+// The program in the static library, from `crates/cedar_c`.
 unsafe extern "C" {
     fn cedar_run(
         input: *const u8,
@@ -16,14 +16,14 @@ unsafe extern "C" {
     ) -> u32;
 }
 
-/// What the proved program writes, and its status.
+/// Returns the output and the status of the proved program.
 fn proved(lines: &[u8], room: usize) -> (Vec<u8>, u32) {
     let (mut out, mut told, mut ended) = (vec![0; room], 0, 0);
-    // SAFETY: the pointers are those of arrays of these lengths, and nothing else reads or writes them meanwhile
+    // SAFETY: the pointers point to arrays with the given lengths, and nothing else uses them during the call
     let status = unsafe {
         cedar_run(lines.as_ptr(), lines.len(), 7, 11, out.as_mut_ptr(), out.len(), &raw mut told, &raw mut ended)
     };
-    assert_eq!(status, 0, "the proved program wants memory");
+    assert_eq!(status, 0, "an allocation of the proved program failed");
     if told > room {
         return proved(lines, told);
     }
@@ -31,20 +31,20 @@ fn proved(lines: &[u8], room: usize) -> (Vec<u8>, u32) {
     (out, ended)
 }
 
-/// Whether both write the same for these lines.
+/// Asserts that both programs write the same for these lines.
 ///
 /// # Safety
 ///
-/// `data` is that of an array of `len` bytes.
+/// `data` must point to an array of `len` bytes.
 #[unsafe(no_mangle)]
 pub unsafe extern "C" fn LLVMFuzzerTestOneInput(data: *const u8, len: usize) -> i32 {
     let lines = match len {
         0 => &[],
-        // SAFETY: the caller's array has as many bytes
+        // SAFETY: the array of the caller has `len` bytes
         _ => unsafe { slice::from_raw_parts(data, len) },
     };
     let mut written = Vec::new();
-    let status = cedar_store::program::run(&mut &lines[..], &mut written).expect("memory is read and written");
+    let status = cedar_store::program::run(&mut &lines[..], &mut written).expect("reading and writing memory never fails");
     let due = proved(lines, written.len());
     assert_eq!((written, u32::from(status)), due, "{:?}", String::from_utf8_lossy(lines));
     0

@@ -1,4 +1,4 @@
-//! Answers each line as it comes, at a terminal or between two pipes.
+//! Runs commands interactively: reads a line, runs it and writes the answer, at a terminal or between two pipes.
 use cedar_store::KeyedState;
 use cedar_store::program::{Manner, help_texts, talk};
 use std::env;

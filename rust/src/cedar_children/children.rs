@@ -6,19 +6,31 @@ use crate::cedar_children::walk::walk;
 use crate::cedar_entity::entity::Entity;
 use crate::cedar_uid_sets::SharedUid;
 use std::collections::{HashMap, HashSet};
+use std::fmt;
 use std::hash::BuildHasher;
 
-/// The children of each uid that is a parent, whether it is a uid of an entity or not. A uid without children takes no
-/// room.
+/// The children of each parent. A parent may be any uid; the store need not have an entity for it. A uid without
+/// children has no entry.
 ///
-/// It is the project's own. It takes a pointer for each parent of each entity, and a hashed set for each parent, so what a
-/// child costs that comes or goes does not hang on how many its parent has.
+/// It stores one pointer for each parent of each entity, and a hash set for each parent. So the cost of adding or
+/// removing a child does not depend on the number of children of its parent.
+///
+/// # Differences from cedar-policy-core
+///
+/// The original has no such index.
 pub struct Children<S: BuildHasher> {
     pub(crate) sets: HashMap<SharedUid, HashSet<SharedUid, S>, S>,
 }
 
+impl<S: BuildHasher> fmt::Debug for Children<S> {
+    /// Writes the children of each parent, in the order of the map.
+    fn fmt(&self, f: &mut fmt::Formatter<'_>) -> fmt::Result {
+        f.debug_struct("Children").field("sets", &self.sets).finish()
+    }
+}
+
 impl<S: BuildHasher> Children<S> {
-    /// The index without children, which hashes uids by what `hasher` builds.
+    /// Creates an index without children. It hashes uids with hashers of `hasher`. Does not allocate.
     pub fn with_hasher(hasher: S) -> Self {
         Self {
             sets: HashMap::with_hasher(hasher),
@@ -27,27 +39,27 @@ impl<S: BuildHasher> Children<S> {
 }
 
 impl<S: BuildHasher + Clone> Children<S> {
-    /// Takes an entity from the children of each of its parents. It looks each parent up, and the entity among the
-    /// children of each.
+    /// Removes an entity from the children of each of its parents. Looks up each parent, and the entity among its
+    /// children. Does not allocate.
     pub fn remove(&mut self, child: &SharedUid, entity: &Entity) {
         for parent in entity.shared_parents() {
             self.take(parent, child);
         }
     }
 
-    /// Takes a uid out as a parent: it has no children any more. It is one look-up.
+    /// Removes a uid as a parent, with all of its children. Makes one lookup. Does not allocate.
     pub fn remove_parent(&mut self, parent: &SharedUid) {
         self.sets.remove(parent);
     }
 
-    // Takes a child from under a parent, and the parent with the last of its children.
+    // Removes a child of a parent. Removes the parent too if it has no other child.
     fn take(&mut self, parent: &SharedUid, child: &SharedUid) {
         if self.take_one(parent, child) {
             self.remove_parent(parent);
         }
     }
 
-    // Takes a child from under a parent; whether no child is left there.
+    // Removes a child of a parent. Returns whether the parent has no child left.
     fn take_one(&mut self, parent: &SharedUid, child: &SharedUid) -> bool {
         match self.sets.get_mut(parent) {
             Some(set) => {
@@ -58,7 +70,7 @@ impl<S: BuildHasher + Clone> Children<S> {
         }
     }
 
-    // Puts a child in under a parent.
+    // Adds a child to a parent.
     fn put(&mut self, parent: &SharedUid, child: &SharedUid) {
         if let Some(set) = self.sets.get_mut(parent) {
             set.insert(child.clone());
@@ -67,16 +79,16 @@ impl<S: BuildHasher + Clone> Children<S> {
         self.put_first(parent, child);
     }
 
-    // Puts a child in under a parent that has none.
+    // Adds a child to a parent that has no children yet.
     fn put_first(&mut self, parent: &SharedUid, child: &SharedUid) {
         let mut set = HashSet::with_hasher(self.sets.hasher().clone());
         set.insert(child.clone());
         self.sets.insert(parent.clone(), set);
     }
 
-    /// The index with an entity too, as a child of each of its parents.
+    /// Adds an entity as a child of each of its parents, and returns the index.
     ///
-    /// It looks each parent up, and hashes the entity for each.
+    /// Looks up each parent, and hashes the entity once for each.
     pub fn with(self, child: &SharedUid, entity: &Entity) -> Self {
         let mut children = self;
         for parent in entity.shared_parents() {
@@ -85,9 +97,12 @@ impl<S: BuildHasher + Clone> Children<S> {
         children
     }
 
-    /// Some uids and all that lies below them: what has one of them as a parent, what has one of these, and so on.
+    /// Returns the given uids and all of their descendants: their children, the children of these, and so on.
     ///
-    /// It looks up each that it finds once, and each once more for each of its parents among these.
+    /// # Complexity
+    ///
+    /// Looks up each result once, and each again for each of its parents in the result. Allocates in proportion to the
+    /// result.
     pub fn below(&self, uids: &HashSet<SharedUid, S>) -> HashSet<SharedUid, S> {
         walk(&self.sets, uids)
     }

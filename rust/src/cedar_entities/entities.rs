@@ -2,6 +2,7 @@
 
 //! The store of entities.
 
+use crate::cedar_children::listed;
 use crate::cedar_entities::dereference::{Dereference, unknown_of};
 use crate::cedar_entities::edits::{put_all_over, renews_adding, take_all_out};
 use crate::cedar_entities::incoming::{Incoming, shared_all, stays_plain, uids_in, with_uids};
@@ -15,7 +16,6 @@ use crate::cedar_entity::node::SharedEntity;
 use crate::cedar_entity_maps::index::{Index, join, list_if_it_pays, touched_by};
 use crate::cedar_entity_maps::modes::row_of;
 use crate::cedar_entity_maps::settling::{check, settle_touched, settle_whole};
-use crate::cedar_entity_maps::sought::listed;
 use crate::cedar_entity_maps::touching::{forget_each, note_all};
 use crate::cedar_ids::entity::EntityUID;
 use crate::cedar_keyed_hash::KeyedState;
@@ -26,27 +26,34 @@ use std::hash::BuildHasher;
 use std::sync::Arc;
 
 pub use crate::cedar_entity_maps::TCComputation;
-/// A store of entities under their uids, in one of two modes: in a partial store an absent entity is not
-/// known, in any other there is none.
+/// A store of entities, keyed by uid. A store is partial or not. In a partial store, an entity that is absent is
+/// unknown; otherwise it does not exist.
 ///
-/// Entities are shared: copying a store copies none of them.
+/// Entities are shared: a copy of a store copies no entity.
 ///
-/// An edit finds what it touches by a walk over all entities, with up to 16 looks at each or one for each of its
-/// ancestors. A store that `ComputeNow` calls made of entities without indirect ancestors, and removals, knows that its
-/// ancestors are what the parents imply. Where it has 40 entities or more it lists the children of each uid once edits
-/// have walked over it sixteen times, and from then on an edit goes down from its own uids alone. The list takes 8 to
-/// 16 bytes for each parent of each entity and a set for each uid that is a parent; a copy of the store begins without
-/// it.
+/// # Complexity
 ///
-/// Its map hashes uids by the hashers that `S` builds, and so do the sets that its calls make. By default they have a
-/// key that is drawn once for the process.
+/// An edit finds the affected entities by scanning all entities. It makes up to 16 lookups in each entity, or one
+/// lookup for each of its ancestors.
+///
+/// A store of 40 or more entities uses an index instead, if all of its edits were calls with `ComputeNow`, of entities
+/// without indirect ancestors, or removals. Such a store is known to be plain: its ancestors are exactly what the
+/// parents imply. After edits have scanned it sixteen times, it lists the children of each uid. From then on an edit
+/// searches down from its own uids. The list needs 8 to 16 bytes for each parent of each entity, and a set for each uid
+/// that is a parent. A copy of the store has no list at first.
+///
+/// # Hashing
+///
+/// The map, and the sets of its calls, hash uids with hashers of `S`. The default hasher has a key that is drawn once
+/// for the process. [`Entities::with_hasher`] takes another. The choice of hasher never changes a result.
 pub struct Entities<S: BuildHasher = KeyedState> {
     pub(crate) entities: HashMap<SharedUid, SharedEntity, S>,
     pub(crate) partial: bool,
     index: Index<S>,
 }
 
-// Puts in an entity whose uid is absent; one that is present has to be deeply equal. One that is not comes back.
+// Inserts an entity if its uid is new. Otherwise the existing entity must be deeply equal to it. If it is not, the new
+// entity is returned.
 fn put_new<S: BuildHasher>(
     entities: &mut HashMap<SharedUid, SharedEntity, S>,
     coming: Incoming,
@@ -66,7 +73,7 @@ fn put_new<S: BuildHasher>(
     }
 }
 
-// Puts in the entities in turn.
+// Inserts the entities one after another.
 fn put_all<S: BuildHasher>(
     entities: &mut HashMap<SharedUid, SharedEntity, S>,
     list: Vec<Incoming>,
@@ -79,12 +86,12 @@ fn put_all<S: BuildHasher>(
     Ok(())
 }
 
-// Makes room for so many entities more.
+// Reserves space for `count` more entities.
 fn make_room<S: BuildHasher>(entities: &mut HashMap<SharedUid, SharedEntity, S>, count: usize) {
     entities.reserve(count);
 }
 
-// Adds entities to an empty map, in which all that is put is touched.
+// Adds entities to an empty map. All of them are affected.
 fn fill<S: BuildHasher + Clone>(
     entities: &mut HashMap<SharedUid, SharedEntity, S>,
     list: Vec<Incoming>,
@@ -95,8 +102,8 @@ fn fill<S: BuildHasher + Clone>(
     settle_whole(entities, tc_computation)
 }
 
-// Adds entities, and closes what is inserted and what has one of that among its ancestors. In a plain store all
-// indirect ancestors of the latter go before, to be written anew from the parents.
+// Adds entities, and finalizes the affected entities. In a plain store, all indirect ancestors of the affected entities
+// are removed first and recomputed from the parents.
 fn add_to<S: BuildHasher + Clone>(
     entities: &mut HashMap<SharedUid, SharedEntity, S>,
     index: &mut Index<S>,
@@ -132,9 +139,11 @@ fn add_all<S: BuildHasher + Clone>(
 }
 
 impl<S: BuildHasher + Clone> Entities<S> {
-    /// The store without entities, not partial, which hashes uids by what `hasher` builds.
+    /// Creates a store without entities, not partial. It hashes uids with hashers of `hasher`. Does not allocate.
     ///
-    /// The original has one way of hashing.
+    /// # Differences from cedar-policy-core
+    ///
+    /// The original has a fixed hasher.
     ///
     /// ```
     /// # use cedar_store::{ast::*, entities::*};
@@ -170,7 +179,7 @@ impl<S: BuildHasher + Clone> Entities<S> {
         }
     }
 
-    /// What builds the store's hashers.
+    /// Returns the hasher builder of the store. Does not allocate.
     ///
     /// ```
     /// # use cedar_store::{ast::*, entities::*};
@@ -202,7 +211,7 @@ impl<S: BuildHasher + Clone> Entities<S> {
         self.entities.hasher()
     }
 
-    /// The store with the same entities, now partial.
+    /// Returns the store with the same entities, now partial. Does not allocate.
     ///
     /// ```
     /// # use cedar_store::{ast::*, entities::*};
@@ -238,9 +247,13 @@ impl<S: BuildHasher + Clone> Entities<S> {
         }
     }
 
-    /// The store as it is, which from here on knows that its ancestors are what the parents imply, where `other` knows
-    /// that of its own: then edits of it cost what edits of `other` do. It is for who makes a store of a part of
-    /// another, and is to be called only where a part of a plain store is a plain store. This is the project's own.
+    /// Marks the store as known to be plain, if `other` is. Edits of it then cost as much as edits of `other`. Use it
+    /// for a store that consists of a part of `other`. The caller must ensure that the store is plain if `other` is.
+    /// Does not allocate.
+    ///
+    /// # Differences from cedar-policy-core
+    ///
+    /// The original has no such function.
     pub(crate) fn known_plain_with(self, other: &Self) -> Self {
         Self {
             entities: self.entities,
@@ -249,7 +262,7 @@ impl<S: BuildHasher + Clone> Entities<S> {
         }
     }
 
-    /// Whether the store is partial.
+    /// Returns whether the store is partial. Does not allocate.
     ///
     /// ```
     /// # use cedar_store::{ast::*, entities::*};
@@ -281,10 +294,12 @@ impl<S: BuildHasher + Clone> Entities<S> {
         self.partial
     }
 
-    /// A store of these entities, not partial, which hashes uids by what `hasher` builds: what adding them to the store
-    /// without entities gives.
+    /// Creates a store with these entities, not partial. It hashes uids with hashers of `hasher`. The result is the
+    /// same as adding the entities to an empty store.
     ///
-    /// Refused as [`Entities::add_entities`] is.
+    /// # Errors
+    ///
+    /// The errors of [`Entities::add_entities`].
     ///
     /// ```
     /// # use cedar_store::{ast::*, entities::*};
@@ -321,18 +336,25 @@ impl<S: BuildHasher + Clone> Entities<S> {
         Self::with_hasher(hasher).add_entities(list, tc_computation)
     }
 
-    /// The store with these entities too, in the order of the list. Of a uid that the store lacks the first
-    /// of the list goes in; any other has to be deeply equal to the one that stands, which stays.
+    /// Adds entities to the store, in list order. If a uid is new, the first entity with that uid is inserted. Every
+    /// later entity with the same uid must be deeply equal to the stored one, which is kept.
     ///
-    /// Refused by [`EntitiesError::Duplicate`], with the uid of the first of the list that differs, before any work on
-    /// the closure; then by [`EntitiesError::TransitiveClosureError`] as the mode says. A refusal gives no store back.
+    /// An indirect ancestor that an entity of the list already has counts as an ancestor. The call affects the inserted
+    /// entities, and the entities that have one of them as an ancestor. All other entities are unchanged in every mode.
     ///
-    /// An indirect ancestor that an entity was given with counts as one that it has. What is touched is what was
-    /// inserted, and what has one of that among its ancestors; the others stay as they are in every mode. It looks up
-    /// each entity of the list a few times and finds what is touched, as [`Entities`] says; then it closes that, or
-    /// checks the whole. A store without entities is closed as a whole. Where the store is known to be plain and the
-    /// mode computes, the parents alone are read of what was touched and not inserted, and its indirect ancestors are
-    /// written anew.
+    /// # Errors
+    ///
+    /// - `Duplicate`: an entity of the list differs from the stored one. The error names the first such uid. This is
+    ///   checked before the closure.
+    /// - `TransitiveClosureError`: the repair or the check of the mode fails; see [`TCComputation`].
+    ///
+    /// After an error the store is dropped.
+    ///
+    /// # Complexity
+    ///
+    /// Looks up each entity of the list a few times, finds the affected entities (see [`Entities`]), and closes them or
+    /// checks the whole store. An empty store is closed as a whole. If the store is known to be plain and the mode
+    /// computes, only the parents of affected stored entities are read, and their indirect ancestors are recomputed.
     ///
     /// ```
     /// # use cedar_store::{ast::*, entities::*};
@@ -356,7 +378,7 @@ impl<S: BuildHasher + Clone> Entities<S> {
     /// # use std::sync::Arc;
     /// let one = Arc::new(under(r#"User::"alice""#, &[r#"Group::"staff""#]));
     /// let store = Entities::new().add_entities([Arc::clone(&one)], TCComputation::ComputeNow)?;
-    /// // what agrees with what is held changes nothing, and what differs is refused
+    /// // an equal entity changes nothing, and a different one is an error
     /// let store = store.add_entities([one], TCComputation::ComputeNow)?;
     /// let other = Arc::new(under(r#"User::"alice""#, &[]));
     /// let refusal = store.add_entities([other], TCComputation::ComputeNow).unwrap_err();
@@ -383,20 +405,32 @@ impl<S: BuildHasher + Clone> Entities<S> {
         })
     }
 
-    /// The store with these entities, each in the place of any with its uid; of several with one uid the last
-    /// counts. An entity that had one of the uids among its ancestors is touched: it loses, from its indirect
-    /// ancestors, each of these uids that the store held and the ancestors which that had. Computing gives it
-    /// back what it still reaches; the other modes do not. What is not touched stays as it is.
+    /// Overwrites entities. Each entity of the list is inserted, and replaces the entity with its uid. If several have
+    /// the same uid, the last one is used.
     ///
-    /// Refused by [`EntitiesError::TransitiveClosureError`] as the mode says; a refusal gives no store back. An
-    /// indirect ancestor that one of these entities was given with counts as one that it has. It finds what is touched,
-    /// as [`Entities`] says, once for the whole list. For an entity that is touched and none of the list it gathers
-    /// what goes with the uids that this has as ancestors, and takes that out at once. Then it closes what is touched,
-    /// or checks the whole. Where the store is known to be plain and the mode computes, it takes out all indirect
-    /// ancestors of these entities instead, reads their parents alone, and writes the ancestors anew: then an edit
-    /// costs about what it costs to build what it touches.
+    /// The call affects the overwritten entities, and the entities that have one of the uids as an ancestor. An
+    /// affected entity loses its stale indirect ancestors: the uids of the list that the store contained, and the
+    /// ancestors of their old entities. In a mode that computes, it gets back all that it still reaches; in the other
+    /// modes it does not. All other entities are unchanged. An indirect ancestor that an entity of the list already has
+    /// counts as an ancestor.
     ///
-    /// Unlike the original it takes neither a schema nor extensions.
+    /// # Errors
+    ///
+    /// - `TransitiveClosureError`: the repair or the check of the mode fails; see [`TCComputation`].
+    ///
+    /// After an error the store is dropped.
+    ///
+    /// # Complexity
+    ///
+    /// Finds all affected entities once for the whole list (see [`Entities`]). From each affected entity that is not
+    /// itself in the list, it removes the stale ancestors in one pass. Then it closes the affected entities or checks
+    /// the whole store. If the store is known to be plain and the mode computes, it removes all of their indirect
+    /// ancestors instead, reads only their parents, and recomputes the ancestors. The edit then costs about as much as
+    /// building the affected entities. Allocates one pointer per stale ancestor.
+    ///
+    /// # Differences from cedar-policy-core
+    ///
+    /// The original takes a schema and extensions.
     ///
     /// ```
     /// # use cedar_store::{ast::*, entities::*};
@@ -419,7 +453,7 @@ impl<S: BuildHasher + Clone> Entities<S> {
     /// # }
     /// # use std::sync::Arc;
     /// let store = Entities::from_entities([under(r#"A::"a""#, &[r#"A::"b""#])], TCComputation::ComputeNow)?;
-    /// // the last version of a uid counts, and what stands below follows it
+    /// // the last entity with a uid is used, and its descendants are updated
     /// let versions = [under(r#"A::"b""#, &[r#"A::"c""#]), under(r#"A::"b""#, &[r#"A::"d""#])].map(Arc::new);
     /// let store = store.upsert_entities(versions, TCComputation::ComputeNow)?;
     /// let above: Vec<_> = store.stored(&uid(r#"A::"a""#)).unwrap().ancestors().map(ToString::to_string).collect();
@@ -446,14 +480,24 @@ impl<S: BuildHasher + Clone> Entities<S> {
         })
     }
 
-    /// The store without the entities with these uids, which then are no parents either. Uids that are not
-    /// in the store change nothing, so they stay where they are parents. What had one of the others among its
-    /// ancestors is touched: it loses it and the ancestors which that had, and is given back, in each mode,
-    /// what it still reaches. What is not touched stays as it is.
+    /// Removes the entities with the uids, also as parents. A uid that is not in the store has no effect: it remains a
+    /// parent where it is one.
     ///
-    /// Refused by [`EntitiesError::TransitiveClosureError`] as the mode says, which over a computed store is never; a
-    /// refusal gives no store back. It finds and strips what is touched as [`Entities::upsert_entities`] does, once for
-    /// the whole list, in each mode as where it computes; then it closes that, or checks the whole.
+    /// The call affects the entities that have a removed uid as an ancestor. An affected entity loses its stale
+    /// ancestors: the removed uids, and the ancestors of their entities. In every mode it gets back all that it still
+    /// reaches. All other entities are unchanged.
+    ///
+    /// # Errors
+    ///
+    /// - `TransitiveClosureError`: the repair or the check of the mode fails; see [`TCComputation`]. This never happens
+    ///   in a plain store.
+    ///
+    /// After an error the store is dropped.
+    ///
+    /// # Complexity
+    ///
+    /// As in [`Entities::upsert_entities`] in a mode that computes, once for the whole list. In a mode that checks, it
+    /// then checks the whole store.
     ///
     /// ```
     /// # use cedar_store::{ast::*, entities::*};
@@ -498,7 +542,7 @@ impl<S: BuildHasher + Clone> Entities<S> {
         })
     }
 
-    /// How many entities there are.
+    /// Returns the number of entities. Does not allocate.
     ///
     /// ```
     /// # use cedar_store::{ast::*, entities::*};
@@ -524,7 +568,7 @@ impl<S: BuildHasher + Clone> Entities<S> {
     ///     TCComputation::ComputeNow,
     /// )?;
     /// assert_eq!((store.len(), store.is_empty()), (2, false));
-    /// let alice = store.stored(&uid(r#"User::"alice""#)).expect("it is held");
+    /// let alice = store.stored(&uid(r#"User::"alice""#)).expect("it is present");
     /// assert!(alice.is_descendant_of(&uid(r#"Group::"all""#)));
     /// assert!(matches!(store.entity(&uid(r#"Group::"all""#)), Dereference::NoSuchEntity));
     /// # Ok::<(), Box<dyn std::error::Error>>(())
@@ -533,7 +577,7 @@ impl<S: BuildHasher + Clone> Entities<S> {
         self.entities.len()
     }
 
-    /// Whether there is no entity.
+    /// Returns whether the store has no entities. Does not allocate.
     ///
     /// ```
     /// # use cedar_store::{ast::*, entities::*};
@@ -559,7 +603,7 @@ impl<S: BuildHasher + Clone> Entities<S> {
     ///     TCComputation::ComputeNow,
     /// )?;
     /// assert_eq!((store.len(), store.is_empty()), (2, false));
-    /// let alice = store.stored(&uid(r#"User::"alice""#)).expect("it is held");
+    /// let alice = store.stored(&uid(r#"User::"alice""#)).expect("it is present");
     /// assert!(alice.is_descendant_of(&uid(r#"Group::"all""#)));
     /// assert!(matches!(store.entity(&uid(r#"Group::"all""#)), Dereference::NoSuchEntity));
     /// # Ok::<(), Box<dyn std::error::Error>>(())
@@ -568,7 +612,11 @@ impl<S: BuildHasher + Clone> Entities<S> {
         self.len() == 0
     }
 
-    /// The entity that the store has with a uid, if there is one. This is the project's own.
+    /// Returns the entity with a uid, if the store has one. Does not allocate.
+    ///
+    /// # Differences from cedar-policy-core
+    ///
+    /// The original has no such function.
     ///
     /// ```
     /// # use cedar_store::{ast::*, entities::*};
@@ -594,7 +642,7 @@ impl<S: BuildHasher + Clone> Entities<S> {
     ///     TCComputation::ComputeNow,
     /// )?;
     /// assert_eq!((store.len(), store.is_empty()), (2, false));
-    /// let alice = store.stored(&uid(r#"User::"alice""#)).expect("it is held");
+    /// let alice = store.stored(&uid(r#"User::"alice""#)).expect("it is present");
     /// assert!(alice.is_descendant_of(&uid(r#"Group::"all""#)));
     /// assert!(matches!(store.entity(&uid(r#"Group::"all""#)), Dereference::NoSuchEntity));
     /// # Ok::<(), Box<dyn std::error::Error>>(())
@@ -603,8 +651,8 @@ impl<S: BuildHasher + Clone> Entities<S> {
         self.entities.get(uid).map(|node| &*node.0)
     }
 
-    /// What the store has with a uid: the entity or, where there is none, nothing or, in a partial store, an
-    /// unknown that is named by the printed uid and typed by its entity type.
+    /// Looks up the entity with a uid. If there is none, the result is `NoSuchEntity`, or in a partial store a
+    /// residual. The residual is an unknown whose name is the printed uid and whose type is the entity type.
     ///
     /// ```
     /// # use cedar_store::{ast::*, entities::*};
@@ -630,7 +678,7 @@ impl<S: BuildHasher + Clone> Entities<S> {
     ///     TCComputation::ComputeNow,
     /// )?;
     /// assert_eq!((store.len(), store.is_empty()), (2, false));
-    /// let alice = store.stored(&uid(r#"User::"alice""#)).expect("it is held");
+    /// let alice = store.stored(&uid(r#"User::"alice""#)).expect("it is present");
     /// assert!(alice.is_descendant_of(&uid(r#"Group::"all""#)));
     /// assert!(matches!(store.entity(&uid(r#"Group::"all""#)), Dereference::NoSuchEntity));
     /// # Ok::<(), Box<dyn std::error::Error>>(())
@@ -647,7 +695,7 @@ impl<S: BuildHasher + Clone> Entities<S> {
         }
     }
 
-    /// The entities, each once, in an order of their own.
+    /// Iterates over the entities, each once, in no specified order. Does not allocate.
     ///
     /// ```
     /// # use cedar_store::{ast::*, entities::*};
@@ -681,8 +729,8 @@ impl<S: BuildHasher + Clone> Entities<S> {
         Iter::of(&self.entities)
     }
 
-    /// Whether both are partial or neither is, and both have the same uids, under each of them entities that are equal
-    /// by [`Entity::deep_eq`]. It looks each uid of the one up in the other.
+    /// Returns whether both stores are partial or neither is, and both have the same uids with entities that are equal
+    /// by [`Entity::deep_eq`]. Looks up each uid of one store in the other. Does not allocate.
     ///
     /// ```
     /// # use cedar_store::{ast::*, entities::*};
@@ -722,16 +770,25 @@ impl<S: BuildHasher + Clone> Entities<S> {
         have_keys_of(&self.entities, &other.entities)
     }
 
-    /// The store as it is, where nothing is wrong with it, and else an error and no store. What is looked
-    /// for, in this order:
+    /// Returns the store itself if it is valid.
     ///
-    /// - `TransitiveClosureError`: the graph of the ancestors is not closed or, where it is closed, an entity
-    ///   is among its own ancestors, as under [`TCComputation::EnforceAlreadyComputed`];
-    /// - what [`Entity::validate`] finds wrong with an entity; of several such entities the one with the least
-    ///   uid is told of, where the original tells of any.
+    /// # Errors
     ///
-    /// It checks the closure of the whole store, then looks each entity over once, and one that it tells of
+    /// The checks are made in this order. After an error the store is dropped.
+    ///
+    /// - `TransitiveClosureError`: the ancestors are not closed. If they are closed, an entity is its own ancestor.
+    ///   This is the check of [`TCComputation::EnforceAlreadyComputed`].
+    /// - The error of [`Entity::validate`] for the invalid entity with the least uid.
+    /// - The check of the closure allocates; the check of the entities allocates only for an error.
+    ///
+    /// # Complexity
+    ///
+    /// Checks the closure of the whole store, and then each entity once. An invalid entity that is reported is checked
     /// twice.
+    ///
+    /// # Differences from cedar-policy-core
+    ///
+    /// If several entities are invalid, the original reports any of them.
     ///
     /// ```
     /// # use cedar_store::{ast::*, entities::*};
@@ -766,7 +823,7 @@ impl<S: BuildHasher + Clone> Entities<S> {
         Ok(self)
     }
 
-    // Whether both have the same uids and mode.
+    // Checks whether both have the same uids and are both partial or both not.
     fn has_same_uids(&self, other: &Self) -> bool {
         if other.partial != self.partial {
             return false;
@@ -779,8 +836,8 @@ impl<S: BuildHasher + Clone> Entities<S> {
 }
 
 impl<S: BuildHasher + Clone> PartialEq for Entities<S> {
-    /// Whether both have the same uids and both are partial or neither is. What the entities hold is not looked at. It
-    /// looks each uid of either up in the other.
+    /// Returns whether both have the same uids, and both are partial or neither is. The content of the entities is not
+    /// compared. Looks up each uid of either store in the other. Does not allocate.
     fn eq(&self, other: &Self) -> bool {
         self.has_same_uids(other)
     }
@@ -789,7 +846,7 @@ impl<S: BuildHasher + Clone> PartialEq for Entities<S> {
 impl<S: BuildHasher + Clone> Eq for Entities<S> {}
 
 impl<S: BuildHasher + Clone> Clone for Entities<S> {
-    /// A copy of the store, which shares its entities.
+    /// Returns a copy that shares the entities.
     fn clone(&self) -> Self {
         Self {
             entities: self.entities.clone(),
@@ -804,7 +861,7 @@ impl<S: BuildHasher + Clone> IntoIterator for Entities<S> {
 
     type IntoIter = IntoIter;
 
-    /// The entities, each once. Each item may.
+    /// Iterates over the entities, each once, in no specified order. This call does not allocate, but each item may.
     fn into_iter(self) -> IntoIter {
         IntoIter::of(self.entities)
     }

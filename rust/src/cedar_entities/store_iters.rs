@@ -9,13 +9,12 @@ use std::collections::{HashMap, hash_map};
 use std::hash::BuildHasher;
 use std::sync::Arc;
 
-/// The entities of a store, each once, in an order of their own.
+/// An iterator over the entities of a store, each once, in no specified order.
 pub struct Iter<'a> {
     inner: hash_map::Iter<'a, SharedUid, SharedEntity>,
 }
 
 impl<'a> Iter<'a> {
-    // The entities of a map.
     pub(crate) fn of<S: BuildHasher>(entities: &'a HashMap<SharedUid, SharedEntity, S>) -> Self {
         Self { inner: entities.iter() }
     }
@@ -30,13 +29,13 @@ impl<'a> Iterator for Iter<'a> {
     }
 }
 
-/// The entities of a store, each once, in an order of their own.
+/// An iterator over the entities of a store, each once, in no specified order. An entity that is shared elsewhere is
+/// copied.
 pub struct IntoIter {
     inner: hash_map::IntoIter<SharedUid, SharedEntity>,
 }
 
 impl IntoIter {
-    // The entities of a map.
     pub(crate) fn of<S: BuildHasher>(entities: HashMap<SharedUid, SharedEntity, S>) -> Self {
         Self {
             inner: entities.into_iter(),

@@ -9,13 +9,12 @@ use std::collections::{BTreeMap, btree_map};
 use std::slice;
 
 pub use crate::cedar_uid_sets::Uids;
-/// The keys of attributes or of tags, in byte order.
+/// An iterator over the keys of attributes or tags, in byte order.
 pub struct Keys<'a> {
     inner: btree_map::Keys<'a, String, PartialValue>,
 }
 
 impl<'a> Keys<'a> {
-    // The keys of these.
     pub(crate) fn of(fields: &'a BTreeMap<String, PartialValue>) -> Self {
         Self { inner: fields.keys() }
     }
@@ -30,13 +29,12 @@ impl<'a> Iterator for Keys<'a> {
     }
 }
 
-/// Attributes or tags with their keys, in byte order of the keys.
+/// An iterator over attributes or tags with their keys, in byte order of the keys.
 pub struct Pairs<'a> {
     inner: btree_map::Iter<'a, String, PartialValue>,
 }
 
 impl<'a> Pairs<'a> {
-    // The pairs of these.
     pub(crate) fn of(fields: &'a BTreeMap<String, PartialValue>) -> Self {
         Self { inner: fields.iter() }
     }
@@ -51,14 +49,13 @@ impl<'a> Iterator for Pairs<'a> {
     }
 }
 
-/// The shared uids of one set, then those of another, each in the order of uids.
+/// An iterator over the shared uids of two sets, one after the other, each in ascending order of uid.
 pub struct SharedUids<'a> {
     first: slice::Iter<'a, SharedUid>,
     others: slice::Iter<'a, SharedUid>,
 }
 
 impl<'a> SharedUids<'a> {
-    // Those of one list, then those of the other.
     pub(crate) fn of(first: &'a [SharedUid], others: &'a [SharedUid]) -> Self {
         Self {
             first: first.iter(),
@@ -84,14 +81,13 @@ impl<'a> Iterator for SharedUids<'a> {
     }
 }
 
-/// The uids of one set, then those of another, each in the order of uids.
+/// An iterator over the uids of two sets, one after the other, each in ascending order of uid.
 pub struct Ancestors<'a> {
     parents: Uids<'a>,
     indirect: Uids<'a>,
 }
 
 impl<'a> Ancestors<'a> {
-    // The uids of a set, then those of another.
     pub(crate) fn of(parents: &'a UidSet, indirect: &'a UidSet) -> Self {
         Self {
             parents: parents.iter(),

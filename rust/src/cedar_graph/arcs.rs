@@ -9,10 +9,10 @@ use crate::ordered_map::OrderedSet;
 use std::collections::{HashMap, HashSet};
 use std::hash::{BuildHasher, Hash};
 
-// Room for so many arcs is made at once where some keys are repaired.
+// The initial capacity for arcs in a repair.
 const ARCS: usize = 64;
 
-// How many nodes may have edges.
+// Counts the nodes that may have edges.
 fn count_edged<K: Clone + Eq + Hash, V: TCNode<K>, S: BuildHasher>(nodes: &HashMap<K, V, S>) -> usize {
     let mut count: usize = 0;
     for node in nodes.values() {
@@ -21,13 +21,13 @@ fn count_edged<K: Clone + Eq + Hash, V: TCNode<K>, S: BuildHasher>(nodes: &HashM
     count
 }
 
-// Numbers for the keys of nodes that have edges, and these nodes in the order of the numbers.
+// Numbers for the keys of nodes with edges, and these nodes in the order of the numbers.
 struct Edged<'a, K: Eq + Hash, V, S: BuildHasher> {
     keys: OrderedSet<K, S>,
     nodes: Vec<&'a V>,
 }
 
-// Puts a node and its key in, unless the node has no edges.
+// Appends a node and its key, unless the node has no edges.
 fn put_edged<'a, K: Clone + Eq + Hash, V: TCNode<K>, S: BuildHasher>(
     edged: &mut Edged<'a, K, V, S>,
     key: &K,
@@ -42,8 +42,8 @@ fn put_edged<'a, K: Clone + Eq + Hash, V: TCNode<K>, S: BuildHasher>(
     }
 }
 
-// Numbers for the keys of the map whose nodes have edges, and these nodes. The map is gone through once more only where
-// a node may have some.
+// Numbers the keys of nodes with edges, and collects these nodes. Scans the map a second time only if a node may have
+// edges.
 fn number_edged<K: Clone + Eq + Hash, V: TCNode<K>, S: BuildHasher + Clone>(
     nodes: &HashMap<K, V, S>,
 ) -> Edged<'_, K, V, S> {
@@ -69,7 +69,7 @@ pub(crate) struct Reading<K: Eq + Hash, S: BuildHasher> {
     pub(crate) reads: usize,
 }
 
-// One more arc.
+// Adds an arc from number `a` to the number of the key.
 fn add_arc<K: Clone + Eq + Hash, S: BuildHasher>(s: &mut Reading<K, S>, a: usize, key: &K) -> usize {
     let b = number_of(&mut s.keys, key);
     s.from.push(a);
@@ -77,8 +77,7 @@ fn add_arc<K: Clone + Eq + Hash, S: BuildHasher>(s: &mut Reading<K, S>, a: usize
     b
 }
 
-// The arcs of a node, whose key has the number `a`. What the list is before says nothing: it is set to the edges of the
-// node.
+// Reads the arcs of a node whose key has the number `a`. Overwrites `list` with the edges of the node.
 fn read_node<'a, K: Clone + Eq + Hash, V: TCNode<K>, S: BuildHasher>(
     node: &'a V,
     s: &mut Reading<K, S>,
@@ -93,7 +92,7 @@ fn read_node<'a, K: Clone + Eq + Hash, V: TCNode<K>, S: BuildHasher>(
     }
 }
 
-// The arcs of the node at the key of a number, if there is one.
+// Reads the arcs of the node at the key of number `a`, if there is one.
 fn read_row<'a, K: Clone + Eq + Hash, V: TCNode<K>, S: BuildHasher>(
     nodes: &'a HashMap<K, V, S>,
     s: &mut Reading<K, S>,
@@ -105,7 +104,7 @@ fn read_row<'a, K: Clone + Eq + Hash, V: TCNode<K>, S: BuildHasher>(
     }
 }
 
-// The arcs of the nodes of some numbers.
+// Reads the arcs of the nodes of the numbers from `start` up to `end`.
 fn read_rows<K: Clone + Eq + Hash, V: TCNode<K>, S: BuildHasher>(
     nodes: &HashMap<K, V, S>,
     s: &mut Reading<K, S>,
@@ -118,7 +117,7 @@ fn read_rows<K: Clone + Eq + Hash, V: TCNode<K>, S: BuildHasher>(
     }
 }
 
-// Nothing read of some keys, with room for so many arcs.
+// Creates an empty reading of the keys, with capacity for `room` arcs.
 fn nothing_read<K: Clone + Eq + Hash, S: BuildHasher>(keys: OrderedSet<K, S>, room: usize) -> Reading<K, S> {
     Reading {
         keys,
@@ -128,13 +127,13 @@ fn nothing_read<K: Clone + Eq + Hash, S: BuildHasher>(keys: OrderedSet<K, S>, ro
     }
 }
 
-// What was read, and how many of the numbers are to be fixed.
+// The arcs that were read. The first `fixed` numbers are to be fixed.
 pub(crate) struct FixReading<K: Eq + Hash, S: BuildHasher> {
     pub(crate) reading: Reading<K, S>,
     pub(crate) fixed: usize,
 }
 
-// The arcs of nodes that have numbers in their order.
+// Reads the arcs of nodes, in the order of their numbers.
 fn read_nodes<K: Clone + Eq + Hash, V: TCNode<K>, S: BuildHasher>(nodes: &[&V], s: &mut Reading<K, S>) {
     let mut list = Vec::new();
     for a in 0..nodes.len() {
@@ -142,7 +141,7 @@ fn read_nodes<K: Clone + Eq + Hash, V: TCNode<K>, S: BuildHasher>(nodes: &[&V], 
     }
 }
 
-// The arcs of the nodes of the map: the edges of each node that has some are read once.
+// Reads the arcs of all nodes of the map. Lists the edges of each node with edges once.
 pub(crate) fn read_arcs<K: Clone + Eq + Hash, V: TCNode<K>, S: BuildHasher + Clone>(
     nodes: &HashMap<K, V, S>,
 ) -> FixReading<K, S> {
@@ -156,7 +155,7 @@ pub(crate) fn read_arcs<K: Clone + Eq + Hash, V: TCNode<K>, S: BuildHasher + Clo
     }
 }
 
-// Numbers for the keys of a set.
+// Numbers the keys of a set.
 fn number_set<K: Clone + Eq + Hash, S: BuildHasher, F: BuildHasher>(
     hasher: S,
     fix: &HashSet<K, F>,
@@ -169,7 +168,7 @@ fn number_set<K: Clone + Eq + Hash, S: BuildHasher, F: BuildHasher>(
     keys
 }
 
-// The arcs of the keys to fix, and of the keys that they have an edge to.
+// Reads the arcs of the keys to fix, and of the keys to which these have an edge.
 pub(crate) fn read_fix<K: Clone + Eq + Hash, V: TCNode<K>, S: BuildHasher + Clone, F: BuildHasher>(
     fix: &HashSet<K, F>,
     nodes: &HashMap<K, V, S>,

@@ -9,7 +9,7 @@ use std::collections::{HashMap, HashSet};
 use std::fmt::{Debug, Display};
 use std::hash::{BuildHasher, Hash};
 
-// Whether no node has an edge to itself.
+// Checks that no node has an edge to itself.
 pub(crate) fn enforce_no_loop<K: Clone + Eq + Hash + Debug + Display, V: TCNode<K>, S: BuildHasher>(
     nodes: &HashMap<K, V, S>,
 ) -> Result<(), K> {
@@ -21,7 +21,7 @@ pub(crate) fn enforce_no_loop<K: Clone + Eq + Hash + Debug + Display, V: TCNode<
     Ok(())
 }
 
-// Whether no node to fix has an edge to itself.
+// Checks that no node to fix has an edge to itself.
 pub(crate) fn enforce_no_loop_for<
     K: Clone + Eq + Hash + Debug + Display,
     V: TCNode<K>,
@@ -38,7 +38,7 @@ pub(crate) fn enforce_no_loop_for<
     Ok(())
 }
 
-// Whether the node at a key has no edge to itself.
+// Checks that the node at a key has no edge to itself.
 fn check_loop<K: Clone + Eq + Hash + Debug + Display, V: TCNode<K>, S: BuildHasher>(
     nodes: &HashMap<K, V, S>,
     key: &K,

@@ -11,7 +11,7 @@ use std::collections::HashMap;
 use std::fmt::{Debug, Display};
 use std::hash::{BuildHasher, Hash};
 
-// Whether each number that number x reaches is a known one.
+// Checks whether each number that number `x` reaches is known.
 fn knows_reached(reached: &Reached, x: usize, known: &Known) -> bool {
     for y in listed_for(reached, x) {
         if known.marks[*y] != known.mark {
@@ -21,7 +21,7 @@ fn knows_reached(reached: &Reached, x: usize, known: &Known) -> bool {
     true
 }
 
-// The place of the first arc that leads from a known number to one that is not.
+// Returns the place of the first arc from a known number to an unknown one.
 fn first_leak<K: Clone + Eq + Hash, S: BuildHasher>(read: &Reading<K, S>, known: &Known) -> Option<usize> {
     for k in 0..read.from.len() {
         let is_known = known.marks[read.from[k]] == known.mark;
@@ -32,7 +32,8 @@ fn first_leak<K: Clone + Eq + Hash, S: BuildHasher>(read: &Reading<K, S>, known:
     None
 }
 
-// The place of an arc from a target of number x, which are the known ones, to a number that is none, where there is one.
+// Returns the place of an arc from a target of number `x` to a number that is not a target of `x`. The known numbers
+// are the targets of `x`.
 fn first_lack<K: Clone + Eq + Hash, S: BuildHasher>(
     read: &Reading<K, S>,
     reached: &Reached,
@@ -45,7 +46,7 @@ fn first_lack<K: Clone + Eq + Hash, S: BuildHasher>(
     first_leak(read, known)
 }
 
-// The refusal that names the keys of three numbers.
+// Creates the error with the keys of three numbers.
 fn missing<K: Clone + Eq + Hash + Debug + Display>(
     keys: &[K],
     child: usize,
@@ -59,7 +60,8 @@ fn missing<K: Clone + Eq + Hash + Debug + Display>(
     })
 }
 
-// Refuses number x where it has no arc to a target of one of its targets, which are the known ones.
+// Returns an error if number `x` has no arc to a target of one of its targets. The known numbers are the targets of
+// `x`.
 fn check_number<K: Clone + Eq + Hash + Debug + Display, S: BuildHasher>(
     read: &Reading<K, S>,
     reached: &Reached,
@@ -74,7 +76,7 @@ fn check_number<K: Clone + Eq + Hash + Debug + Display, S: BuildHasher>(
     Err(missing(read.keys.as_slice(), x, parent, grandparent))
 }
 
-// Refuses the first number to fix that has no arc to a target of one of its targets.
+// Returns an error for the first number to fix that has no arc to a target of one of its targets.
 fn check_numbers<K: Clone + Eq + Hash + Debug + Display, S: BuildHasher>(
     read: &FixReading<K, S>,
     reached: &Reached,
@@ -94,9 +96,9 @@ fn check_numbers<K: Clone + Eq + Hash + Debug + Display, S: BuildHasher>(
     Ok(())
 }
 
-// Whether the graph is closed: whether each number has an arc to each number that it reaches. What it reaches is known
-// by its strong component, and only where one of that is missing are the arcs looked through for three keys that show
-// it.
+// Checks whether the graph is closed: whether each number has an arc to each number that it reaches. The strongly
+// connected components give the reached numbers. Only if an arc is missing are the arcs searched for three keys that
+// show it.
 pub(crate) fn enforce_tc<K: Clone + Eq + Hash + Debug + Display, V: TCNode<K>, S: BuildHasher + Clone>(
     nodes: &HashMap<K, V, S>,
 ) -> Result<(), K> {

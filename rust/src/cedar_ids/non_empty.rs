@@ -2,11 +2,13 @@
 
 //! Lists with at least one element.
 
-/// A list with at least one element: a first one, and those that follow it in order.
+/// A list with at least one element: the first element, and the other elements in order.
+///
+/// Both fields are public and serve as constructor and accessors.
 #[derive(Debug)]
 pub struct NonEmpty<T> {
     /// The first element.
     pub head: T,
-    /// The elements after it.
+    /// The other elements.
     pub tail: Vec<T>,
 }

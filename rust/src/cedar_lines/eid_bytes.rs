@@ -2,7 +2,7 @@
 
 use crate::cedar_ids::escape::is_own_escape;
 
-// Those of the 8 bytes from a place on that are not their own escape.
+// Returns a mask of the bytes, of 8 from a place on, that need an escape.
 #[inline(always)]
 fn escapes_at(text: &[u8], at: usize) -> u64 {
     // The highest bit of each byte is kept, and a product gathers these bits.
@@ -20,8 +20,8 @@ fn escapes_at(text: &[u8], at: usize) -> u64 {
     ((!plain >> 7) & ONES).wrapping_mul(0x0102_0408_1020_4080) >> 56
 }
 
-// Whether each byte from a place on is its own escape, where there are 8 bytes or more. The last eight may have been
-// seen in part, and those before the place are not looked at.
+// Returns whether no byte from a place on needs an escape. There are at least 8 bytes. The last eight may overlap the
+// bytes before them. Bytes before the place are ignored.
 #[inline(always)]
 fn is_own_escape_in(text: &[u8], from: usize) -> bool {
     let last = text.len() - 8;
@@ -35,10 +35,10 @@ fn is_own_escape_in(text: &[u8], from: usize) -> bool {
     escapes_at(text, last) >> (at - last) == 0
 }
 
-// From so many bytes on a look at eight of them costs less than one at each.
+// The number of bytes from which a check of eight bytes is cheaper than one check for each byte.
 const ENOUGH: usize = 3;
 
-// Whether what stands from a place on is its own escape.
+// Returns whether no byte from a place on needs an escape.
 #[inline(always)]
 pub(crate) fn is_own_escape_from(text: &[u8], from: usize) -> bool {
     if 8 <= text.len() && ENOUGH <= text.len() - from {

@@ -4,8 +4,8 @@
 
 use crate::cedar_lines::lanes::{has_line_bytes, lowest_bit, tabs_in, tabs_of_line, without_bit};
 
-// Puts the fields that end at tabs behind those before. The tabs are those from a place on, up to 64 bytes behind it or
-// to the end of the line. The first of the fields begins at `start`. Where the field after them begins.
+// Appends the fields that end at the tabs of a block, and returns the start of the field after them. The block has up
+// to 64 bytes from the place `from` on, and `tabs` is the mask of its tabs. The first field starts at `start`.
 #[inline(always)]
 fn push_fields<'a>(fields: &mut Vec<&'a str>, line: &'a str, start: usize, from: usize, mut tabs: u64) -> usize {
     let mut next = start;
@@ -19,7 +19,7 @@ fn push_fields<'a>(fields: &mut Vec<&'a str>, line: &'a str, start: usize, from:
     next
 }
 
-// Puts the fields between the tabs of a line of at most 64 bytes in the place of those before. The tabs are marked.
+// Replaces `fields` by the fields of a line of at most 64 bytes, given the mask of its tabs.
 #[inline(always)]
 fn set_marked_fields<'a>(fields: &mut Vec<&'a str>, line: &'a str, tabs: u64) {
     fields.clear();
@@ -27,7 +27,7 @@ fn set_marked_fields<'a>(fields: &mut Vec<&'a str>, line: &'a str, tabs: u64) {
     fields.push(&line[rest..]);
 }
 
-// Puts the fields between the tabs of a line in the place of those before.
+// Replaces `fields` by the fields of a line.
 fn set_fields<'a>(fields: &mut Vec<&'a str>, line: &'a str) {
     fields.clear();
     let mut start = 0;
@@ -41,13 +41,13 @@ fn set_fields<'a>(fields: &mut Vec<&'a str>, line: &'a str) {
     fields.push(&line[start..]);
 }
 
-// Whether a byte is a tab or printable ASCII.
+// Returns whether a byte is a tab or printable ASCII.
 fn is_line_byte(b: u8) -> bool {
     b == b'\t' || (32..=126).contains(&b)
 }
 
-// Whether a line has tabs and printable ASCII alone. A short one is gone through to its end, which costs less a byte
-// than to stop at the first that is neither.
+// Returns whether a line has only tabs and printable ASCII characters. A short line is scanned to its end. That costs
+// less for each byte than a loop that stops early.
 fn has_line_bytes_alone(line: &[u8]) -> bool {
     if 16 <= line.len() && has_line_bytes(line) {
         return true;
@@ -59,7 +59,7 @@ fn has_line_bytes_alone(line: &[u8]) -> bool {
     is_readable
 }
 
-// The tabs of a line that is neither short nor long, if it has tabs and printable ASCII alone.
+// Returns a mask of the tabs of a line of 16 to 64 bytes, if it has only tabs and printable ASCII characters.
 #[inline(always)]
 fn tabs_of_some(line: &[u8]) -> Option<u64> {
     if 16 <= line.len() && line.len() <= 64 {
@@ -68,13 +68,13 @@ fn tabs_of_some(line: &[u8]) -> Option<u64> {
     None
 }
 
-// The text that a line is.
+// Returns a line as a string.
 #[inline(always)]
 fn text_of(line: &[u8]) -> &str {
     std::str::from_utf8(line).unwrap_or_default()
 }
 
-// What `read_fields` does with any line.
+// Reads a line of any length as `read_fields` does.
 #[inline(never)]
 fn read_others<'a>(fields: &mut Vec<&'a str>, line: &'a [u8]) -> bool {
     if !has_line_bytes_alone(line) {
@@ -84,10 +84,16 @@ fn read_others<'a>(fields: &mut Vec<&'a str>, line: &'a [u8]) -> bool {
     true
 }
 
-/// Whether a line has tabs and printable ASCII alone. If it has, what stands between its tabs takes the place of the
-/// fields.
+/// Checks whether a line has only tabs and printable ASCII characters. If so, replaces `fields` by the texts between
+/// its tabs.
 ///
-/// Its cost is linear in the line. It is this project's own.
+/// # Complexity
+///
+/// O(n), where n is the length of the line. Allocates only if `fields` has not enough capacity.
+///
+/// # Differences from cedar-policy-core
+///
+/// The original has no such function.
 pub fn read_fields<'a>(fields: &mut Vec<&'a str>, line: &'a [u8]) -> bool {
     if let Some(tabs) = tabs_of_some(line) {
         set_marked_fields(fields, text_of(line), tabs);

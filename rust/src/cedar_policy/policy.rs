@@ -22,18 +22,21 @@ use std::fmt;
 use std::hash::{BuildHasher, RandomState};
 use std::sync::Arc;
 
-/// A policy: a template, which it shares, and a uid for each of its slots. It is a link with an id of its own,
-/// or a static policy, whose template has no slots.
+/// A policy: a shared template with a uid for each of its slots. It is either a link, with an id of its own, or a
+/// static policy, whose template has no slots.
 ///
-/// Equality is theirs, looks at no location. `Display` writes a static policy as its template; a link by the id of its
-/// template and its bindings, in the order of slots.
+/// Equality uses the template, the link's id and the bindings. It ignores locations and does not allocate. `clone`
+/// shares the template, and allocates for the policy's own block, the id and the bindings.
 ///
-/// A policy is one pointer, to a block of its own, so that moving one moves little however much stands in it.
+/// `Display` writes a static policy as its template. It writes a link as the id of its template and its bindings, in
+/// the order of slots. Writing does not allocate.
+///
+/// A policy is one pointer to a block of its own, so moving a policy is cheap.
 pub struct Policy {
     parts: Box<Parts>,
 }
 
-// What a policy holds.
+// The parts of a policy.
 struct Parts {
     template: Arc<Template>,
     link: Option<PolicyID>,
@@ -41,18 +44,18 @@ struct Parts {
 }
 
 impl Policy {
-    // The policy of these parts.
+    // Creates a policy from its parts. Allocates its block.
     pub(crate) fn of(template: Arc<Template>, link: Option<PolicyID>, values: SlotEnv) -> Self {
         let parts = Box::new(Parts { template, link, values });
         Self { parts }
     }
 
-    // The static policy of a template without slots.
+    // Creates the static policy of a template without slots. Allocates its block.
     pub(crate) fn unlinked(template: Arc<Template>) -> Self {
         Self::of(template, None, no_bindings())
     }
 
-    /// The policy of a static policy.
+    /// Creates a policy from a static policy. Its body is moved into a shared template.
     ///
     /// ```
     /// # use cedar_store::{ast::*, entities::*};
@@ -87,8 +90,16 @@ impl Policy {
         Self::unlinked(template)
     }
 
-    /// The static policy with this effect, clause and id, that constrains nothing and has no annotations. No slot may
-    /// stand in the clause: a debug build looks and panics.
+    /// Creates a static policy with this effect, clause and id. It has no annotations, and its scope constraints allow
+    /// any request. The caller must ensure that the clause contains no slot.
+    ///
+    /// # Complexity
+    ///
+    /// O(n), where n is the number of nodes of the clause. Allocates O(n).
+    ///
+    /// # Differences from cedar-policy-core
+    ///
+    /// In a debug build, the original checks the clause for slots and panics if it finds one.
     ///
     /// ```
     /// # use cedar_store::{ast::*, entities::*};
@@ -124,8 +135,16 @@ impl Policy {
         Self::from_when_clause_annos(effect, when, id, loc, annotations)
     }
 
-    /// The static policy with this effect, clause and id and these annotations, that constrains nothing. No slot may
-    /// stand in the clause: a debug build looks and panics.
+    /// Creates a static policy with this effect, clause, id and annotations. Its scope constraints allow any request.
+    /// The caller must ensure that the clause contains no slot.
+    ///
+    /// # Complexity
+    ///
+    /// O(n), where n is the number of nodes of the clause. Allocates O(n).
+    ///
+    /// # Differences from cedar-policy-core
+    ///
+    /// In a debug build, the original checks the clause for slots and panics if it finds one.
     ///
     /// ```
     /// # use cedar_store::{ast::*, entities::*};
@@ -180,7 +199,7 @@ impl Policy {
         Self::unlinked(template)
     }
 
-    /// The template.
+    /// Returns the template. Does not allocate.
     ///
     /// ```
     /// # use cedar_store::{ast::*, entities::*};
@@ -214,7 +233,11 @@ impl Policy {
         &self.parts.template
     }
 
-    /// The template as it is shared. The original shares it once more, and calls this within its crate alone.
+    /// Returns the shared template. Does not allocate.
+    ///
+    /// # Differences from cedar-policy-core
+    ///
+    /// The original returns a further shared pointer, and this function is private to its crate.
     ///
     /// ```
     /// # use cedar_store::{ast::*, entities::*};
@@ -248,7 +271,7 @@ impl Policy {
         &self.parts.template
     }
 
-    /// The effect.
+    /// Returns the effect. Does not allocate.
     ///
     /// ```
     /// # use cedar_store::{ast::*, entities::*};
@@ -282,7 +305,11 @@ impl Policy {
         self.parts.template.effect()
     }
 
-    /// The annotation at a key, if there is one; the cost is logarithmic in their number.
+    /// Returns the annotation with this key, if there is one. Does not allocate.
+    ///
+    /// # Complexity
+    ///
+    /// O(log n), where n is the number of annotations.
     ///
     /// ```
     /// # use cedar_store::{ast::*, entities::*};
@@ -316,7 +343,7 @@ impl Policy {
         self.parts.template.annotation(key)
     }
 
-    /// All annotations with their keys, by key.
+    /// Iterates over the annotations with their keys, in ascending order of the keys. Does not allocate.
     ///
     /// ```
     /// # use cedar_store::{ast::*, entities::*};
@@ -350,7 +377,7 @@ impl Policy {
         self.parts.template.annotations()
     }
 
-    /// The annotations as they are shared.
+    /// Returns the shared annotations. Does not allocate.
     ///
     /// ```
     /// # use cedar_store::{ast::*, entities::*};
@@ -384,8 +411,8 @@ impl Policy {
         self.parts.template.annotations_arc()
     }
 
-    /// What the principal has to be: what the template says, with the bound uid in place of the slot. No slot stands in
-    /// it.
+    /// Returns the template's constraint on the principal, with the bound uid in place of the slot. The result contains
+    /// no slot. Copies the bound uid.
     ///
     /// ```
     /// # use cedar_store::{ast::*, entities::*};
@@ -410,10 +437,10 @@ impl Policy {
     /// let bound = SlotEnv::from([(SlotId::principal(), uid(r#"User::"alice""#))]);
     /// let template = Arc::new(template("t", PrincipalConstraint::is_eq_slot()));
     /// let link = Template::link(template, PolicyID::from_string("l"), bound.clone())?;
-    /// // a link's constraints have their slots filled
+    /// // the slots in the constraints of a link are filled
     /// assert_eq!(link.principal_constraint().to_string(), r#"principal == User::"alice""#);
     /// assert_eq!((link.action_constraint(), link.resource_constraint()), (ActionConstraint::Any, ResourceConstraint::any()));
-    /// let link = link.new_template_id(PolicyID::from_string("u")).expect("a link has a template of another id");
+    /// let link = link.new_template_id(PolicyID::from_string("u")).expect("it is a link");
     /// let (template, id, env) = link.into_components();
     /// assert_eq!((template.id().as_ref(), id, env), ("u", Some(PolicyID::from_string("l")), bound));
     /// # Ok::<(), Box<dyn std::error::Error>>(())
@@ -426,8 +453,12 @@ impl Policy {
         }
     }
 
-    /// What the action has to be: what the template says, with the bound uid in place of the slot. No slot stands in
-    /// it. The original has no slot of the action, and answers a reference.
+    /// Returns the template's constraint on the action, with the bound uid in place of the slot. The result contains no
+    /// slot. Copies a list of uids and the bound uid.
+    ///
+    /// # Differences from cedar-policy-core
+    ///
+    /// The original has no slot for the action, and returns a reference.
     ///
     /// ```
     /// # use cedar_store::{ast::*, entities::*};
@@ -452,10 +483,10 @@ impl Policy {
     /// let bound = SlotEnv::from([(SlotId::principal(), uid(r#"User::"alice""#))]);
     /// let template = Arc::new(template("t", PrincipalConstraint::is_eq_slot()));
     /// let link = Template::link(template, PolicyID::from_string("l"), bound.clone())?;
-    /// // a link's constraints have their slots filled
+    /// // the slots in the constraints of a link are filled
     /// assert_eq!(link.principal_constraint().to_string(), r#"principal == User::"alice""#);
     /// assert_eq!((link.action_constraint(), link.resource_constraint()), (ActionConstraint::Any, ResourceConstraint::any()));
-    /// let link = link.new_template_id(PolicyID::from_string("u")).expect("a link has a template of another id");
+    /// let link = link.new_template_id(PolicyID::from_string("u")).expect("it is a link");
     /// let (template, id, env) = link.into_components();
     /// assert_eq!((template.id().as_ref(), id, env), ("u", Some(PolicyID::from_string("l")), bound));
     /// # Ok::<(), Box<dyn std::error::Error>>(())
@@ -468,8 +499,8 @@ impl Policy {
         }
     }
 
-    /// What the resource has to be: what the template says, with the bound uid in place of the slot. No slot stands in
-    /// it.
+    /// Returns the template's constraint on the resource, with the bound uid in place of the slot. The result contains
+    /// no slot. Copies the bound uid.
     ///
     /// ```
     /// # use cedar_store::{ast::*, entities::*};
@@ -494,10 +525,10 @@ impl Policy {
     /// let bound = SlotEnv::from([(SlotId::principal(), uid(r#"User::"alice""#))]);
     /// let template = Arc::new(template("t", PrincipalConstraint::is_eq_slot()));
     /// let link = Template::link(template, PolicyID::from_string("l"), bound.clone())?;
-    /// // a link's constraints have their slots filled
+    /// // the slots in the constraints of a link are filled
     /// assert_eq!(link.principal_constraint().to_string(), r#"principal == User::"alice""#);
     /// assert_eq!((link.action_constraint(), link.resource_constraint()), (ActionConstraint::Any, ResourceConstraint::any()));
-    /// let link = link.new_template_id(PolicyID::from_string("u")).expect("a link has a template of another id");
+    /// let link = link.new_template_id(PolicyID::from_string("u")).expect("it is a link");
     /// let (template, id, env) = link.into_components();
     /// assert_eq!((template.id().as_ref(), id, env), ("u", Some(PolicyID::from_string("l")), bound));
     /// # Ok::<(), Box<dyn std::error::Error>>(())
@@ -510,7 +541,7 @@ impl Policy {
         }
     }
 
-    /// The clause, if there is one.
+    /// Returns the clause, if there is one. Does not allocate.
     ///
     /// ```
     /// # use cedar_store::{ast::*, entities::*};
@@ -544,7 +575,7 @@ impl Policy {
         self.parts.template.non_scope_constraints()
     }
 
-    /// The clause as it is shared, if there is one.
+    /// Returns the shared clause, if there is one. Does not allocate.
     ///
     /// ```
     /// # use cedar_store::{ast::*, entities::*};
@@ -578,7 +609,7 @@ impl Policy {
         self.parts.template.non_scope_constraints_arc()
     }
 
-    /// The condition of the template, its slots as they are.
+    /// Returns the condition of the template, with its slots unfilled, as `TemplateBody::condition` does.
     ///
     /// ```
     /// # use cedar_store::{ast::*, entities::*};
@@ -612,8 +643,8 @@ impl Policy {
         self.parts.template.condition()
     }
 
-    /// What the slots are bound to: the bound ids are the ids of the template's slots, and the action's is bound to an
-    /// action.
+    /// Returns the bindings. The bound ids are exactly the slots of the template. If the action's slot is bound, its
+    /// uid is an action. Does not allocate.
     ///
     /// ```
     /// # use cedar_store::{ast::*, entities::*};
@@ -647,7 +678,7 @@ impl Policy {
         &self.parts.values
     }
 
-    /// The id: that of the link, or of the template where it is no link.
+    /// Returns the id: the link's id, or the template's id for a static policy. Does not allocate.
     ///
     /// ```
     /// # use cedar_store::{ast::*, entities::*};
@@ -684,8 +715,8 @@ impl Policy {
         }
     }
 
-    /// A copy under another id: of a link the link's id changes and the template is shared, of a static policy the
-    /// template's changes. This policy is as it was.
+    /// Copies the policy, with another id. A link gets the new id and shares its template. For a static policy, the
+    /// template gets the new id. This policy does not change.
     ///
     /// ```
     /// # use cedar_store::{ast::*, entities::*};
@@ -729,8 +760,12 @@ impl Policy {
         }
     }
 
-    /// The same link, its template under another id; `None` of a static policy. The original calls this within its
-    /// crate alone.
+    /// Returns the same link, with another id for its template. Returns `None` for a static policy. The template is
+    /// copied.
+    ///
+    /// # Differences from cedar-policy-core
+    ///
+    /// In the original this function is private to its crate.
     ///
     /// ```
     /// # use cedar_store::{ast::*, entities::*};
@@ -755,10 +790,10 @@ impl Policy {
     /// let bound = SlotEnv::from([(SlotId::principal(), uid(r#"User::"alice""#))]);
     /// let template = Arc::new(template("t", PrincipalConstraint::is_eq_slot()));
     /// let link = Template::link(template, PolicyID::from_string("l"), bound.clone())?;
-    /// // a link's constraints have their slots filled
+    /// // the slots in the constraints of a link are filled
     /// assert_eq!(link.principal_constraint().to_string(), r#"principal == User::"alice""#);
     /// assert_eq!((link.action_constraint(), link.resource_constraint()), (ActionConstraint::Any, ResourceConstraint::any()));
-    /// let link = link.new_template_id(PolicyID::from_string("u")).expect("a link has a template of another id");
+    /// let link = link.new_template_id(PolicyID::from_string("u")).expect("it is a link");
     /// let (template, id, env) = link.into_components();
     /// assert_eq!((template.id().as_ref(), id, env), ("u", Some(PolicyID::from_string("l")), bound));
     /// # Ok::<(), Box<dyn std::error::Error>>(())
@@ -770,7 +805,11 @@ impl Policy {
         Some(Self { parts })
     }
 
-    /// The template, the id of the link if it is one, and the bindings. The original calls this within its crate alone.
+    /// Returns the template, the id of the link, if it is one, and the bindings. Does not allocate.
+    ///
+    /// # Differences from cedar-policy-core
+    ///
+    /// In the original this function is private to its crate.
     ///
     /// ```
     /// # use cedar_store::{ast::*, entities::*};
@@ -795,10 +834,10 @@ impl Policy {
     /// let bound = SlotEnv::from([(SlotId::principal(), uid(r#"User::"alice""#))]);
     /// let template = Arc::new(template("t", PrincipalConstraint::is_eq_slot()));
     /// let link = Template::link(template, PolicyID::from_string("l"), bound.clone())?;
-    /// // a link's constraints have their slots filled
+    /// // the slots in the constraints of a link are filled
     /// assert_eq!(link.principal_constraint().to_string(), r#"principal == User::"alice""#);
     /// assert_eq!((link.action_constraint(), link.resource_constraint()), (ActionConstraint::Any, ResourceConstraint::any()));
-    /// let link = link.new_template_id(PolicyID::from_string("u")).expect("a link has a template of another id");
+    /// let link = link.new_template_id(PolicyID::from_string("u")).expect("it is a link");
     /// let (template, id, env) = link.into_components();
     /// assert_eq!((template.id().as_ref(), id, env), ("u", Some(PolicyID::from_string("l")), bound));
     /// # Ok::<(), Box<dyn std::error::Error>>(())
@@ -809,7 +848,7 @@ impl Policy {
         (template, link, values)
     }
 
-    /// The location of the whole template, if it is known.
+    /// Returns the location of the whole template, if it is known. Does not allocate.
     ///
     /// ```
     /// # use cedar_store::{ast::*, entities::*};
@@ -843,7 +882,8 @@ impl Policy {
         self.parts.template.loc()
     }
 
-    /// Whether it is a static policy, and so no link: its template has no slots then, and it binds nothing.
+    /// Returns whether the policy is a static policy and not a link. The template of a static policy has no slots, and
+    /// the policy has no bindings. Does not allocate.
     ///
     /// ```
     /// # use cedar_store::{ast::*, entities::*};
@@ -877,12 +917,19 @@ impl Policy {
         self.parts.link.is_none()
     }
 
-    /// The uids that unknowns of the condition name: those of the unknowns that have an entity type and whose
-    /// name `EntityUID::from_normalized_str` reads. As a set has them, each once.
+    /// Returns the uids of the unknown entities in the condition, each once. An unknown counts if it has an entity type
+    /// and its name can be parsed by `EntityUID::from_normalized_str`.
     ///
-    /// The original reads a name by its parser, which takes more than the printed form.
+    /// The default hasher has a key that is drawn once for the process. [`Policy::unknown_entities_with_hasher`] takes
+    /// another.
     ///
-    /// The set is one of std's own.
+    /// # Complexity
+    ///
+    /// Allocates the condition, the list of its nodes and the set.
+    ///
+    /// # Differences from cedar-policy-core
+    ///
+    /// The original parses the names with its parser, which accepts more than the printed form.
     ///
     /// ```
     /// # use cedar_store::{ast::*, entities::*};
@@ -914,7 +961,8 @@ impl Policy {
         self.unknown_entities_with_hasher(RandomState::new())
     }
 
-    /// What [`Policy::unknown_entities`] answers, in a set that hashes uids by what `hasher` builds.
+    /// Returns the uids of the unknown entities in the condition, as [`Policy::unknown_entities`] does. The set uses
+    /// the given builder of hashers.
     ///
     /// ```
     /// # use cedar_store::{ast::*, entities::*};
@@ -949,15 +997,15 @@ impl Policy {
     }
 }
 
-/// Lets a policy share another template, where that is equal to its own: so it has that one's locations. The merging of
-/// sets is made with it.
+/// Replaces the template of a policy by a shared one, if the two are equal. The policy then has the locations of the
+/// new template. Otherwise nothing changes. The merging of policy sets uses this function. Does not allocate.
 pub fn share_template(policy: &mut Policy, template: Arc<Template>) {
     if is_template(&template, policy.template()) {
         policy.parts.template = template;
     }
 }
 
-// Whether a template is another.
+// Returns whether two templates are equal.
 fn is_template(template: &Template, other: &Template) -> bool {
     template == other
 }
@@ -986,7 +1034,7 @@ impl PartialEq for Policy {
 
 impl Eq for Policy {}
 
-// As if the parts stood in the policy itself.
+// Writes the parts as if they were fields of `Policy`.
 impl fmt::Debug for Policy {
     fn fmt(&self, f: &mut fmt::Formatter<'_>) -> fmt::Result {
         f.debug_struct("Policy")

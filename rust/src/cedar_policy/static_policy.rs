@@ -18,17 +18,25 @@ use std::hash::{Hash, Hasher};
 
 /// A static policy: a body without slots.
 ///
-/// Equality and hash are the body's and look at no location. `Display` writes the body.
+/// Equality and hash use the body. They ignore locations and do not allocate. `clone` copies the body. `Display` writes
+/// the body and does not allocate.
 #[derive(Clone, Debug)]
 pub struct StaticPolicy {
     pub(crate) body: TemplateBody,
 }
 
 impl StaticPolicy {
-    /// The static policy of these parts, if there is no slot in them; else the refusal has the first slot that
-    /// the walk through the condition meets.
+    /// Creates a static policy from its parts.
     ///
-    /// A refusal drops the parts.
+    /// # Errors
+    ///
+    /// - `FoundSlot`: the parts contain a slot. The error contains the first one, in the order of `Template::slots`.
+    ///
+    /// After an error the parts are dropped.
+    ///
+    /// # Complexity
+    ///
+    /// O(n), where n is the number of nodes of the clause. Allocates O(n).
     ///
     /// ```
     /// # use cedar_store::{ast::*, entities::*};
@@ -58,7 +66,7 @@ impl StaticPolicy {
     /// assert_eq!((policy.id().as_ref(), policy.effect(), policy.loc()), ("p", Effect::Permit, None));
     /// assert!(policy.annotation(&AnyId::from_normalized_str("id")?).is_none() && policy.annotations().count() == 0);
     /// assert_eq!(policy.new_id(PolicyID::from_string("q")).id().as_ref(), "q");
-    /// // a static policy has no slot
+    /// // a static policy has no slots
     /// assert!(matches!(of(PrincipalConstraint::is_eq_slot()), Err(UnexpectedSlotError::FoundSlot(_))));
     /// # Ok::<(), Box<dyn std::error::Error>>(())
     /// ```
@@ -85,7 +93,7 @@ impl StaticPolicy {
         Self::try_from(template)
     }
 
-    /// The id.
+    /// Returns the id. Does not allocate.
     ///
     /// ```
     /// # use cedar_store::{ast::*, entities::*};
@@ -115,7 +123,7 @@ impl StaticPolicy {
     /// assert_eq!((policy.id().as_ref(), policy.effect(), policy.loc()), ("p", Effect::Permit, None));
     /// assert!(policy.annotation(&AnyId::from_normalized_str("id")?).is_none() && policy.annotations().count() == 0);
     /// assert_eq!(policy.new_id(PolicyID::from_string("q")).id().as_ref(), "q");
-    /// // a static policy has no slot
+    /// // a static policy has no slots
     /// assert!(matches!(of(PrincipalConstraint::is_eq_slot()), Err(UnexpectedSlotError::FoundSlot(_))));
     /// # Ok::<(), Box<dyn std::error::Error>>(())
     /// ```
@@ -123,7 +131,7 @@ impl StaticPolicy {
         self.body.id()
     }
 
-    /// The location of the whole policy, if it is known.
+    /// Returns the location of the whole policy, if it is known. Does not allocate.
     ///
     /// ```
     /// # use cedar_store::{ast::*, entities::*};
@@ -153,7 +161,7 @@ impl StaticPolicy {
     /// assert_eq!((policy.id().as_ref(), policy.effect(), policy.loc()), ("p", Effect::Permit, None));
     /// assert!(policy.annotation(&AnyId::from_normalized_str("id")?).is_none() && policy.annotations().count() == 0);
     /// assert_eq!(policy.new_id(PolicyID::from_string("q")).id().as_ref(), "q");
-    /// // a static policy has no slot
+    /// // a static policy has no slots
     /// assert!(matches!(of(PrincipalConstraint::is_eq_slot()), Err(UnexpectedSlotError::FoundSlot(_))));
     /// # Ok::<(), Box<dyn std::error::Error>>(())
     /// ```
@@ -161,7 +169,11 @@ impl StaticPolicy {
         self.body.loc()
     }
 
-    /// A copy under another id.
+    /// Copies the policy, with another id. This policy does not change.
+    ///
+    /// # Complexity
+    ///
+    /// Allocates as `clone` does, except for the id.
     ///
     /// ```
     /// # use cedar_store::{ast::*, entities::*};
@@ -191,7 +203,7 @@ impl StaticPolicy {
     /// assert_eq!((policy.id().as_ref(), policy.effect(), policy.loc()), ("p", Effect::Permit, None));
     /// assert!(policy.annotation(&AnyId::from_normalized_str("id")?).is_none() && policy.annotations().count() == 0);
     /// assert_eq!(policy.new_id(PolicyID::from_string("q")).id().as_ref(), "q");
-    /// // a static policy has no slot
+    /// // a static policy has no slots
     /// assert!(matches!(of(PrincipalConstraint::is_eq_slot()), Err(UnexpectedSlotError::FoundSlot(_))));
     /// # Ok::<(), Box<dyn std::error::Error>>(())
     /// ```
@@ -201,7 +213,7 @@ impl StaticPolicy {
         }
     }
 
-    /// The effect.
+    /// Returns the effect. Does not allocate.
     ///
     /// ```
     /// # use cedar_store::{ast::*, entities::*};
@@ -231,7 +243,7 @@ impl StaticPolicy {
     /// assert_eq!((policy.id().as_ref(), policy.effect(), policy.loc()), ("p", Effect::Permit, None));
     /// assert!(policy.annotation(&AnyId::from_normalized_str("id")?).is_none() && policy.annotations().count() == 0);
     /// assert_eq!(policy.new_id(PolicyID::from_string("q")).id().as_ref(), "q");
-    /// // a static policy has no slot
+    /// // a static policy has no slots
     /// assert!(matches!(of(PrincipalConstraint::is_eq_slot()), Err(UnexpectedSlotError::FoundSlot(_))));
     /// # Ok::<(), Box<dyn std::error::Error>>(())
     /// ```
@@ -239,7 +251,11 @@ impl StaticPolicy {
         self.body.effect()
     }
 
-    /// The annotation at a key, if there is one; the cost is logarithmic in their number.
+    /// Returns the annotation with this key, if there is one. Does not allocate.
+    ///
+    /// # Complexity
+    ///
+    /// O(log n), where n is the number of annotations.
     ///
     /// ```
     /// # use cedar_store::{ast::*, entities::*};
@@ -269,7 +285,7 @@ impl StaticPolicy {
     /// assert_eq!((policy.id().as_ref(), policy.effect(), policy.loc()), ("p", Effect::Permit, None));
     /// assert!(policy.annotation(&AnyId::from_normalized_str("id")?).is_none() && policy.annotations().count() == 0);
     /// assert_eq!(policy.new_id(PolicyID::from_string("q")).id().as_ref(), "q");
-    /// // a static policy has no slot
+    /// // a static policy has no slots
     /// assert!(matches!(of(PrincipalConstraint::is_eq_slot()), Err(UnexpectedSlotError::FoundSlot(_))));
     /// # Ok::<(), Box<dyn std::error::Error>>(())
     /// ```
@@ -277,7 +293,7 @@ impl StaticPolicy {
         self.body.annotation(key)
     }
 
-    /// All annotations with their keys, by key.
+    /// Iterates over the annotations with their keys, in ascending order of the keys. Does not allocate.
     ///
     /// ```
     /// # use cedar_store::{ast::*, entities::*};
@@ -307,7 +323,7 @@ impl StaticPolicy {
     /// assert_eq!((policy.id().as_ref(), policy.effect(), policy.loc()), ("p", Effect::Permit, None));
     /// assert!(policy.annotation(&AnyId::from_normalized_str("id")?).is_none() && policy.annotations().count() == 0);
     /// assert_eq!(policy.new_id(PolicyID::from_string("q")).id().as_ref(), "q");
-    /// // a static policy has no slot
+    /// // a static policy has no slots
     /// assert!(matches!(of(PrincipalConstraint::is_eq_slot()), Err(UnexpectedSlotError::FoundSlot(_))));
     /// # Ok::<(), Box<dyn std::error::Error>>(())
     /// ```
@@ -315,7 +331,7 @@ impl StaticPolicy {
         self.body.annotations()
     }
 
-    /// What the principal has to be.
+    /// Returns the constraint on the principal. Does not allocate.
     ///
     /// ```
     /// # use cedar_store::{ast::*, entities::*};
@@ -347,7 +363,7 @@ impl StaticPolicy {
         self.body.principal_constraint()
     }
 
-    /// The expression of that, as `PrincipalConstraint::as_expr` makes it.
+    /// Returns the constraint on the principal as an expression, as `PrincipalConstraint::as_expr` does.
     ///
     /// ```
     /// # use cedar_store::{ast::*, entities::*};
@@ -379,7 +395,7 @@ impl StaticPolicy {
         self.body.principal_constraint_expr()
     }
 
-    /// What the action has to be.
+    /// Returns the constraint on the action. Does not allocate.
     ///
     /// ```
     /// # use cedar_store::{ast::*, entities::*};
@@ -411,7 +427,7 @@ impl StaticPolicy {
         self.body.action_constraint()
     }
 
-    /// The expression of that, as `ActionConstraint::as_expr` makes it.
+    /// Returns the constraint on the action as an expression, as `ActionConstraint::as_expr` does.
     ///
     /// ```
     /// # use cedar_store::{ast::*, entities::*};
@@ -443,7 +459,7 @@ impl StaticPolicy {
         self.body.action_constraint_expr()
     }
 
-    /// What the resource has to be.
+    /// Returns the constraint on the resource. Does not allocate.
     ///
     /// ```
     /// # use cedar_store::{ast::*, entities::*};
@@ -475,7 +491,7 @@ impl StaticPolicy {
         self.body.resource_constraint()
     }
 
-    /// The expression of that, as `ResourceConstraint::as_expr` makes it.
+    /// Returns the constraint on the resource as an expression, as `ResourceConstraint::as_expr` does.
     ///
     /// ```
     /// # use cedar_store::{ast::*, entities::*};
@@ -507,7 +523,7 @@ impl StaticPolicy {
         self.body.resource_constraint_expr()
     }
 
-    /// The clause, if there is one.
+    /// Returns the clause, if there is one. Does not allocate.
     ///
     /// ```
     /// # use cedar_store::{ast::*, entities::*};
@@ -539,7 +555,7 @@ impl StaticPolicy {
         self.body.non_scope_constraints()
     }
 
-    /// The condition, as `TemplateBody::condition` makes it: no slot stands in it.
+    /// Returns the condition, as `TemplateBody::condition` does. The condition contains no slot.
     ///
     /// ```
     /// # use cedar_store::{ast::*, entities::*};
@@ -572,7 +588,7 @@ impl StaticPolicy {
     }
 }
 
-/// The body of a template, if it has no slots; else the refusal has the first of them.
+/// Converts a template without slots. If it has slots, the error contains the first one.
 impl TryFrom<Template> for StaticPolicy {
     type Error = UnexpectedSlotError;
 

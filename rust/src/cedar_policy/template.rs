@@ -22,9 +22,10 @@ use std::fmt;
 use std::hash::{Hash, Hasher};
 use std::sync::Arc;
 
-/// A template: a body with its slots, those of its condition. One without slots stands for a static policy.
+/// A template: a body with the slots of its condition. A template without slots represents a static policy.
 ///
-/// Equality and hash are the body's and look at no location. `Display` writes the body.
+/// Equality and hash use the body. They ignore locations and do not allocate. `clone` copies the body and the list of
+/// slots. `Display` writes the body and does not allocate.
 #[derive(Clone, Debug)]
 pub struct Template {
     pub(crate) body: TemplateBody,
@@ -32,7 +33,12 @@ pub struct Template {
 }
 
 impl Template {
-    /// The template of these parts.
+    /// Creates a template from its parts.
+    ///
+    /// # Complexity
+    ///
+    /// O(n), where n is the number of nodes of the clause. Allocates O(n), and shared blocks for the annotations and
+    /// the clause.
     ///
     /// ```
     /// # use cedar_store::{ast::*, entities::*};
@@ -94,7 +100,11 @@ impl Template {
         Self::from_body(body)
     }
 
-    /// The template of these parts, of which annotations and clause are shared already.
+    /// Creates a template from its parts, with annotations and clause that are already shared.
+    ///
+    /// # Complexity
+    ///
+    /// As [`Template::from_body`].
     ///
     /// ```
     /// # use cedar_store::{ast::*, entities::*};
@@ -156,7 +166,12 @@ impl Template {
         Self::from_body(body)
     }
 
-    /// The template of this body. The condition is not made.
+    /// Creates the template of a body. The condition is not built.
+    ///
+    /// # Complexity
+    ///
+    /// O(n), where n is the number of nodes of the clause. Allocates O(n). Does not allocate if there are no slots and
+    /// no clause.
     ///
     /// ```
     /// # use cedar_store::{ast::*, entities::*};
@@ -200,7 +215,11 @@ impl Template {
         Self { body, slots }
     }
 
-    /// In a debug build the original looks and panics.
+    /// Does nothing.
+    ///
+    /// # Differences from cedar-policy-core
+    ///
+    /// In a debug build, the original checks the slots and panics if they differ.
     ///
     /// ```
     /// # use cedar_store::{ast::*, entities::*};
@@ -241,7 +260,7 @@ impl Template {
     /// ```
     pub fn check_invariant(&self) {}
 
-    /// The id.
+    /// Returns the id. Does not allocate.
     ///
     /// ```
     /// # use cedar_store::{ast::*, entities::*};
@@ -284,7 +303,7 @@ impl Template {
         self.body.id()
     }
 
-    /// The location of the whole template, if it is known.
+    /// Returns the location of the whole template, if it is known. Does not allocate.
     ///
     /// ```
     /// # use cedar_store::{ast::*, entities::*};
@@ -327,7 +346,11 @@ impl Template {
         self.body.loc()
     }
 
-    /// A copy under another id.
+    /// Copies the template, with another id. This template does not change.
+    ///
+    /// # Complexity
+    ///
+    /// Allocates as `clone` does, except for the id.
     ///
     /// ```
     /// # use cedar_store::{ast::*, entities::*};
@@ -373,7 +396,7 @@ impl Template {
         }
     }
 
-    /// The effect.
+    /// Returns the effect. Does not allocate.
     ///
     /// ```
     /// # use cedar_store::{ast::*, entities::*};
@@ -416,7 +439,11 @@ impl Template {
         self.body.effect()
     }
 
-    /// The annotation at a key, if there is one; the cost is logarithmic in their number.
+    /// Returns the annotation with this key, if there is one. Does not allocate.
+    ///
+    /// # Complexity
+    ///
+    /// O(log n), where n is the number of annotations.
     ///
     /// ```
     /// # use cedar_store::{ast::*, entities::*};
@@ -459,7 +486,7 @@ impl Template {
         self.body.annotation(key)
     }
 
-    /// All annotations with their keys, by key.
+    /// Iterates over the annotations with their keys, in ascending order of the keys. Does not allocate.
     ///
     /// ```
     /// # use cedar_store::{ast::*, entities::*};
@@ -502,7 +529,7 @@ impl Template {
         self.body.annotations()
     }
 
-    /// The annotations as they are shared.
+    /// Returns the shared annotations. Does not allocate.
     ///
     /// ```
     /// # use cedar_store::{ast::*, entities::*};
@@ -545,7 +572,7 @@ impl Template {
         self.body.annotations_arc()
     }
 
-    /// What the principal has to be.
+    /// Returns the constraint on the principal. Does not allocate.
     ///
     /// ```
     /// # use cedar_store::{ast::*, entities::*};
@@ -588,7 +615,7 @@ impl Template {
         self.body.principal_constraint()
     }
 
-    /// What the action has to be.
+    /// Returns the constraint on the action. Does not allocate.
     ///
     /// ```
     /// # use cedar_store::{ast::*, entities::*};
@@ -631,7 +658,7 @@ impl Template {
         self.body.action_constraint()
     }
 
-    /// What the resource has to be.
+    /// Returns the constraint on the resource. Does not allocate.
     ///
     /// ```
     /// # use cedar_store::{ast::*, entities::*};
@@ -674,7 +701,7 @@ impl Template {
         self.body.resource_constraint()
     }
 
-    /// The clause, if there is one.
+    /// Returns the clause, if there is one. Does not allocate.
     ///
     /// ```
     /// # use cedar_store::{ast::*, entities::*};
@@ -717,7 +744,7 @@ impl Template {
         self.body.non_scope_constraints()
     }
 
-    /// The clause as it is shared, if there is one.
+    /// Returns the shared clause, if there is one. Does not allocate.
     ///
     /// ```
     /// # use cedar_store::{ast::*, entities::*};
@@ -760,7 +787,7 @@ impl Template {
         self.body.non_scope_constraints_arc()
     }
 
-    /// The condition, as `TemplateBody::condition` makes it.
+    /// Returns the condition, as `TemplateBody::condition` does.
     ///
     /// ```
     /// # use cedar_store::{ast::*, entities::*};
@@ -803,9 +830,9 @@ impl Template {
         self.body.condition()
     }
 
-    /// The slots that the walk through the condition meets, as often as it meets them. The walk comes to a node before
-    /// its children, and to these from the last to the first: so the slots of the clause come first, in that order,
-    /// then the resource's, the action's and the principal's.
+    /// Iterates over the slots of the condition, with repetitions. The slots of the clause come first, then the
+    /// resource's, the action's and the principal's. Within the clause, a node comes before its children, and the
+    /// children come from the last to the first. Does not allocate.
     ///
     /// ```
     /// # use cedar_store::{ast::*, entities::*};
@@ -844,7 +871,7 @@ impl Template {
         Slots::of(&self.slots)
     }
 
-    /// Whether there are no slots, so that the template stands for a static policy.
+    /// Returns whether there are no slots, so that the template represents a static policy. Does not allocate.
     ///
     /// ```
     /// # use cedar_store::{ast::*, entities::*};
@@ -883,12 +910,18 @@ impl Template {
         self.slots.is_empty()
     }
 
-    /// `Ok` exactly where the bound ids are the ids of the template's slots, and the action's, if it is one of them, is
-    /// bound to an action.
+    /// Checks that the bound slot ids are exactly the ids of the template's slots. If the action's slot is bound, its
+    /// uid must be an action.
     ///
-    /// Where the ids are others, the `ArityError` has exactly the template's slots that are not bound, in their order,
-    /// as often as they stand there, and the bound ids that are no slots, in the order of ids. Where they are not,
-    /// `NotAnAction` has the uid.
+    /// # Errors
+    ///
+    /// - `ArityError`: the bound ids are not the ids of the slots. `unbound_values` has the slots that are not bound,
+    ///   in their order and with repetitions. `extra_values` has the bound ids that are no slots, in the order of ids.
+    /// - `NotAnAction`: the ids fit, but the action's slot is bound to this uid, which is not an action.
+    ///
+    /// # Complexity
+    ///
+    /// Reads each slot a few times. Allocates only for the error.
     ///
     /// ```
     /// # use cedar_store::{ast::*, entities::*};
@@ -927,9 +960,13 @@ impl Template {
         check_bindings(&template.slots, values)
     }
 
-    /// The policy of this template, this id and these bindings, which it takes over; else the refusal of
-    /// `check_binding`. What it took is dropped where it is refused. Of the map of bindings it gives back the room that
-    /// they do not need.
+    /// Creates the link of this template with this id and these bindings. The map of the bindings is shrunk to fit.
+    ///
+    /// # Errors
+    ///
+    /// - `ArityError` or `NotAnAction`: as [`Template::check_binding`].
+    ///
+    /// After an error all arguments are dropped.
     ///
     /// ```
     /// # use cedar_store::{ast::*, entities::*};
@@ -970,16 +1007,27 @@ impl Template {
         Ok(Policy::of(template, Some(new_id), values))
     }
 
-    /// The policy of this template, this id and a copy of these bindings; else the refusal of `check_binding`. Where
-    /// they do not fit nothing was copied, so that to make many links from one map, whose room serves all, costs a map
-    /// only where there is a policy. It is this project's own.
+    /// Creates the link of this template with this id and a copy of these bindings. The bindings are checked before
+    /// they are copied. So a caller can reuse one map for many links.
+    ///
+    /// # Errors
+    ///
+    /// - `ArityError` or `NotAnAction`: as [`Template::check_binding`].
+    ///
+    /// # Differences from cedar-policy-core
+    ///
+    /// The original has no such function.
     pub fn link_copying(template: Arc<Self>, new_id: PolicyID, values: &SlotEnv) -> Result<Policy, LinkingError> {
         Self::check_binding(&template, values)?;
         let values = copy_of_bindings(values);
         Ok(Policy::of(template, Some(new_id), values))
     }
 
-    /// The static policy of this template, if it has no slots; else the refusal of binding nothing to them.
+    /// Creates the static policy of this template, if it has no slots.
+    ///
+    /// # Errors
+    ///
+    /// - `ArityError`: the template has slots. `unbound_values` has all of them.
     ///
     /// ```
     /// # use cedar_store::{ast::*, entities::*};
@@ -1012,7 +1060,7 @@ impl Template {
         Ok(Policy::unlinked(template))
     }
 
-    /// The template of a static policy, and the policy of that template: both have the policy's id.
+    /// Returns the template of a static policy, and the policy of that template. Both have the id of the static policy.
     ///
     /// ```
     /// # use cedar_store::{ast::*, entities::*};
@@ -1045,7 +1093,7 @@ impl Template {
         (template, policy)
     }
 
-    // The template of a static policy.
+    // Returns the template of a static policy.
     pub(crate) fn of_static(policy: StaticPolicy) -> Self {
         let StaticPolicy { body } = policy;
         Self {
@@ -1054,11 +1102,22 @@ impl Template {
         }
     }
 
-    /// The template itself, if a parser could have made it; else its first fault.
+    /// Returns the template itself, if it satisfies all rules of the parser.
     ///
-    /// `SlotsInConditionClause` has the first slot of the clause; else `InvalidActionType` has the uids of the action's
-    /// constraint that are no actions, all of them in the order of its list; else `InvalidExpression` has the first
-    /// function of the clause that is not known. `SlotCacheMismatch` never comes. A refusal drops the template.
+    /// # Errors
+    ///
+    /// The first failed check in this order decides:
+    ///
+    /// - `SlotsInConditionClause`: the clause contains a slot. The error contains the first one.
+    /// - `InvalidActionType`: some uids of the action constraint are not actions. The error contains all of them, in
+    ///   the order of the list.
+    /// - `InvalidExpression`: the clause calls an unknown function. The error contains the first one.
+    ///
+    /// `SlotCacheMismatch` is never returned. After an error the template is dropped.
+    ///
+    /// # Complexity
+    ///
+    /// O(n), where n is the number of nodes of the clause and of uids in the action constraint. Allocates O(n).
     ///
     /// ```
     /// # use cedar_store::{ast::*, entities::*};

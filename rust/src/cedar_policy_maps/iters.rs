@@ -10,7 +10,7 @@ use std::hash::BuildHasher;
 use std::sync::Arc;
 use std::{slice, vec};
 
-/// The policies of a set, static policies and links, in the order in which they joined.
+/// An iterator over the policies of a set, static policies and links, in insertion order.
 pub struct Policies<'a> {
     inner: slice::Iter<'a, Policy>,
 }
@@ -29,7 +29,7 @@ impl<'a> Iterator for Policies<'a> {
     }
 }
 
-/// The policies of a set that was taken apart, in the order in which they joined.
+/// An owning iterator over the policies of a set, in insertion order.
 pub struct IntoPolicies {
     inner: vec::IntoIter<Policy>,
 }
@@ -50,7 +50,7 @@ impl Iterator for IntoPolicies {
     }
 }
 
-/// The bodies of a set, of static policies and of templates, in the order in which they joined.
+/// An iterator over the bodies of a set, of static policies and of templates, in insertion order.
 pub struct AllTemplates<'a> {
     inner: slice::Iter<'a, Arc<Template>>,
 }
@@ -69,7 +69,7 @@ impl<'a> Iterator for AllTemplates<'a> {
     }
 }
 
-/// The bodies of a set that have slots, in the order in which they joined.
+/// An iterator over the bodies of a set that have slots, in insertion order.
 pub struct Templates<'a> {
     inner: AllTemplates<'a>,
 }
@@ -90,7 +90,7 @@ impl<'a> Iterator for Templates<'a> {
     }
 }
 
-// The next body that has slots.
+// Returns the next body that has slots.
 fn next_slotted<'a>(inner: &mut AllTemplates<'a>) -> Option<&'a Template> {
     loop {
         match inner.next() {
@@ -104,7 +104,7 @@ fn next_slotted<'a>(inner: &mut AllTemplates<'a>) -> Option<&'a Template> {
     }
 }
 
-/// The static policies of a set, in the order in which they joined.
+/// An iterator over the static policies of a set, in insertion order.
 pub struct StaticPolicies<'a> {
     inner: Policies<'a>,
 }
@@ -125,7 +125,7 @@ impl<'a> Iterator for StaticPolicies<'a> {
     }
 }
 
-// The next static policy.
+// Returns the next static policy.
 fn next_static<'a>(inner: &mut Policies<'a>) -> Option<&'a Policy> {
     loop {
         match inner.next() {
@@ -139,7 +139,7 @@ fn next_static<'a>(inner: &mut Policies<'a>) -> Option<&'a Policy> {
     }
 }
 
-/// The ids of the policies on a body, in the order in which they joined.
+/// An iterator over the ids of the policies that use a body, in insertion order.
 pub struct LinkedIds<'a> {
     inner: slice::Iter<'a, PolicyID>,
 }

@@ -7,28 +7,27 @@ use crate::cedar_ids::entity::EntityUID;
 use std::collections::HashSet;
 use std::hash::BuildHasher;
 
-// Notes some uids.
+// Inserts uids into a set.
 fn note_all<S: BuildHasher>(noted: &mut HashSet<SharedUid, S>, uids: SharedUids<'_>) {
     for uid in uids {
         noted.insert(uid.clone());
     }
 }
 
-// Notes the ancestors of the entity that the store has with a uid, if there is one.
+// Inserts the ancestors of the entity with a uid into a set, if the store has that entity.
 fn note_above<S: BuildHasher + Clone>(store: &Entities<S>, noted: &mut HashSet<SharedUid, S>, uid: &EntityUID) {
     if let Some(entity) = store.stored(uid) {
         note_all(noted, entity.shared_ancestors());
     }
 }
 
-// Notes a uid that is asked for, and the ancestors of the entity that the store has with it.
+// Inserts a requested uid, and the ancestors of the entity with this uid.
 fn want<S: BuildHasher + Clone>(store: &Entities<S>, wanted: &mut HashSet<SharedUid, S>, uid: &EntityUID) {
     note_above(store, wanted, uid);
     wanted.insert(SharedUid::copy_of(uid));
 }
 
-// The uids that are asked for, and the ancestors of what the store has with them. What is asked for again is passed
-// over.
+// Returns the requested uids and the ancestors of the entities with these uids. Skips repeated uids.
 fn all_wanted<S: BuildHasher + Clone>(store: &Entities<S>, uids: &[EntityUID]) -> HashSet<SharedUid, S> {
     let mut wanted = HashSet::with_hasher(store.hasher().clone());
     let mut asked: HashSet<SharedUid, S> = HashSet::with_hasher(store.hasher().clone());
@@ -42,14 +41,14 @@ fn all_wanted<S: BuildHasher + Clone>(store: &Entities<S>, uids: &[EntityUID]) -
     wanted
 }
 
-// Puts a copy of the entity that the store has with a uid, if there is one, at the end of a list.
+// Appends a copy of the entity with a uid to a list, if the store has that entity.
 fn copy_held<S: BuildHasher + Clone>(store: &Entities<S>, list: &mut Vec<Entity>, uid: &SharedUid) {
     if let Some(entity) = store.stored(uid.uid()) {
         list.push(entity.clone());
     }
 }
 
-// Copies of the entities that the store has with some uids.
+// Returns copies of the entities with the uids.
 fn copies_of<S: BuildHasher + Clone>(store: &Entities<S>, uids: &HashSet<SharedUid, S>) -> Vec<Entity> {
     let mut list = Vec::new();
     for uid in uids {
@@ -58,7 +57,7 @@ fn copies_of<S: BuildHasher + Clone>(store: &Entities<S>, uids: &HashSet<SharedU
     list
 }
 
-// The slice of a store at some uids, of which is not known that it is plain.
+// Returns the slice of a store that is not known to be plain.
 fn part_of<S: BuildHasher + Clone>(store: &Entities<S>, uids: &[EntityUID]) -> Entities<S> {
     let wanted = all_wanted(store, uids);
     let list = copies_of(store, &wanted);
@@ -69,14 +68,17 @@ fn part_of<S: BuildHasher + Clone>(store: &Entities<S>, uids: &[EntityUID]) -> E
     }
 }
 
-/// The slice of a store at some uids, not partial: copies of the entities that have one of these uids, and of those
-/// that the store holds among the ancestors of one of them, each with all that it holds. Asked uids that the store
-/// lacks, and repeats, change nothing. The slice hashes uids as the store does, by a copy of its builder of hashers.
+/// Returns the slice of a store at some uids: a store with copies of the requested entities and of all their stored
+/// ancestors.
 ///
-/// It looks each asked uid up, notes its ancestors, and looks each uid that was noted up once and copies what it finds:
-/// the store is never walked as a whole. Attributes and tags are copied, the uids of ancestors are shared. Where the
-/// store knows that its ancestors are what the parents imply, the slice knows it too: edits of it cost what edits of
-/// the store do.
+/// The copies have the attributes, tags, parents and ancestors of the originals. Uids that are not in the store, and
+/// repeated uids, have no effect. The slice is not partial. It uses a clone of the store's hasher builder. If the store
+/// is known to be plain, so is the slice, and edits of both cost the same.
+///
+/// # Complexity
+///
+/// Looks up each requested uid, inserts its ancestors into a set, and looks up each uid of this set once. The rest of
+/// the store is not read. Attributes and tags are copied, and the uids of ancestors are shared.
 ///
 /// ```
 /// # use cedar_store::{ast::*, entities::*};
@@ -100,7 +102,7 @@ fn part_of<S: BuildHasher + Clone>(store: &Entities<S>, uids: &[EntityUID]) -> E
 /// use cedar_store::slice;
 /// let all = [under(r#"A::"a""#, &[r#"A::"b""#]), under(r#"A::"b""#, &[]), under(r#"A::"z""#, &[r#"A::"b""#])];
 /// let store = Entities::from_entities(all, TCComputation::ComputeNow)?;
-/// // what is asked for, and what stands above it
+/// // the requested entities and their ancestors
 /// let part = slice(&store, &[uid(r#"A::"a""#)]);
 /// assert_eq!(part.len(), 2);
 /// assert!(part.stored(&uid(r#"A::"z""#)).is_none());

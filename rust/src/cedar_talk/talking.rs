@@ -10,12 +10,12 @@ use std::fmt;
 use std::hash::BuildHasher;
 use std::io::{Read, Write};
 
-/// Why a conversation ended early.
+/// The reason why a conversation ended early.
 #[derive(Debug)]
 pub enum TalkError {
-    /// A read failed. What was written is the answers to all lines that had been read to their line feed.
+    /// A read failed. The output consists of the outputs for all lines that were completed before.
     Read,
-    /// A write failed, or the flush after it. How much was written is not said.
+    /// A write or a flush failed. The amount of output is unspecified.
     Write,
 }
 
@@ -30,10 +30,10 @@ impl fmt::Display for TalkError {
 
 impl Error for TalkError {}
 
-// So many bytes are asked for at a read.
+// The number of bytes requested by a read.
 const ROOM: usize = 4096;
 
-// Writes all of these bytes, and flushes.
+// Writes all of the bytes, and flushes.
 fn send<W: Write>(writer: &mut W, bytes: &[u8]) -> Result<(), TalkError> {
     writer
         .write_all(bytes)
@@ -41,12 +41,12 @@ fn send<W: Write>(writer: &mut W, bytes: &[u8]) -> Result<(), TalkError> {
         .map_err(|_| TalkError::Write)
 }
 
-// The bytes that come next, at the front of the buffer, and how many these are: none at the end.
+// Reads the next bytes into the beginning of the buffer. Returns their number, which is 0 at the end.
 fn read_some<R: Read>(reader: &mut R, buffer: &mut [u8]) -> Result<usize, TalkError> {
     read_again(reader, buffer).map_err(|_| TalkError::Read)
 }
 
-// The input ends: writes the answer to what has come of a last line, and answers the status.
+// Finishes at the end of the input: writes the output for an incomplete last line, and returns the status.
 fn finish<S: BuildHasher + Copy, W: Write>(
     conversation: &mut Conversation<S>,
     writer: &mut W,
@@ -56,7 +56,7 @@ fn finish<S: BuildHasher + Copy, W: Write>(
     if on { Ok(0) } else { Ok(2) }
 }
 
-// Answers what is read until the input ends, or until a line ends the conversation. The status is that of `talk`.
+// Processes the input until it ends or a line ends the conversation. Returns the status of `talk`.
 fn converse<S: BuildHasher + Copy, R: Read, W: Write>(
     conversation: &mut Conversation<S>,
     reader: &mut R,
@@ -76,22 +76,36 @@ fn converse<S: BuildHasher + Copy, R: Read, W: Write>(
     }
 }
 
-/// Holds a conversation over the lines of [`run`](crate::cedar_store::run): each line that has been read to its line feed is
-/// answered, and its answer is written and flushed, before more is read. What stands after the last line feed is
-/// answered at the end of the input, unless it is empty. Maps hash by what `hasher` builds, which no answer shows. A
-/// read that was interrupted is made again.
+/// Holds a conversation over the lines of [`run`](crate::cedar_store::run). The output for each completed line is written and
+/// flushed before more input is read. An incomplete last line is processed at the end of the input, unless it is empty.
+/// An interrupted read is repeated.
 ///
-/// Leniently a line that is no command is answered by `line N: not a command`, where it is the Nth, changes nothing,
-/// and the conversation goes on; the line `help` is answered by the lines of the program. The status is 0. Strictly
-/// the first line that is no command ends the conversation with status 2, and `help` is none: what was written then,
-/// and the status, are those of `run` for the same input, and the read that brought that line's line feed was the last.
+/// - [`Manner::Lenient`]: the output for a line that is not a command is `line N: not a command`, where N is its
+///   number. The line has no other effect, and the conversation continues. The output for the line `help` is the help
+///   text. The status is 0.
+/// - [`Manner::Strict`]: the first line that is not a command ends the conversation with status 2. The line `help` is
+///   not a command here. `run` has the same output and status for the same input. No input is read after the read that
+///   completed this line.
 ///
-/// `Read` comes where a read failed: what was written is the answers to all lines that had been read to their line
-/// feed. `Write` comes where a write or a flush failed, and how much was written is not said.
+/// The maps hash with hashers of `hasher`, which has no effect on the output.
 ///
-/// It reads up to 4,096 bytes at a time by [`Read::read`], which is to give what is there, so that at a pipe or a
-/// terminal nothing waits; each read costs one write and one flush, and each line what it costs `run`. It is this
-/// project's own.
+/// # Errors
+///
+/// - `Read`: a read failed, or 2^51 reads did not reach the end. The output consists of the outputs for all lines that
+///   were completed before.
+/// - `Write`: a write or a flush failed. The amount of output is unspecified.
+/// - The output consists of the outputs for all lines that were completed before the last read.
+///
+/// # Complexity
+///
+/// Reads up to 4,096 bytes at a time by [`Read::read`]. The reader should return the available bytes, so that a pipe or
+/// a terminal does not block. Each read causes one write and one flush. Each line costs as much as in `run`.
+///
+/// Allocates the session, the incomplete line, and the outputs for the lines of one read.
+///
+/// # Differences from cedar-policy-core
+///
+/// The original has no such function.
 ///
 /// ```
 /// # use cedar_store::{ast::*, entities::*};

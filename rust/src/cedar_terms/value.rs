@@ -14,37 +14,40 @@ use std::fmt;
 use std::hash::{Hash, Hasher};
 use std::sync::Arc;
 
-/// What an evaluated expression is: a literal, a set, a record or an extension value.
+/// The result of evaluating an expression: a literal, a set, a record or an extension value.
 ///
-/// Equality, order and hash look at that tree alone, so never at a location. Literals stand before sets, sets before
-/// records and records before extension values; within a kind the contents decide.
+/// Equality, order and hash use only the content, and ignore locations. The order is: literals, sets, records,
+/// extension values. Values of the same kind are ordered by their contents.
 ///
-/// It is written as `[V, W]`, `{"k": V}` or `f("text")`. Comparing, hashing and writing go down the tree by recursion;
-/// 10,000 levels are carried with room to spare.
+/// `Display` writes `[V, W]`, `{"k": V}` or `f("text")`.
+///
+/// Comparing, hashing and writing recurse into the value and do not allocate. A value with 10,000 levels does not
+/// exhaust an ordinary stack.
 #[derive(Clone, Debug)]
 pub struct Value {
-    /// What the value is.
+    /// The kind and content of the value.
     pub value: ValueKind,
-    /// Where it stands in a text, if that is known.
+    /// The location of the value in a text, if it is known.
     pub loc: Option<Loc>,
 }
 
-/// The kinds of a value.
+/// The kinds of values. `clone` shares the parts.
 #[derive(Clone, Debug)]
 pub enum ValueKind {
     /// A literal.
     Lit(Literal),
-    /// A set: its elements in ascending order, each once, as `Value::set` makes them.
-    /// Who fills it by hand sees to that; nothing checks it.
+    /// A set: its elements in ascending order, each once, as `Value::set` creates them.
+    /// Code that fills the variant directly must ensure this order, because nothing checks it. Two lists with the same
+    /// elements in different orders are different sets.
     Set(Arc<Vec<Value>>),
-    /// A record, its keys in byte order.
+    /// A record, with its keys in byte order.
     Record(Arc<BTreeMap<String, Value>>),
     /// An extension value.
     ExtensionValue(Arc<ExtensionValue>),
 }
 
 impl Value {
-    /// The value of a kind, at a location.
+    /// Creates a value with this content and location. Does not allocate.
     ///
     /// ```
     /// # use cedar_store::{ast::*, entities::*};
@@ -67,7 +70,7 @@ impl Value {
     /// # }
     /// let set = Value::set([Value::from(2), Value::from(1), Value::from(2)], None);
     /// assert_eq!(set.to_string(), "[1, 2]");
-    /// // of several values of a key the last stays
+    /// // if a key is repeated, the last value is used
     /// let record = Value::record([("k", Value::from(true)), ("k", set.clone())], None);
     /// assert_eq!(record.to_string(), r#"{"k": [1, 2]}"#);
     /// assert_eq!(Value::new(set.value.clone(), None), set);
@@ -76,9 +79,12 @@ impl Value {
         Self { value, loc }
     }
 
-    /// The set of some values: in ascending order, and each once.
+    /// Creates the set of some values: in ascending order, each once. Of equal values, the first one is kept, with its
+    /// location.
     ///
-    /// Of values that are equal the first is kept, with its location. It sorts, so it compares some n · log n times.
+    /// # Complexity
+    ///
+    /// O(n log n) comparisons, where n is the number of values. Allocates.
     ///
     /// ```
     /// # use cedar_store::{ast::*, entities::*};
@@ -101,7 +107,7 @@ impl Value {
     /// # }
     /// let set = Value::set([Value::from(2), Value::from(1), Value::from(2)], None);
     /// assert_eq!(set.to_string(), "[1, 2]");
-    /// // of several values of a key the last stays
+    /// // if a key is repeated, the last value is used
     /// let record = Value::record([("k", Value::from(true)), ("k", set.clone())], None);
     /// assert_eq!(record.to_string(), r#"{"k": [1, 2]}"#);
     /// assert_eq!(Value::new(set.value.clone(), None), set);
@@ -113,9 +119,12 @@ impl Value {
         Self::new(ValueKind::Set(elements), loc)
     }
 
-    /// The record of some pairs, of which the last with a key counts. Its keys are in byte order.
+    /// Creates the record of some pairs, with its keys in byte order. If a key occurs more than once, its last value is
+    /// kept.
     ///
-    /// It looks a key up for each pair.
+    /// # Complexity
+    ///
+    /// One lookup for each pair. Allocates.
     ///
     /// ```
     /// # use cedar_store::{ast::*, entities::*};
@@ -138,7 +147,7 @@ impl Value {
     /// # }
     /// let set = Value::set([Value::from(2), Value::from(1), Value::from(2)], None);
     /// assert_eq!(set.to_string(), "[1, 2]");
-    /// // of several values of a key the last stays
+    /// // if a key is repeated, the last value is used
     /// let record = Value::record([("k", Value::from(true)), ("k", set.clone())], None);
     /// assert_eq!(record.to_string(), r#"{"k": [1, 2]}"#);
     /// assert_eq!(Value::new(set.value.clone(), None), set);
@@ -153,7 +162,7 @@ impl Value {
     }
 }
 
-// The values, of equal ones that stand side by side the first alone.
+// Returns the values, with only the first of each run of consecutive equal values.
 fn without_repeats(values: Vec<Value>) -> Vec<Value> {
     let mut kept = values;
     kept.dedup();
@@ -206,12 +215,12 @@ impl Hash for ValueKind {
     }
 }
 
-/// A call of an extension function on a text, as `ip("10.0.0.1")`. Nothing here looks into it.
+/// A call of an extension function with one text, for example `ip("10.0.0.1")`. This crate does not interpret the text.
 #[derive(Clone, Debug)]
 pub struct ExtensionValue {
     /// The function.
     pub func: Name,
-    /// The text that it is called on.
+    /// The argument.
     pub arg: String,
 }
 

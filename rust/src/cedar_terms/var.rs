@@ -5,23 +5,23 @@
 use std::fmt;
 use std::hash::{Hash, Hasher};
 
-/// A variable of a request, which an expression may name.
+/// A variable of a request, as it occurs in expressions.
 ///
-/// It is written in lower case.
+/// `Display` writes it in lower case. Copying, comparing, hashing and writing do not allocate.
 #[derive(Clone, Copy, Debug)]
 pub enum Var {
-    /// Who asks.
+    /// The entity that makes the request.
     Principal,
-    /// What is asked for.
+    /// The requested action.
     Action,
-    /// What it is asked of.
+    /// The entity that the action concerns.
     Resource,
-    /// What else is known of the request.
+    /// The context: further attributes of the request.
     Context,
 }
 
 impl Var {
-    // The place of the variable among the four.
+    // Returns the index of the variable.
     fn index(self) -> u8 {
         match self {
             Self::Principal => 0,

@@ -11,120 +11,135 @@ use std::collections::HashSet;
 use std::hash::BuildHasher;
 use std::{mem, slice};
 
-/// A set of uids that are shared with other sets: a vector of them, ascending, each once.
+/// A set of shared uids: a vector in ascending order, without duplicates.
 #[derive(Debug)]
 pub struct UidSet {
     uids: Vec<SharedUid>,
 }
 
 impl UidSet {
-    /// The empty set.
+    /// Creates an empty set. Does not allocate.
     pub fn new() -> Self {
         Self { uids: Vec::new() }
     }
 
-    /// The set of uids that ascend, each once. It looks at no uid.
+    /// Creates a set from ascending uids without duplicates. The caller must ensure this; see [`UidSet::is_ascending`].
+    /// Compares no uids and does not allocate.
     pub fn from_ascending(uids: Vec<SharedUid>) -> Self {
         Self { uids }
     }
 
-    /// The uids of a hash set, however it hashes, now to be shared. It sorts them, in the logarithm of their number of
-    /// comparisons a uid.
+    /// Creates a set from the uids of a hash set, with any hasher. The uids become shared.
+    ///
+    /// # Complexity
+    ///
+    /// O(n log n) comparisons, where n is the number of uids. Allocates a pointer and a box for each uid.
     pub fn from_set<S: BuildHasher>(uids: HashSet<EntityUID, S>) -> Self {
         let mut ascending = shared(uids);
         ascending.sort();
         Self::from_ascending(ascending)
     }
 
-    /// The pointers, ascending by what they share.
+    /// Returns the pointers, in ascending order of uid. Does not allocate.
     pub fn pointers(&self) -> &[SharedUid] {
         self.uids.as_slice()
     }
 
-    /// The pointers, ascending by what they share. It copies no pointer.
+    /// Returns the pointers, in ascending order of uid, and consumes the set. Does not allocate.
     pub fn into_pointers(self) -> Vec<SharedUid> {
         self.uids
     }
 
-    /// How many uids there are.
+    /// Returns the number of uids. Does not allocate.
     pub fn len(&self) -> usize {
         self.pointers().len()
     }
 
-    /// Whether there is no uid.
+    /// Returns whether the set is empty. Does not allocate.
     pub fn is_empty(&self) -> bool {
         self.len() == 0
     }
 
-    /// The uids, ascending.
+    /// Iterates over the uids in ascending order. Does not allocate.
     pub fn iter(&self) -> Uids<'_> {
         Uids {
             inner: self.uids.iter(),
         }
     }
 
-    /// Whether the uid is in the set. It compares it to the logarithm of the number of uids; where there are at most
-    /// sixteen, to each of them.
+    /// Returns whether the set contains the uid.
+    ///
+    /// # Complexity
+    ///
+    /// O(log n) comparisons, where n is the number of uids. Compares with each uid if there are at most sixteen. Does
+    /// not allocate.
     pub fn contains(&self, uid: &EntityUID) -> bool {
         has(&self.uids, uid)
     }
 
-    /// Whether a uid that is shared is in the set. It compares as [`UidSet::contains`] does, which costs less here: the
-    /// numbers that abbreviate the uid are at hand.
+    /// Returns whether the set contains a shared uid. Makes the comparisons of [`UidSet::contains`], but they are
+    /// cheaper because the numbers of the uid are stored. Does not allocate.
     pub fn contains_shared(&self, shared: &SharedUid) -> bool {
         is_one_of(&self.uids, &shared.key())
     }
 
-    // Whether a uid that is shared is in the set. The numbers are looked at first: mostly these tell that it is not.
+    // Checks whether the set contains a shared uid. Compares the numbers first, because they mostly show that it does
+    // not.
     fn holds(&self, shared: &SharedUid) -> bool {
         may_be_among(&self.uids, &shared.key()) && self.contains_shared(shared)
     }
 
-    /// Whether a uid that is shared is in one of two sets. Where a set has at most sixteen uids, mostly the numbers
-    /// that abbreviate them are all that is looked at.
+    /// Returns whether one of two sets contains a shared uid. In a set of at most sixteen uids, mostly only the numbers
+    /// are compared. Does not allocate.
     pub fn either_contains(one: &Self, other: &Self, shared: &SharedUid) -> bool {
         one.holds(shared) || other.holds(shared)
     }
 
-    /// Puts a uid in; one that is there already changes nothing.
+    /// Inserts a uid. If the set contains it already, the set does not change.
     ///
-    /// It compares the uid to the last one, so ascending inserts cost one comparison each; then to the logarithm of the
-    /// number of uids, and it moves the pointers to the greater ones.
+    /// # Complexity
+    ///
+    /// O(log n) comparisons, where n is the number of uids. The uid is compared with the last one first, so ascending
+    /// inserts need one comparison each. The pointers to greater uids are moved.
     pub fn insert(&mut self, shared: SharedUid) {
         if let Err(at) = place_from_end(&self.uids, &shared.key()) {
             self.uids.insert(at, shared);
         }
     }
 
-    /// Takes a uid out; one that is not there changes nothing.
+    /// Removes a uid. If the set does not contain it, the set does not change.
     ///
-    /// It compares the uid to the logarithm of the number of uids, and moves the pointers to the greater ones.
+    /// # Complexity
+    ///
+    /// O(log n) comparisons, where n is the number of uids. The pointers to greater uids are moved. Does not allocate.
     pub fn remove(&mut self, uid: &EntityUID) {
         self.remove_key(&Key::of(uid));
     }
 
-    /// Takes a uid that is shared out; one that is not there changes nothing. It compares and moves as
-    /// [`UidSet::remove`] does, which costs less here: the numbers that abbreviate the uid are at hand.
+    /// Removes a shared uid. If the set does not contain it, the set does not change. Costs as much as
+    /// [`UidSet::remove`], but the comparisons are cheaper because the numbers of the uid are stored. Does not
+    /// allocate.
     pub fn remove_shared(&mut self, shared: &SharedUid) {
         self.remove_key(&shared.key());
     }
 
-    // Takes a uid out.
     fn remove_key(&mut self, uid: &Key<'_>) {
         if let Ok(at) = place(&self.uids, uid) {
             self.uids.remove(at);
         }
     }
 
-    /// Takes all uids out. It keeps the room that they had.
+    /// Removes all uids. Keeps the capacity. Does not allocate.
     pub fn clear(&mut self) {
         self.uids.clear();
     }
 
-    /// Takes out every uid of another set.
+    /// Removes every uid that is in `others`.
     ///
-    /// Where the others are fewer than 1,000 and fewer than these, each is looked for here and taken out, as
-    /// [`UidSet::remove`] does; else these are gone through once, and each is looked for among the others.
+    /// # Complexity
+    ///
+    /// If `others` has fewer than 1,000 uids and fewer than this set, each of them is removed as in [`UidSet::remove`].
+    /// Otherwise each uid of this set is looked up in `others`. Does not allocate.
     pub fn difference(&mut self, others: &Self) {
         if others.len() < FEW && others.len() < self.len() {
             self.remove_each(others.pointers());
@@ -133,23 +148,25 @@ impl UidSet {
         }
     }
 
-    // Takes each of these out.
+    // Removes each of the uids.
     fn remove_each(&mut self, uids: &[SharedUid]) {
         for shared in uids {
             self.remove_shared(shared);
         }
     }
 
-    // Keeps what is not in the other set.
+    // Keeps the uids that are not in `others`.
     fn keep_others(&mut self, others: &Self) {
         self.uids.retain(|shared| !others.contains_shared(shared));
     }
 
-    /// Puts in uids that ascend, each once; those that are there already change nothing, and the pointers that the set
-    /// has to them stay.
+    /// Inserts ascending uids without duplicates. The caller must ensure the order; see [`UidSet::is_ascending`]. For a
+    /// uid that the set contains already, the existing pointer is kept.
     ///
-    /// An empty set takes the vector as it is. Else it goes through both once, in step, moves the pointers and copies
-    /// none; it makes at most as many comparisons as both have uids.
+    /// # Complexity
+    ///
+    /// O(n + m), where n and m are the numbers of uids of both. Makes at most n + m comparisons, moves the pointers and
+    /// copies none. An empty set takes over the vector. Otherwise one pointer per uid of both is allocated.
     pub fn extend_ascending(&mut self, uids: Vec<SharedUid>) {
         if self.is_empty() {
             self.uids = uids;
@@ -164,11 +181,11 @@ impl UidSet {
     }
 }
 
-// Fewer than so many uids are taken out one by one.
+// Fewer uids than this are removed one by one.
 const FEW: usize = 1000;
 
 impl PartialEq for UidSet {
-    /// Whether both have the same uids. It compares each uid to one of the other set.
+    /// Returns whether both sets have the same uids. Makes at most one comparison per uid. Does not allocate.
     fn eq(&self, other: &Self) -> bool {
         self.uids == other.uids
     }
@@ -177,14 +194,14 @@ impl PartialEq for UidSet {
 impl Eq for UidSet {}
 
 impl Clone for UidSet {
-    /// A copy.
+    /// Returns a copy that shares the uids.
     fn clone(&self) -> Self {
         let copy = self.uids.clone();
         Self { uids: copy }
     }
 }
 
-/// The uids of a set, ascending.
+/// An iterator over the uids of a set, in ascending order.
 pub struct Uids<'a> {
     inner: slice::Iter<'a, SharedUid>,
 }

@@ -1,4 +1,4 @@
-//! Names that std has for calls of the layer: each is one call, or one of the layer's own values.
+//! Implementations of traits of the standard library. Each forwards to one function or to a value of the layer.
 use crate::ast::annotation;
 use crate::ast::{
     Annotation, Annotations, AnyId, Entity, EntityReference, EntityUID, Expr, Literal, PartialValue, Policy, PolicySet,
@@ -12,7 +12,8 @@ use std::collections::HashSet;
 use std::hash::{BuildHasher, RandomState};
 use std::sync::{Arc, OnceLock};
 
-/// A key that is drawn once for the process, from where std's own hash maps have theirs.
+/// Returns a random key, which is drawn once per process from the source that the standard library uses for its hash
+/// maps.
 impl Default for KeyedState {
     fn default() -> KeyedState {
         static KEYS: OnceLock<(u64, u64)> = OnceLock::new();
@@ -144,7 +145,7 @@ impl From<Value> for PartialValue {
     }
 }
 
-// Stores, policy sets and what they hold may be sent and shared between threads.
+// Stores, policy sets and their content can be sent to and shared between threads.
 const _: () = {
     const fn are_sent_and_shared<T: Send + Sync + 'static>() {}
     are_sent_and_shared::<Entities>();
@@ -157,7 +158,7 @@ const _: () = {
 };
 
 impl UidSet {
-    /// The uids, as std's own set has them.
+    /// Converts the uids to a set of the standard library.
     pub(crate) fn into_set(self) -> HashSet<EntityUID> {
         self.into_pointers().into_iter().map(SharedUid::into_uid).collect()
     }

@@ -1,4 +1,4 @@
-//! What is written by hand, and stands in no source of the layer.
+//! Code that is written by hand. It is not generated from the sources of the layer.
 mod conversions;
 pub(crate) mod ordered_map;
 #[cfg(test)]

@@ -1,4 +1,4 @@
-//! Maps and sets in insertion order: keys and values in columns, and a table of places.
+//! Maps and sets in insertion order: keys and values in columns, and a hash table of indexes.
 use std::borrow::Borrow;
 use std::fmt;
 use std::hash::{BuildHasher, Hash};
@@ -7,10 +7,11 @@ use std::ops::Index;
 use std::slice;
 use std::vec;
 
-/// Marks a slot that is free.
+/// Marks a free slot.
 const FREE: i32 = -1;
 
-/// Where the key of each hash stands: open addressing, at most half full, the hashes kept beside.
+/// A hash table of the indexes of keys. It uses open addressing and is at most half full. It also stores the hash of
+/// each key.
 #[derive(Clone, Default)]
 struct Places {
     slots: Vec<i32>,
@@ -41,7 +42,7 @@ impl Places {
         }
     }
 
-    /// Where the search for a hash begins.
+    /// Returns the slot at which the search for a hash begins.
     fn home(&self, hash: u64) -> usize {
         (hash.wrapping_mul(0x9E37_79B9_7F4A_7C15) >> 32) as usize & (self.slots.len() - 1)
     }
@@ -54,7 +55,7 @@ impl Places {
         self.slots[at] = place as i32;
     }
 
-    /// The place of a hash whose key is the one that is looked for.
+    /// Returns the index of the key with this hash for which `is_key` returns true.
     fn get(&self, hash: u64, is_key: impl Fn(usize) -> bool) -> Option<usize> {
         if self.slots.is_empty() {
             return None;
@@ -79,7 +80,7 @@ impl Places {
         self.put(self.hashes.len() - 1);
     }
 
-    /// Takes a place out; those above it are one less.
+    /// Removes an index. Each greater index decreases by one.
     fn remove(&mut self, place: usize) {
         let mask = self.slots.len() - 1;
         let mut free = self.home(self.hashes[place]);
@@ -115,7 +116,7 @@ impl Places {
     }
 }
 
-/// A set of keys in the order in which they were put in.
+/// A set of keys in insertion order.
 #[derive(Clone)]
 pub struct OrderedSet<K, S> {
     keys: Vec<K>,
@@ -182,7 +183,8 @@ impl<K: Hash + Eq, S: BuildHasher> OrderedSet<K, S> {
         self.get_index_of(key).is_some()
     }
 
-    /// Puts a key last, if there is no equal one: its place, and whether it is new.
+    /// Inserts a key as the last one, unless an equal key is present. Returns the index of the key, and whether it is
+    /// new.
     pub fn insert_full(&mut self, key: K) -> (usize, bool) {
         let hash = self.hasher.hash_one(&key);
         if let Some(place) = self.places.get(hash, |place| self.keys[place] == key) {
@@ -198,7 +200,7 @@ impl<K: Hash + Eq, S: BuildHasher> OrderedSet<K, S> {
         self.insert_full(key).1
     }
 
-    /// Takes a key out, and those behind it move up.
+    /// Removes a key. The later keys move up.
     pub fn shift_remove<Q: Hash + Eq + ?Sized>(&mut self, key: &Q) -> bool
     where
         K: Borrow<Q>,
@@ -216,7 +218,7 @@ impl<K: Hash + Eq, S: BuildHasher> OrderedSet<K, S> {
         self.keys.clear();
     }
 
-    /// Puts all keys of another set last, and leaves that one empty.
+    /// Inserts all keys of another set at the end, and empties that set.
     pub fn append(&mut self, other: &mut Self) {
         let keys = mem::take(&mut other.keys);
         other.clear();
@@ -258,7 +260,7 @@ impl<K: fmt::Debug, S> fmt::Debug for OrderedSet<K, S> {
     }
 }
 
-/// A map whose keys keep the order in which they were put in.
+/// A map in insertion order of its keys.
 #[derive(Clone)]
 pub struct OrderedMap<K, V, S> {
     keys: OrderedSet<K, S>,
@@ -332,7 +334,7 @@ impl<K: Hash + Eq, V, S: BuildHasher> OrderedMap<K, V, S> {
         self.keys.get_index_of(key).map(|place| &mut self.values[place])
     }
 
-    /// The place of a key.
+    /// Returns the index of a key.
     pub fn get_index_of<Q: Hash + Eq + ?Sized>(&self, key: &Q) -> Option<usize>
     where
         K: Borrow<Q>,
@@ -340,12 +342,13 @@ impl<K: Hash + Eq, V, S: BuildHasher> OrderedMap<K, V, S> {
         self.keys.get_index_of(key)
     }
 
-    /// The value at a place, to write.
+    /// Returns a mutable reference to the value at an index.
     pub fn get_index_mut(&mut self, place: usize) -> Option<&mut V> {
         self.values.get_mut(place)
     }
 
-    /// Puts a value under a key: last, or in the place of what an equal key has, which comes back.
+    /// Inserts a value under a key, as the last one. If an equal key is present, replaces its value and returns the old
+    /// one.
     pub fn insert(&mut self, key: K, value: V) -> Option<V> {
         match self.keys.insert_full(key) {
             (_, true) => {
@@ -356,7 +359,7 @@ impl<K: Hash + Eq, V, S: BuildHasher> OrderedMap<K, V, S> {
         }
     }
 
-    /// Takes a key out with its value, and those behind it move up.
+    /// Removes a key, and returns its value. The later keys move up.
     pub fn shift_remove<Q: Hash + Eq + ?Sized>(&mut self, key: &Q) -> Option<V>
     where
         K: Borrow<Q>,
@@ -366,7 +369,7 @@ impl<K: Hash + Eq, V, S: BuildHasher> OrderedMap<K, V, S> {
         Some(self.values.remove(place))
     }
 
-    /// Puts all pairs of another map in, and leaves that one empty.
+    /// Inserts all pairs of another map, and empties that map.
     pub fn append(&mut self, other: &mut Self) {
         let keys = mem::take(&mut other.keys.keys);
         other.keys.clear();
@@ -376,7 +379,7 @@ impl<K: Hash + Eq, V, S: BuildHasher> OrderedMap<K, V, S> {
     }
 }
 
-/// The pairs of a map, in their order.
+/// An iterator over the pairs of a map, in order.
 pub type Pairs<'a, K, V> = std::iter::Zip<slice::Iter<'a, K>, slice::Iter<'a, V>>;
 
 impl<K, V, S> IntoIterator for OrderedMap<K, V, S> {

@@ -1,9 +1,9 @@
-//! Lists of drawn calls on a map and on a set, each beside a plain vector.
+//! Random sequences of calls on a map and a set, each compared with a plain vector.
 use super::ordered_map::{OrderedMap, OrderedSet};
 use std::fmt::Debug;
 use std::hash::{BuildHasher, BuildHasherDefault, Hasher, RandomState};
 
-/// Hashes each number to one of few: most keys collide.
+/// A hasher with few results: most keys collide.
 #[derive(Clone, Copy, Default)]
 struct Few(u64);
 
@@ -19,7 +19,7 @@ impl Hasher for Few {
     }
 }
 
-/// Numbers that look drawn.
+/// A generator of pseudorandom numbers.
 struct Drawn(u64);
 
 impl Drawn {

@@ -1,11 +1,11 @@
-//! What a merge renamed, lent as pairs.
+//! The renamed ids of a merge, as an iterator over pairs.
 use crate::ast::PolicyID;
 use crate::cedar_keyed_hash::KeyedState;
 use crate::ordered_map::{OrderedMap, Pairs};
 use std::hash::BuildHasher;
 use std::vec;
 
-/// The ids that a merge renamed, each with its new one, in the order in which they were given.
+/// The ids that a merge renamed, each with its new id, in the insertion order of the other set.
 ///
 /// ```
 /// use cedar_store::Renaming;
@@ -32,29 +32,29 @@ impl<S> Renaming<S> {
         Renaming { ids }
     }
 
-    /// How many ids were renamed.
+    /// Returns the number of renamed ids.
     pub fn len(&self) -> usize {
         self.ids.len()
     }
 
-    /// Whether none was renamed.
+    /// Returns whether no id was renamed.
     pub fn is_empty(&self) -> bool {
         self.ids.is_empty()
     }
 
-    /// Each id that was renamed with its new one, in order.
+    /// Iterates over the pairs of an old and a new id, in order.
     pub fn iter(&self) -> impl ExactSizeIterator<Item = (&PolicyID, &PolicyID)> {
         self.ids.iter()
     }
 
-    /// The ids that were renamed, in order.
+    /// Iterates over the old ids, in order.
     pub fn keys(&self) -> impl ExactSizeIterator<Item = &PolicyID> {
         self.iter().map(|(id, _)| id)
     }
 }
 
 impl<S: BuildHasher> Renaming<S> {
-    /// The new id of one that was renamed.
+    /// Returns the new id of a renamed id.
     pub fn get(&self, id: &PolicyID) -> Option<&PolicyID> {
         self.ids.get(id)
     }

@@ -1,18 +1,18 @@
-//! Sets of uids that are made in several ways, each beside the places of the uids that it is to have, and what numbers
-//! reach, as it is written.
+//! Tests of sets of uids, which are created in several ways and compared with the expected indexes of uids. Also a test
+//! of the `Debug` output of `Reached`.
 use crate::cedar_components::Reached;
 use crate::cedar_ids::EntityUID;
 use crate::cedar_uid_sets::{SharedUid, UidSet};
 use std::collections::{BTreeSet, HashMap, HashSet};
 
-/// Uids with the eids from a thousand on, in their order.
+/// Returns uids with the eids from 1,000 on, in order.
 fn numbered(count: usize) -> Vec<EntityUID> {
     let uid = |number: usize| EntityUID::with_eid_and_type("A", &number.to_string()).unwrap();
     (1_000..1_000 + count).map(uid).collect()
 }
 
-/// Types and eids that are short, long or alike at the front, in the order of the uids: by the last name of the type,
-/// then by its path, then by the eid.
+/// Types and eids that are short, long or have a common prefix. They are in the order of uids: by the last identifier
+/// of the type, then by its path, then by the eid.
 const FRONTS: [&str; 20] = [
     r#"A::"""#,
     r#"A::"a""#,
@@ -42,7 +42,7 @@ fn fronts() -> Vec<EntityUID> {
         .to_vec()
 }
 
-/// Uids of which four each begin with the same eight bytes.
+/// Returns uids in groups of four that begin with the same eight bytes.
 fn alike(count: usize) -> Vec<EntityUID> {
     let mut uids: Vec<_> = (10_000_000..10_000_000 + count)
         .flat_map(|number| {
@@ -61,7 +61,7 @@ fn shared(uids: &[EntityUID], places: impl IntoIterator<Item = usize>) -> Vec<Sh
         .collect()
 }
 
-/// So many places from a start on by a step, turned at the end.
+/// Returns `end` indexes: from `start` in steps of `step`, modulo `end`.
 fn turned(start: usize, end: usize, step: usize) -> impl Iterator<Item = usize> {
     (0..end).map(move |n| (start + n * step) % end)
 }
@@ -74,8 +74,8 @@ fn filled(uids: &[EntityUID], places: impl IntoIterator<Item = usize>) -> UidSet
     set
 }
 
-/// The set has the uids of these places, in order, and finds these alone; so does what is made of its pointers, and once
-/// each is taken out it is empty.
+/// Asserts that the set contains exactly the uids with these indexes, in order. Asserts the same for a set of its
+/// pointers, and that the set is empty after each uid is removed.
 fn has(set: UidSet, uids: &[EntityUID], places: impl IntoIterator<Item = usize>) {
     let due: BTreeSet<usize> = places.into_iter().collect();
     assert!(set.iter().eq(due.iter().map(|place| &uids[*place])));
@@ -181,7 +181,7 @@ fn sets_lose_and_take_in_others() {
     assert_eq!(set, copy);
 }
 
-/// Uids of two sets are walked in order, and each is found in them, in either order, and no other.
+/// The union of two sets is in order, and a lookup in either set finds exactly their uids.
 #[test]
 fn two_sets_are_walked_and_looked_through() {
     let joined = |uids: &[EntityUID], first: &[usize], second: &[usize]| {

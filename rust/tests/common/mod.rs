@@ -1,21 +1,21 @@
-//! What the tests make things with: uids, entities, ids and bindings by short words, and drawn numbers.
-#![allow(dead_code, reason = "each file of tests takes what it needs")]
+//! Helpers that create uids, entities, ids and bindings from short texts, and pseudorandom numbers.
+#![allow(dead_code, reason = "each test file uses some of the helpers")]
 
 use cedar_store::ast::{Entity, EntityUID, PolicyID, SlotEnv, SlotId};
 use std::collections::HashMap;
 use std::sync::Arc;
 
-/// The uid that a text is printed for.
+/// Parses a uid.
 pub fn uid(text: &str) -> EntityUID {
-    EntityUID::from_normalized_str(text).expect("a printed uid")
+    EntityUID::from_normalized_str(text).expect("a valid uid")
 }
 
-/// The uid of the tests' own type with this eid.
+/// Returns the uid with this eid, of the type that the tests use.
 pub fn with_eid(eid: &str) -> EntityUID {
-    EntityUID::with_eid_and_type("test_entity_type", eid).expect("a type's name")
+    EntityUID::with_eid_and_type("test_entity_type", eid).expect("a valid entity type")
 }
 
-/// The entity with this eid and these parents.
+/// Returns an entity with this eid and these parents.
 pub fn child(eid: &str, parents: &[&str]) -> Entity {
     let mut entity = Entity::with_uid(with_eid(eid));
     for parent in parents {
@@ -24,7 +24,7 @@ pub fn child(eid: &str, parents: &[&str]) -> Entity {
     entity
 }
 
-/// Entities under their uids: the eid of each and those of its parents.
+/// Returns entities under their uids. Each has an eid and the eids of its parents.
 pub fn graph(rows: &[(&str, &[&str])]) -> HashMap<EntityUID, Entity> {
     rows.iter()
         .map(|(eid, parents)| (with_eid(eid), child(eid, parents)))
@@ -35,12 +35,12 @@ pub fn id(text: &str) -> PolicyID {
     PolicyID::from_string(text)
 }
 
-/// What binds the principal alone.
+/// Returns bindings of only the principal's slot.
 pub fn principal(uid: EntityUID) -> SlotEnv {
     SlotEnv::from([(SlotId::principal(), uid)])
 }
 
-/// What binds the resource alone.
+/// Returns bindings of only the resource's slot.
 pub fn resource(uid: EntityUID) -> SlotEnv {
     SlotEnv::from([(SlotId::resource(), uid)])
 }
@@ -49,7 +49,7 @@ pub fn shared<T>(thing: T) -> Arc<T> {
     Arc::new(thing)
 }
 
-/// Numbers that are drawn: each of them the same for a seed.
+/// A generator of pseudorandom numbers. The same seed always gives the same numbers.
 pub struct Drawn(u64);
 
 impl Drawn {
@@ -64,17 +64,17 @@ impl Drawn {
         self.0.wrapping_mul(0x2545_F491_4F6C_DD1D)
     }
 
-    /// A number below another.
+    /// Returns a number below `limit`.
     pub fn below(&mut self, limit: usize) -> usize {
         usize::try_from(self.number() >> 33).expect("31 bits") % limit
     }
 
-    /// One of some.
+    /// Returns an item of a list.
     pub fn one_of<'a, T>(&mut self, all: &'a [T]) -> &'a T {
         &all[self.below(all.len())]
     }
 
-    /// True once in so many times.
+    /// Returns true once in `times` calls on average.
     pub fn once_in(&mut self, times: usize) -> bool {
         self.below(times) == 0
     }

@@ -1,8 +1,8 @@
-//! A node with numbers for keys, which is told of nothing but its edges.
+//! A node with numbers as keys. It ignores all notifications except new edges.
 use cedar_store::transitive_closure::TCNode;
 use std::collections::BTreeSet;
 
-/// The node with this number, and the numbers that it has an edge to.
+/// A node with its number, and the numbers to which it has an edge.
 pub struct Numbered(pub u32, pub BTreeSet<u32>);
 
 impl TCNode<u32> for Numbered {

@@ -1,12 +1,12 @@
-//! Static policies and templates by short words.
-#![allow(dead_code, reason = "each file of tests takes what it needs")]
+//! Helpers that create static policies and templates.
+#![allow(dead_code, reason = "each test file uses some of the helpers")]
 
 use cedar_store::ast::{
     ActionConstraint, Annotations, Effect, Expr, PolicyID, PrincipalConstraint, ResourceConstraint, StaticPolicy,
     Template,
 };
 
-/// A permit of everything, with a clause.
+/// Returns a static policy that permits everything, with a clause.
 pub fn permit(name: &str, clause: Option<Expr>) -> StaticPolicy {
     StaticPolicy::new(
         PolicyID::from_string(name),
@@ -21,7 +21,7 @@ pub fn permit(name: &str, clause: Option<Expr>) -> StaticPolicy {
     .expect("a clause without slots")
 }
 
-/// A template with these constraints and no clause.
+/// Returns a template with these constraints and no clause.
 pub fn template(name: &str, effect: Effect, principal: PrincipalConstraint, resource: ResourceConstraint) -> Template {
     Template::new(
         PolicyID::from_string(name),
@@ -35,7 +35,7 @@ pub fn template(name: &str, effect: Effect, principal: PrincipalConstraint, reso
     )
 }
 
-/// A template whose principal is a slot.
+/// Returns a template with the principal's slot.
 pub fn principal_template(name: &str) -> Template {
     template(
         name,
@@ -45,7 +45,7 @@ pub fn principal_template(name: &str) -> Template {
     )
 }
 
-/// A template whose resource is a slot.
+/// Returns a template with the resource's slot.
 pub fn resource_template(name: &str) -> Template {
     template(
         name,
