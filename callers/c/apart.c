@@ -1,21 +1,22 @@
-/* Copies, slices and merges that share nothing with their source. Each request for memory is noted with the time it was made in,
- * so that of a source that was freed it is told whether something is still there: only what is shared is. Then threads
- * use what is apart, all at a time. Prints what fails, and ends with `N passed, M failed`. Built with
- * `-pthread -Wl,--wrap=malloc -Wl,--wrap=realloc -Wl,--wrap=calloc -Wl,--wrap=posix_memalign -Wl,--wrap=free`. */
+/* Tests of deep copies, deep slices and deep merges, which share nothing with their source. The allocation functions
+ * are wrapped to record each block with the phase of its allocation. After a source is freed, a block of its phase
+ * that is left must be shared with a copy. Then several threads use deep copies at the same time. Prints each
+ * failure, and ends with `N passed, M failed`. Build it with `-pthread -Wl,--wrap=malloc -Wl,--wrap=realloc
+ * -Wl,--wrap=calloc -Wl,--wrap=posix_memalign -Wl,--wrap=free`. */
 #include "bodies.h"
 #include <pthread.h>
 
-/* ---- the note of what was requested and not freed */
+/* ---- the record of the blocks that are not freed */
 
 #define PLACES 65536
 
 static struct {
     void *at;
     int time;
-} noted[PLACES]; /* by address: what was freed stays as a hole */
+} noted[PLACES]; /* a hash table by address; a freed block leaves a hole */
 
 static int hole;
-static int now; /* 0: nothing is noted */
+static int now; /* the current phase; 0: nothing is recorded */
 
 void *__real_malloc(size_t size);
 void *__real_realloc(void *at, size_t size);
@@ -77,22 +78,22 @@ void __wrap_free(void *at) {
     __real_free(at);
 }
 
-/* How many requests of a time are not freed. */
+/* Returns the number of blocks of a phase that are not freed. */
 static size_t left_of(int time) {
     size_t count = 0;
     for (size_t k = 0; k < PLACES; k++) count += noted[k].at && noted[k].at != &hole && noted[k].time == time;
     return count;
 }
 
-/* From here on requests are noted, and those of before are forgotten. */
+/* Empties the record and starts phase 1. */
 static void begin(void) {
     memset(noted, 0, sizeof noted);
     now = 1;
 }
 
-/* ---- a store with all that a store may hold */
+/* ---- a store with every kind of content */
 
-/* A uid with a path before its type, and with characters past ASCII in its eid. */
+/* A uid with a namespace, and with non-ASCII characters in its eid. */
 #define PAST "N::s::T::\"\\u{301}\xc3\xa9\\\"\""
 
 static uint32_t add_past(cedar_store *s) {
@@ -119,7 +120,7 @@ static uint32_t build_whole(cedar_store *s) {
     return status ? status : add_past(s);
 }
 
-/* Whether it holds all that, an entity's parents and further ancestors apart. */
+/* Returns whether the store has all content of `build_whole`. Ancestors are checked only of some entities. */
 static bool is_whole(cedar_store *s) {
     return cedar_store_len(s) == 5 && IS(value_at(s, U("a"), 0, "k"), "'x '10.0.0.1 ip(1 'y 'z @b {2 [2") &&
            IS(value_at(s, U("a"), 1, "k"), "'User ~u:1 $0 = @c ^User & *") && attributes(s, U("a")) == 2 &&
@@ -130,7 +131,7 @@ static bool is_whole(cedar_store *s) {
            is_far_below(s, PAST, "N::s::T::\"far\"") == 1 && is_far_below(s, PAST, U("c")) == 1;
 }
 
-/* What a source was made of is all freed with it, where what was made of it is apart, and else is not. */
+/* Checks that freeing a source frees all its blocks if the copy is deep, and leaves some if the copy is shallow. */
 static void stores_share_nothing(void) {
     cedar_store s = {0}, t = {0}, u = {0};
     begin();
@@ -173,7 +174,7 @@ static void stores_share_nothing(void) {
     now = 0;
 }
 
-/* Statuses, and what a refused call leaves. */
+/* Checks the statuses, and what a failed call leaves unchanged. */
 static void stores_refuse(void) {
     cedar_store s = {0}, t = {0};
     const uint8_t *text = bytes("A::b");
@@ -193,9 +194,9 @@ static void stores_refuse(void) {
     cedar_store_free(&t);
 }
 
-/* ---- a policy set with all that one may hold */
+/* ---- a policy set with every kind of content */
 
-/* Orders in which bodies and policies stand otherwise: links stand before and behind static policies. */
+/* Builds a set in which links come both before and after static policies. */
 static uint32_t fill_whole(cedar_policies *p) {
     given whole = given_whole(), slots = given_nothing();
     slots.body.principal = put_scope(&slots, 7, "", "N::User");
@@ -251,7 +252,7 @@ static void sets_share_nothing(void) {
     CHECK(left_of(3) == 0);
 }
 
-/* What joins by a merge is freed with its source, where that merge is apart, and else is not. */
+/* Checks that freeing the source of a merge frees all its blocks if the merge is deep, and leaves some if it is not. */
 static void merges_share_nothing(void) {
     cedar_policies p = {0}, q = {0}, r = {0};
     for (int apart = 0; apart < 2; apart++) {
@@ -290,7 +291,7 @@ static void sets_refuse(void) {
     cedar_policies_free(&q);
 }
 
-/* ---- threads, each with a handle of its own that it was given apart */
+/* ---- threads, each with deep copies of its own */
 
 #define THREADS 4
 #define ROUNDS 50
@@ -301,7 +302,7 @@ typedef struct task {
     unsigned wrong;
 } task;
 
-/* Copies, asks, changes and frees what is of this thread. */
+/* Copies, queries and changes the handles of this thread. */
 static void use(cedar_store *s, unsigned *wrong) {
     for (int k = 0; k < ROUNDS; k++) {
         cedar_store copy = {0}, part = {0}, apart = {0};

@@ -1,8 +1,8 @@
-/* Gives policies and templates with annotations, constraints and clauses, and reads what joined: worked bodies, each
- * kind of a constraint, and each status of the calls. Prints what fails, and ends with `N passed, M failed`. */
+/* Tests of policies and templates with annotations, constraints and clauses: examples, each kind of constraint, and
+ * each status of the calls. Prints each failure, and ends with `N passed, M failed`. */
 #include "bodies.h"
 
-/* ---- what joins */
+/* ---- policies that are added */
 
 #define WHOLE                                                                                                          \
     "@if(\"\")\n@why(\"thus\")\nforbid(\n  principal is A in A::\"group\",\n"                                          \
@@ -25,7 +25,8 @@ static void whole_bodies(void) {
     cedar_policies_free(&p);
 }
 
-/* The answer of the handle stays, and what is given is the caller's again. */
+/* Checks that adding a policy keeps the last result of the handle, and that the arguments may be overwritten
+ * afterwards. */
 static void what_stays(void) {
     cedar_policies p = {0};
     given g = given_whole();
@@ -42,7 +43,7 @@ static void what_stays(void) {
     cedar_policies_free(&p);
 }
 
-/* The same policy, by the call without a body and by that with one. */
+/* Checks that a policy is the same if it is added by the call without a body and by the call with one. */
 static void bodies_alike(void) {
     cedar_policies p = {0}, q = {0};
     given g = given_nothing();
@@ -61,17 +62,17 @@ static void bodies_alike(void) {
 
 /* ---- constraints */
 
-/* How each kind of a constraint is told; a principal's, and an action's. */
+/* How `cedar_policies_scope` encodes each kind of constraint: of a principal, and of an action. */
 static const char *const TOLD[] = {"0", "1,A::\"a\"", "2", "3,A::\"a\"", "4", "5,B::C", "6,B::C,A::\"a\"", "7,B::C"};
 static const char *const TOLD_ACTIONS[] = {"0", "1,A::\"a\"", "2", "3,A::\"x\",A::\"y\"", "4"};
 
-/* How it is written, behind the name of its variable. */
+/* The text of each kind of constraint, after the name of the variable. */
 static const char *const KINDS[] = {"",         " == A::\"a\"",          " == ?", " in A::\"a\"",
                                     " in ?",    " is B::C",              " is B::C in A::\"a\"",
                                     " is B::C in ?"};
 static const char *const ACTIONS[] = {"", " == A::\"a\"", " == ?action", " in [A::\"x\",A::\"y\"]", " in ?action"};
 
-/* The text of a body that constrains so, and nothing else. */
+/* Returns the text of a body with these constraints and nothing else. */
 static const char *constrained(const char *principal, const char *action, const char *resource) {
     static char out[ROOM];
     bool one = *principal && principal[strlen(principal) - 1] == '?';
@@ -127,7 +128,7 @@ static void kinds_of_constraints(void) {
 
 /* ---- clauses */
 
-/* A clause, and how it is written; a number where a static policy with it is refused so. */
+/* A clause, and its text; or the status with which a static policy with it fails. */
 static const char *const CLAUSES[][2] = {
     {"t", "true"},
     {"f !", "!false"},
@@ -183,9 +184,9 @@ static void too_deep(void) {
     cedar_policies_free(&p);
 }
 
-/* ---- what is read wrong */
+/* ---- invalid arguments */
 
-/* The status of both calls, which leave the set and the text of the last refusal. */
+/* Returns the status of both calls. Checks that they leave the set and the text of the last error unchanged. */
 static uint32_t both(cedar_policies *p, const char *id, const given *g) {
     uint32_t status = join_static(p, id, g);
     CHECK(join_template(p, id, g) == status && IS(policies_refusal(p), "occupied a"));
@@ -239,7 +240,8 @@ static void read_wrong(void) {
     cedar_policies_free(&p);
 }
 
-/* Where a kind has no uid and no type, and where an action is in no list, these parts are not looked at. */
+/* Checks that unused fields are not read: uid and type where the kind has none, and uids where the action needs no
+ * list. */
 static void not_looked_at(void) {
     const cedar_span out = {1, 2000};
     cedar_policies p = {0};
@@ -257,7 +259,7 @@ static void not_looked_at(void) {
     cedar_policies_free(&p);
 }
 
-/* ---- reading */
+/* ---- reads */
 
 static void reading(void) {
     const char *whole = "$0 ^A $0 @group < & $1 @q @p {2 < $2 @file = $0 @b = & & &";
@@ -292,7 +294,7 @@ static void reading(void) {
     cedar_policies_free(&p);
 }
 
-/* A clause and a condition that are read join another policy as they were. */
+/* Checks that a clause and a condition that were read can be added in another policy, unchanged. */
 static void clauses_go_round(void) {
     cedar_policies p = {0};
     given g = given_whole();

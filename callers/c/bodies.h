@@ -1,9 +1,9 @@
-/* Bodies of policies and templates as a caller lays them out, for the tests in C. */
+/* Encoded bodies of policies and templates, for the tests in C. */
 #ifndef CEDAR_BODIES_H
 #define CEDAR_BODIES_H
 #include "nodes.h"
 
-/* A body, with its lists: the uids of an action and the nodes of a clause are those of `c`. */
+/* A body with its lists. `c` has the uids of the action and the nodes of the clause. */
 typedef struct given {
     content c;
     cedar_body body;
@@ -15,7 +15,7 @@ typedef struct given {
     (g).c.l.text, (g).c.l.text_len, &(g).body, (g).annotations, (g).annotations_len, (g).c.l.uids, (g).c.l.uids_len,   \
         (g).c.nodes, (g).c.nodes_len
 
-/* A policy that permits all. */
+/* Returns the body of a policy that permits everything. */
 static inline given given_nothing(void) {
     given g;
     memset(&g, 0, sizeof g);
@@ -35,7 +35,7 @@ static inline void put_annotation(given *g, const char *key, const char *value) 
     g->annotations[g->annotations_len++] = (cedar_annotation){at, put_part(g, value)};
 }
 
-/* A body with all that it can have: annotations, of which two have one key, three constraints and a clause. */
+/* Returns a body with every kind of content: annotations (two with the same key), three constraints and a clause. */
 static inline given given_whole(void) {
     given g = given_nothing();
     g.body.effect = 1;
@@ -51,7 +51,7 @@ static inline given given_whole(void) {
     return g;
 }
 
-/* ---- calls in short */
+/* ---- short forms of the calls */
 
 static inline uint32_t join_static(cedar_policies *p, const char *id, const given *g) {
     return cedar_policies_add_static_with(p, TEXT(id), LISTS(*g));
@@ -61,7 +61,7 @@ static inline uint32_t join_template(cedar_policies *p, const char *id, const gi
     return cedar_policies_add_template_with(p, TEXT(id), LISTS(*g));
 }
 
-/* The text of a template or of a static policy, or its status. */
+/* Returns the text of a template or of a static policy, or the status. */
 static inline const char *body_text(cedar_policies *p, const char *id) {
     static char status_text[16];
     uint32_t status = cedar_policies_template_text(p, TEXT(id));
@@ -69,8 +69,8 @@ static inline const char *body_text(cedar_policies *p, const char *id) {
     return status ? status_text : policies_answer(p) + 1;
 }
 
-/* The kind of what the principal, for 0, the action, for 1, or the resource, for 2, has to be, and its texts, each
- * behind a comma; or the status. */
+/* Returns a constraint of the principal (0), the action (1) or the resource (2): its kind and its texts, with a
+ * comma before each text; or the status. */
 static inline const char *scoped(cedar_policies *p, const char *id, uint32_t which) {
     static char out[ROOM + 16];
     uint32_t kind = 9;
@@ -83,7 +83,7 @@ static inline const char *scoped(cedar_policies *p, const char *id, uint32_t whi
     return out;
 }
 
-/* The nodes of the last expression, over the last answer, as words. */
+/* Returns the nodes of the last expression as words. */
 static inline const char *set_expr(cedar_policies *p) {
     static char out[ROOM];
     uint8_t text[ROOM];
@@ -95,7 +95,7 @@ static inline const char *set_expr(cedar_policies *p) {
     return out;
 }
 
-/* The clause as words, `none`, or the status. */
+/* Returns the clause as words, `none` if there is none, or the status. */
 static inline const char *clause_of(cedar_policies *p, const char *id) {
     static char status_text[16];
     bool has = false;

@@ -1,6 +1,7 @@
-/* Calls each function of the library: worked cases, each status, what is refused, and handles that are closed or freed
- * twice. Prints what fails, and ends with `N passed, M failed`. */
+/* Calls each function of the library: worked cases, each status, invalid input, and handles that are closed or freed
+ * twice. Prints each failed check, and ends with `N passed, M failed`. */
 #include "short.h"
+#include <malloc.h>
 
 /* ---- the program, and uids */
 
@@ -35,7 +36,7 @@ static void uid_texts(void) {
     CHECK(cedar_uid_check(TEXT("A::\"\xff\"")) == CEDAR_NOT_A_UID);
 }
 
-/* The place of the first part of a list that is no uid's, and the status behind it. */
+/* Returns the position of the first part of a list that is not the text of a uid, and the status after it. */
 static const char *unread(const char *text, const cedar_span *uids, size_t uids_len) {
     static char out[32];
     size_t place = 99;
@@ -56,7 +57,7 @@ static void uid_lists(void) {
     CHECK(IS(unread(text, uids, 3), "4 at 1"));
 }
 
-/* What a refusal's text names, each in brackets. */
+/* Returns the names in the text of an error, each in brackets. */
 static const char *named(uint32_t status, const char *text) {
     static char out[160];
     cedar_span part;
@@ -87,7 +88,7 @@ static void names_in_texts(void) {
     CHECK(IS(named(CEDAR_OCCUPIED, "occ"), "") && IS(named(CEDAR_ARITY, ""), "") && IS(named(CEDAR_CYCLE, "cycle at"), ""));
 }
 
-/* What a call wrote, and how much there is in all: the length behind the text, or 100 and the status. */
+/* Returns what a call wrote and the length of the whole result after the text, or 100 and the status. */
 static const char *made(const char *type, const char *id, size_t room) {
     static char out[96];
     uint8_t text[64];
@@ -196,7 +197,7 @@ static void building(void) {
     CHECK(descends(&s, U("a"), U("a")) == 0 && descends(&s, U("b"), U("a")) == 0 && descends(&s, U("x"), U("a")) == 0);
     CHECK(descends(&s, U("d"), U("e")) == 100 + CEDAR_NO_ENTITY);
     CHECK(descends(&s, "A::a", U("e")) == 100 + CEDAR_NOT_A_UID && descends(&s, U("a"), "e") == 100 + CEDAR_NOT_A_UID);
-    /* an entity that comes twice with the same parents is one; parents that come twice, in any order, are a set */
+    /* an entity that occurs twice with the same parents counts once; repeated parents, in any order, are a set */
     CHECK(build(&s, "a cbc;a bc", CEDAR_COMPUTE) == CEDAR_OK && cedar_store_len(&s) == 1);
     CHECK(parents(&s, U("a")) == CEDAR_OK && IS(store_answer(&s), "," U("b") "," U("c")));
     CHECK(build(&s, "", CEDAR_COMPUTE) == CEDAR_OK && cedar_store_len(&s) == 0);
@@ -239,7 +240,7 @@ static void copying_out(void) {
     cedar_store_free(&s);
 }
 
-/* What lists nothing leaves the last answer, and what is not refused the last refusal. */
+/* Checks that calls without an answer keep the last answer, and calls without an error keep the last error. */
 static void texts_stay(void) {
     const char *above = "," U("b") "," U("c"), *words = "duplicate entity " U("a");
     cedar_store s = {0}, t = {0};
@@ -260,10 +261,10 @@ static void texts_stay(void) {
     cedar_store_free(&t);
 }
 
-/* A store with q alone. */
+/* Creates a store with only q. */
 static void only_q(cedar_store *s) { CHECK(new_store(s) == CEDAR_OK && build(s, "q", CEDAR_COMPUTE) == CEDAR_OK); }
 
-/* What is not read leaves the store as it was. */
+/* Checks that input that cannot be read leaves the store as it was. */
 static void still_q(cedar_store *s) {
     CHECK(cedar_store_len(s) == 1 && has(s, U("q")) == 1);
     cedar_store_free(s);
@@ -280,7 +281,7 @@ static void numbers_out_of_range(void) {
     l.count = SIZE_MAX;
     CHECK(cedar_store_add(&s, ENTITIES(l), 0) == CEDAR_BAD_ARGUMENT);
     l.count = 1;
-    l.edges[0].from = 1; /* b is no entity */
+    l.edges[0].from = 1; /* b is not an entity */
     CHECK(cedar_store_add(&s, ENTITIES(l), 0) == CEDAR_BAD_ARGUMENT);
     l.edges[0] = (cedar_edge){0, 2};
     CHECK(cedar_store_add(&s, ENTITIES(l), 0) == CEDAR_BAD_ARGUMENT);
@@ -317,7 +318,7 @@ static void parts_that_are_no_uids(void) {
     CHECK(cedar_store_upsert(&s, ENTITIES(l), 0) == CEDAR_NOT_A_UID);
     CHECK(cedar_store_remove(&s, LISTED(l), 0) == CEDAR_NOT_A_UID);
     CHECK(cedar_store_slice(&s, &t, LISTED(l)) == CEDAR_NOT_A_UID && !t.is_open);
-    l.uids[1].end = 6; /* an empty part, at the end of another */
+    l.uids[1].end = 6; /* an empty part at the end of another part */
     CHECK(cedar_store_remove(&s, LISTED(l), 0) == CEDAR_NOT_A_UID);
     still_q(&s);
     /* parts may overlap: one part is an entity and its parent */
@@ -367,15 +368,15 @@ static void modes(void) {
     CHECK(IS(store_refusal(&s), want));
     CHECK(build(&s, "a bc;b c", CEDAR_ENFORCE) == CEDAR_OK && cedar_store_len(&s) == 2);
     CHECK(cedar_store_validate(&s) == CEDAR_OK);
-    /* taken as they are: no ancestor is computed, and validating says so without taking the store */
+    /* ancestors are kept as given: none is computed, and validating reports that without changing the store */
     CHECK(build(&s, "a b;b c", CEDAR_ASSUME) == CEDAR_OK && descends(&s, U("a"), U("c")) == 0);
     CHECK(cedar_store_validate(&s) == CEDAR_NOT_CLOSED && cedar_store_len(&s) == 2);
     CHECK(IS(store_refusal(&s), want));
-    /* a removal from such a store: what it touches is repaired, and then the whole is checked */
+    /* a removal from such a store repairs the affected entities and then checks the whole store */
     CHECK(build(&s, "a b;b c;c d;x y", CEDAR_ASSUME) == CEDAR_OK);
     CHECK(removed(&s, "x", CEDAR_ENFORCE) == CEDAR_NOT_CLOSED && cedar_store_len(&s) == 4);
     CHECK(descends(&s, U("a"), U("b")) == 1 && descends(&s, U("a"), U("c")) == 0 && has(&s, U("x")) == 1);
-    /* an upsert over a closed store that computes nothing */
+    /* an upsert into a closed store, without computing ancestors */
     CHECK(build(&s, "a b;b c;c", CEDAR_COMPUTE) == CEDAR_OK && upsert(&s, "b c", CEDAR_ASSUME) == CEDAR_OK);
     CHECK(ancestors(&s, U("a")) == CEDAR_OK && IS(store_answer(&s), "," U("b")));
     CHECK(upsert(&s, "b d", CEDAR_ENFORCE) == CEDAR_NOT_CLOSED && cedar_store_len(&s) == 3);
@@ -405,7 +406,7 @@ static void edits(void) {
     CHECK(add(&s, "c x;x a", CEDAR_COMPUTE) == CEDAR_CYCLE && cedar_store_len(&s) == 2); /* c is above a already */
     CHECK(add(&s, "b c;a bc;x a", CEDAR_COMPUTE) == CEDAR_OK);
     CHECK(cedar_store_len(&s) == 3 && descends(&s, U("x"), U("c")) == 1);
-    CHECK(parents(&s, U("a")) == CEDAR_OK && IS(store_answer(&s), "," U("b"))); /* the one that stood stays */
+    CHECK(parents(&s, U("a")) == CEDAR_OK && IS(store_answer(&s), "," U("b"))); /* the stored one stays */
     CHECK(upsert(&s, "b e;b f", CEDAR_COMPUTE) == CEDAR_OK && cedar_store_len(&s) == 3);
     CHECK(ancestors(&s, U("x")) == CEDAR_OK && IS(store_answer(&s), "," U("a") "," U("b") "," U("f")));
     CHECK(upsert(&s, "g x", CEDAR_COMPUTE) == CEDAR_OK && cedar_store_len(&s) == 4);
@@ -419,7 +420,7 @@ static void edits(void) {
     cedar_store_free(&s);
 }
 
-/* What was asked is told again, and anew after each call that changes the store. */
+/* Repeats queries: each result stays the same until a call changes the store, and is then computed again. */
 static void asked_again(void) {
     cedar_store s = {0}, copy = {0};
     CHECK(new_store(&s) == CEDAR_OK && build(&s, "a b;b c;c", CEDAR_COMPUTE) == CEDAR_OK);
@@ -441,6 +442,26 @@ static void asked_again(void) {
     cedar_store_free(&copy);
 }
 
+/* Queries 40 MB of uids, of which the handle caches 4 MiB. */
+static void asked_more_than_is_cached(void) {
+    cedar_store s = {0};
+    static char uid[1001] = "A::\"";
+    CHECK(new_store(&s) == CEDAR_OK && build(&s, "a b", CEDAR_COMPUTE) == CEDAR_OK);
+    memset(uid + 4, 'x', sizeof uid - 6);
+    uid[sizeof uid - 2] = '"';
+    size_t before = mallinfo2().uordblks;
+    for (int k = 0; k < 40000; k++) {
+        for (int i = 0, left = k; i < 6; i++, left /= 10) uid[4 + i] = (char)('0' + left % 10);
+        if (descends(&s, U("a"), uid) != 0 || (k % 1000 == 0 && descends(&s, U("a"), U("b")) != 1)) {
+            CHECK(false);
+            break;
+        }
+    }
+    CHECK(mallinfo2().uordblks < before + (16u << 20));
+    CHECK(descends(&s, U("a"), U("b")) == 1 && descends(&s, U("b"), U("a")) == 100 + CEDAR_NO_ENTITY);
+    cedar_store_free(&s);
+}
+
 static void copies_and_slices(void) {
     cedar_store s = {0}, t = {0};
     CHECK(new_store(&s) == CEDAR_OK && build(&s, "a b;b c;c;x c", CEDAR_COMPUTE) == CEDAR_OK);
@@ -453,7 +474,7 @@ static void copies_and_slices(void) {
     CHECK(has(&t, U("b")) == 1 && has(&t, U("c")) == 1 && has(&t, U("x")) == 0);
     CHECK(sliced(&s, &t, "") == CEDAR_OK && cedar_store_len(&t) == 0);
     CHECK(sliced(&s, &t, "ax") == CEDAR_OK && equal(&s, &t) == 1);
-    /* which ancestors are parents is not looked at, nor by what key a store hashes */
+    /* which ancestors are parents is not compared; neither is the key of a store */
     CHECK(cedar_store_new(&t, 0, 0) == CEDAR_OK && build(&t, "a bc;b c;c;x c", CEDAR_ENFORCE) == CEDAR_OK);
     CHECK(equal(&s, &t) == 1);
     /* a handle may be moved */
@@ -465,7 +486,7 @@ static void copies_and_slices(void) {
     cedar_store_free(&t);
 }
 
-/* Whether the answer is the uids of these names, in any order. */
+/* Returns whether the answer is the uids of these names, in any order. */
 static bool answers_each(cedar_store *s, const char *names) {
     const char *answer = store_answer(s);
     char text[16];
@@ -640,7 +661,8 @@ static void set_arguments(void) {
     cedar_policies_free(&p);
 }
 
-/* A set with a static s, a template t of the principal and the resource, one u of the action, and a link l of t. */
+/* Creates a set with a static policy s, a template t with the slots of principal and resource, a template u with the
+ * slot of the action, and a link l of t. */
 static void some_policies(cedar_policies *p) {
     CHECK(new_set(p) == CEDAR_OK && add_static(p, "s", 0) == CEDAR_OK);
     CHECK(add_template(p, "t", 5) == CEDAR_OK && add_template(p, "u", 2) == CEDAR_OK);
@@ -839,6 +861,7 @@ int main(void) {
     actions();
     edits();
     asked_again();
+    asked_more_than_is_cached();
     copies_and_slices();
     reading_ancestors();
     partial_stores();

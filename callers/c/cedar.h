@@ -1,38 +1,52 @@
 /* Stores of entities and policy sets of the Cedar authorization language, for callers in C.
  *
- * What is proved. Each function here has a contract over what is kept behind its handle, which the checker has proved
- * of its body: what a status says, what is written, what a handle holds afterwards, the comments below in short. Not
- * proved but tested is that CEDAR_NO_MEMORY comes only where memory is refused, that all memory is freed, what becomes
- * of a text that has the marks of a uid and a name before the first, but is not that of a uid with an ASCII eid, and
- * how a uid with another is written. No contract sees the key. It is proved for callers that keep these rules, which no
- * compiler checks:
+ * Rules for callers. No compiler checks them, and what is proved holds only for callers that follow them.
  *
- * - A handle is zeroed before its first use (`cedar_store s = {0};`), and none of its bytes are written. While it is
- *   open it may be moved, if the old place is not used again, but is not copied. Two handles of one call are two.
- * - A handle stays on the thread that opened it, but one that is apart may go to another thread between two calls,
- *   where what the one thread did comes before what the other does, as by a lock or a queue. Apart is one that
- *   `cedar_store_new` or `cedar_policies_new` opened, or that a call whose name ends in `_apart` filled, as long as no
- *   call that copies, slices or merges from one handle to another is made on it but such as end so. Handles of one
- *   thread share nothing with those of another.
- * - A pointer and a length are those of one array that is readable, or writable, whole, and initialised; the length is
- *   below 2^63. The pointer is not null, also where the length is 0. What a call writes overlaps nothing else that it
- *   is given.
- * - `malloc`, `realloc` and `free` are of one allocator and align to 16. No function is called from a signal handler.
+ * - Zero a handle before its first use (`cedar_store s = {0};`), and never write its bytes. An open handle may be
+ *   moved, if the old place is not used again, but not copied. Two handles of one call are different handles.
+ * - Use a handle only on the thread that opened it. Handles of one thread share nothing with handles of another. A
+ *   handle that shares nothing with other handles may move to another thread between two calls. What the first thread
+ *   did must happen before what the second thread does, as with a lock or a queue.
+ * - A handle shares nothing with others if `cedar_store_new` or `cedar_policies_new` opened it, or a call whose name
+ *   ends in `_apart` filled it. It stays so while no call copies, slices or merges between it and another handle,
+ *   except for calls whose names end in `_apart`.
+ * - A pointer and a length are the pointer and length of one whole, initialised array, readable or writable as needed.
+ *   The length is below 2^63. The pointer is not null, even if the length is 0. An output overlaps no other argument.
+ * - `malloc`, `realloc` and `free` belong to one allocator and align to 16 bytes. Call no function from a signal
+ *   handler.
  *
- * Who owns what. A handle owns what it holds: `cedar_store_free` and `cedar_policies_free` let go of it, once or any
- * number of times. All else that a call is given stays its caller's, and is not looked at once the call has answered.
- * Answers are copied out.
+ * Ownership. A handle owns its contents. `cedar_store_free` and `cedar_policies_free` free them, and may be called any
+ * number of times. The caller owns all other arguments, and no call reads them after it has returned. Results are
+ * copied out.
  *
- * Texts are bytes in UTF-8 without a zero at their end. A uid is written as the program writes it, as `A::B::"c"`: a
- * type, which is a name, and an eid in quotes, escaped. An id of a policy or a template is any text, the empty one too,
- * and is not escaped. A list of uids is one text and its parts: where each uid starts, and where it ends. Parts may
- * overlap, and may come twice.
+ * Statuses. Most functions return a `cedar_status`. A comment lists the statuses of its function, and explains those
+ * whose meaning `cedar_status` does not state completely. A call writes its outputs only if it returns CEDAR_OK. After
+ * any other status the handle is unchanged, except for the text of the last error. Where a function differs from this,
+ * its comment says so.
  *
- * The key. Two numbers, `seed` and `key`, are the key by which the maps of a handle hash, of its copies and slices too.
- * They keep whoever picks ids from picking such as collide, which makes each call slow. So they are to be numbers that
- * whoever picks ids does not know, as `getrandom` gives. Zeros are a key as any other, but everybody's: they are for
- * ids that no stranger picks. No answer depends on the key, but for which of several cycles or of several missing
- * ancestors a refusal names. */
+ * Answers. Many calls store their result in the handle, as its answer: a list of texts. `cedar_store_answer` and
+ * `cedar_policies_answer` copy the bytes of the answer out. Some calls store nodes too, for a value or an expression.
+ *
+ * Texts are bytes in UTF-8 without a zero at the end. A uid is written as the program writes it, for example
+ * `A::B::"c"`: a type, which is a name, and an eid in quotes, escaped. The id of a policy or a template is any text,
+ * also the empty one, and is not escaped. A list of uids is one text and its parts: the start and the end of each uid.
+ * Parts may overlap, and may occur twice.
+ *
+ * The key. Two numbers, `seed` and `key`, are the key of the hash maps of a handle, and of its copies and slices. If an
+ * attacker can choose ids that collide under the key, every call becomes slow. So use random numbers that the attacker
+ * does not know, as `getrandom` gives. Zeros are a valid key, but everybody knows them: use them only for trusted ids.
+ * The key can change two results only: the order of the uids from `cedar_store_uids`, and which of several cycles or of
+ * several missing ancestors an error names. That it changes nothing else is tested, not proved.
+ *
+ * What is proved. Each function has a contract over the contents of its handle, and its body is proved to satisfy the
+ * contract: what a status means, what is written, and what the handle contains afterwards. The comments below state the
+ * contracts in short. Not proved, but tested:
+ *
+ * - CEDAR_NO_MEMORY is returned only if an allocation fails, and all memory is freed.
+ * - A text that has the marks of a uid and a name before the first mark, but is not the text of a uid with an ASCII
+ *   eid, is read correctly. A uid with another eid is written correctly.
+ *
+ * No contract mentions the key. */
 #ifndef CEDAR_H
 #define CEDAR_H
 #include <stdbool.h>
@@ -42,117 +56,119 @@
 extern "C" {
 #endif
 
-/* The version that this header is of, as `cedar_version` tells that of the library. */
+/* The version of this header. `cedar_version` returns the version of the library. */
 #define CEDAR_VERSION 0x000100
 
-/* A store of entities, or nothing where all is zero. The fields are the library's. */
+/* A handle of a store of entities. It is closed if all its bytes are zero. Its fields are private to the library. */
 typedef struct cedar_store {
     void *at;
     bool is_open;
 } cedar_store;
 
-/* A policy set, or nothing where all is zero. The fields are the library's. */
+/* A handle of a policy set. It is closed if all its bytes are zero. Its fields are private to the library. */
 typedef struct cedar_policies {
     void *at;
     bool is_open;
 } cedar_policies;
 
-/* A part of a text: the bytes from `start` up to, and without, `end`. */
+/* A part of a text: the bytes from `start` up to, but not including, `end`. */
 typedef struct cedar_span {
     size_t start;
     size_t end;
 } cedar_span;
 
-/* An edge: the uid at place `to` of a list is a parent of the entity at place `from`. */
+/* An edge: the uid at position `to` of a list is a parent of the entity at position `from`. */
 typedef struct cedar_edge {
     size_t from;
     size_t to;
 } cedar_edge;
 
-/* What a call answers. Each function names those that it gives. A refusal from 7 to 25, or from 29 on, has a text,
- * which a handle keeps until the next one that has: all other statuses, CEDAR_NO_MEMORY too, leave it as it was. */
+/* The status that a call returns. An error with a status from 7 to 25, or from 29 on, has a text. A handle stores the
+ * text until its next error that has one. No other status changes the stored text, not even CEDAR_NO_MEMORY. */
 typedef enum cedar_status {
     CEDAR_OK = 0,
-    CEDAR_NO_MEMORY = 1,    /* a request for memory was refused; from each call but those that take no memory */
+    CEDAR_NO_MEMORY = 1,    /* an allocation failed; any call that allocates can return it */
     CEDAR_CLOSED = 2,       /* a handle is closed */
-    CEDAR_BAD_ARGUMENT = 3, /* a part is not within its text, a place or a number is out of range, or nodes are none */
-    CEDAR_NOT_A_UID = 4,    /* a text is no uid's */
-    CEDAR_NOT_UTF8 = 5,     /* the bytes of an id, a key, an annotation's value or a string are not UTF-8 */
+    CEDAR_BAD_ARGUMENT = 3, /* a part is not within its text, a number is out of range, or nodes are invalid */
+    CEDAR_NOT_A_UID = 4,    /* a text is not the text of a uid */
+    CEDAR_NOT_UTF8 = 5,     /* an id, a key, the value of an annotation or a string is not UTF-8 */
     CEDAR_NO_ENTITY = 6,    /* the store has no entity with this uid */
-    /* The store refuses: the text of each is given by `cedar_store_refusal`, with the uids that it names. */
-    CEDAR_DUPLICATE = 7,      /* two versions of an entity differ; its uid */
-    CEDAR_CYCLE = 8,          /* a uid is among its own ancestors; that uid */
-    CEDAR_NOT_CLOSED = 9,     /* an ancestor of an ancestor is missing; the entity, its ancestor, the missing one */
-    CEDAR_SELF_ANCESTOR = 10, /* an entity is among its own ancestors; its uid */
-    CEDAR_DUPLICATE_ANCESTOR = 11, /* an ancestor is a parent and an indirect ancestor; the entity and the ancestor */
-    CEDAR_ACTION_PARENT = 12,      /* an action has an ancestor that is none; the action and the ancestor */
+    /* Errors of a store. `cedar_store_refusal` copies the text, with the names that are listed here after the
+     * semicolon. */
+    CEDAR_DUPLICATE = 7,      /* two entities with one uid differ; the uid */
+    CEDAR_CYCLE = 8,          /* a uid is one of its own ancestors; the uid */
+    CEDAR_NOT_CLOSED = 9,     /* an ancestor of an ancestor is missing; the entity, its ancestor, the missing uid */
+    CEDAR_SELF_ANCESTOR = 10, /* an entity is one of its own ancestors; its uid */
+    CEDAR_DUPLICATE_ANCESTOR = 11, /* a uid is both a parent and an indirect ancestor; the entity, the uid */
+    CEDAR_ACTION_PARENT = 12,      /* an action has an ancestor that is not an action; the action, the ancestor */
     CEDAR_RESERVED_KEY = 13,       /* a key of a record is reserved; the key */
-    /* The policy set refuses: the text of each is given by `cedar_policies_refusal`, with the id that it names. */
-    CEDAR_OCCUPIED = 14,         /* an id is bound already */
-    CEDAR_NO_SUCH_TEMPLATE = 15, /* there is no template of this id to link */
-    CEDAR_ARITY = 16,            /* the bindings are not those of the template's slots; the slots */
-    CEDAR_NOT_AN_ACTION = 17,    /* the action's slot is bound to no action; the uid */
-    CEDAR_ID_CONFLICT = 18,      /* the id of a new link is bound already */
-    CEDAR_NO_LINK = 19,          /* nothing is bound to this id to unlink */
-    CEDAR_NOT_A_LINK = 20,       /* something else than a link is */
-    CEDAR_NO_TEMPLATE = 21,      /* nothing is bound to this id of a template to remove */
+    /* Errors of a policy set. `cedar_policies_refusal` copies the text, with the id, or with the names after the
+     * semicolon. */
+    CEDAR_OCCUPIED = 14,         /* the id is already in use */
+    CEDAR_NO_SUCH_TEMPLATE = 15, /* there is no template with this id to link */
+    CEDAR_ARITY = 16,            /* the bindings do not match the slots of the template; the slots */
+    CEDAR_NOT_AN_ACTION = 17,    /* the slot of the action is bound to a uid that is not an action; the uid */
+    CEDAR_ID_CONFLICT = 18,      /* the id of the new link is already in use */
+    CEDAR_NO_LINK = 19,          /* the id to unlink is not in use */
+    CEDAR_NOT_A_LINK = 20,       /* the id to unlink is not the id of a link */
+    CEDAR_NO_TEMPLATE = 21,      /* the id of the template to remove is not in use */
     CEDAR_WITH_LINKS = 22,       /* the template has links */
-    CEDAR_NOT_A_TEMPLATE = 23,   /* something else than a template is bound to it */
-    CEDAR_NO_STATIC = 24,        /* no policy has this id of a static policy to remove */
-    CEDAR_NOT_STATIC = 25,       /* it is a link's; or of a static policy to add, in which a slot stands */
-    /* What is asked for is not there, or what is given is none. */
-    CEDAR_NO_BODY = 26,    /* nothing of the kind that a call asks for is bound to this id */
-    CEDAR_NOT_A_NAME = 27, /* a text is no name; or, as the key of an annotation, no identifier */
+    CEDAR_NOT_A_TEMPLATE = 23,   /* the id is not the id of a template */
+    CEDAR_NO_STATIC = 24,        /* there is no policy with the id of the static policy to remove */
+    CEDAR_NOT_STATIC = 25,       /* the id is the id of a link; or a static policy to add has a slot */
+    /* Further errors without a text. */
+    CEDAR_NO_BODY = 26,    /* there is nothing of the requested kind with this id */
+    CEDAR_NOT_A_NAME = 27, /* a text is not a name, or the key of an annotation is not an identifier */
     CEDAR_TOO_DEEP = 28,   /* a value or an expression has more than CEDAR_LEVELS levels */
-    /* What `cedar_policies_validate` finds: the text of each is given by `cedar_policies_refusal`, with an id. */
-    CEDAR_SLOT_IN_CLAUSE = 29,   /* a slot stands in the clause of this template */
-    CEDAR_NOT_ACTIONS = 30,      /* this policy or template asks the action to be, or to be in, what is none */
-    CEDAR_UNKNOWN_FUNCTION = 31, /* the clause of this policy or template calls a function that is not known */
-    CEDAR_SLOTLESS_LINK = 32     /* this link is one of a template without slots */
+    /* Errors of `cedar_policies_validate`. `cedar_policies_refusal` copies the text, with the id. */
+    CEDAR_SLOT_IN_CLAUSE = 29,   /* the clause of this template has a slot */
+    CEDAR_NOT_ACTIONS = 30,      /* the action constraint of this policy or template has a uid that is no action */
+    CEDAR_UNKNOWN_FUNCTION = 31, /* the clause of this policy or template calls an unknown function */
+    CEDAR_SLOTLESS_LINK = 32     /* this link has a template without slots */
 } cedar_status;
 
-/* How a call on a store sees to it that ancestors are closed. What a call touches is what it puts in or takes out, and
- * what has that among its ancestors. A removal gives what it touched what it still reaches, in each mode. */
+/* The way in which an edit keeps the ancestors of a store closed. An edit affects the entities that it inserts or
+ * removes, and all entities that have one of them as an ancestor. In every mode a removal gives the affected entities
+ * the ancestors that they still reach. */
 typedef enum cedar_mode {
-    /* What is touched gets all that it reaches as ancestors, in a removal too, and where one of it reaches itself the
-     * call is refused by CEDAR_CYCLE. Nothing else is checked. */
+    /* Affected entities get all uids that they reach as ancestors, in a removal too. An edit returns CEDAR_CYCLE if an
+     * affected entity reaches itself. Nothing else is checked. */
     CEDAR_COMPUTE = 0,
-    /* What is put in is taken to have all its ancestors as parents: nothing is computed for it. A removal repairs. Then
-     * the whole store is checked: CEDAR_NOT_CLOSED where an ancestor of an ancestor is missing, CEDAR_CYCLE where an
-     * entity is among its own ancestors. */
+    /* Inserted entities keep the ancestors that they are given: nothing is computed for them. Without `above` their
+     * ancestors are their parents. A removal repairs. Then the whole store is checked. An edit returns CEDAR_NOT_CLOSED
+     * if an ancestor of an ancestor is missing, and CEDAR_CYCLE if an entity is one of its own ancestors. */
     CEDAR_ENFORCE = 1,
-    /* What is put in is taken so too, and a removal repairs, but nothing is checked: no cycle is refused, and what was
-     * not closed is not told. */
+    /* As CEDAR_ENFORCE, but nothing is checked: neither a cycle nor a missing ancestor is reported. */
     CEDAR_ASSUME = 2
 } cedar_mode;
 
 /* ---- values and expressions */
 
-/* What a node is, and with it which of its fields say something. What stands below a node stands right before it, each
- * thing with all below it, in order: so an array of nodes is one value, or one expression, and its last node is the
- * top. `len` is how many things stand below where that is not the kind's own; a field that a kind does not use is not
- * looked at, and is 0 in what is copied out.
+/* The kind of a node, which determines the meaning of its fields. An array of nodes is one value or one expression, and
+ * its last node is the top. The children of a node are right before it, in order, each after all of its own children.
+ * `len` is the number of children where the kind does not fix it. A field that a kind does not use is ignored on input,
+ * and is 0 on output.
  *
- *   kind              its fields                  right below it
- *   CEDAR_BOOL        number: 0 or 1              nothing
- *   CEDAR_LONG        number                      nothing
- *   CEDAR_STRING      at: the string, in UTF-8    nothing
- *   CEDAR_UID         at: the uid's text          nothing
- *   CEDAR_SET         len                         len elements; of a value in any order, and equal ones are one
+ *   kind              its fields                  its children
+ *   CEDAR_BOOL        number: 0 or 1              none
+ *   CEDAR_LONG        number                      none
+ *   CEDAR_STRING      at: the string, in UTF-8    none
+ *   CEDAR_UID         at: the text of the uid     none
+ *   CEDAR_SET         len                         len elements; in a value order and repetition do not matter
  *   CEDAR_RECORD      len                         len times a key (CEDAR_STRING) and a value; the last of a key counts
- *   CEDAR_CALL        at: the function's name     len arguments; of a value one CEDAR_STRING, as of decimal("1.5")
- *   CEDAR_VAR         number: its place           nothing; 0 principal, 1 action, 2 resource, 3 context
- *   CEDAR_SLOT        number: its place           nothing; 0 the principal's, 1 the action's, 2 the resource's
- *   CEDAR_UNKNOWN     at: its name, any string    nothing where len is 0; where it is 1 a CEDAR_STRING, its type's name
+ *   CEDAR_CALL        at: the function's name     len arguments; in a value one CEDAR_STRING, as in decimal("1.5")
+ *   CEDAR_VAR         number: its position        none; 0 principal, 1 action, 2 resource, 3 context
+ *   CEDAR_SLOT        number: its position        none; 0 principal, 1 action, 2 resource
+ *   CEDAR_UNKNOWN     at: its name, any string    none if len is 0; if len is 1 a CEDAR_STRING, its type's name
  *   CEDAR_NOT         none                        one expression
- *   CEDAR_AND         none                        two, the left one first; so of CEDAR_EQ and CEDAR_IN
+ *   CEDAR_AND         none                        two, the left one first; CEDAR_EQ and CEDAR_IN too
  *   CEDAR_IS          at: the entity type's name  one
- *   CEDAR_RESIDUAL    len: 1                      an expression, which is left over
+ *   CEDAR_RESIDUAL    len: 1                      one expression, the residual
  *
- * Values have the kinds up to CEDAR_CALL, and a call in them is a value of an extension type. Expressions have those up
- * to CEDAR_IS, but no CEDAR_RECORD. A partial value, as attributes and tags have, is a value, or an expression and
- * CEDAR_RESIDUAL as its last node. A node below which nothing stands has one level, each other one more than the most
- * below it; CEDAR_RESIDUAL is none. */
+ * Values use the kinds up to CEDAR_CALL. A call in a value is a value of an extension type. Expressions use the kinds
+ * up to CEDAR_IS, except CEDAR_RECORD. Attributes and tags have partial values: a value, or an expression followed by
+ * CEDAR_RESIDUAL as the last node. A node without children has one level. Any other node has one level more than its
+ * deepest child. CEDAR_RESIDUAL does not count as a level. */
 typedef enum cedar_kind {
     CEDAR_BOOL = 0,
     CEDAR_LONG = 1,
@@ -172,10 +188,10 @@ typedef enum cedar_kind {
     CEDAR_RESIDUAL = 15
 } cedar_kind;
 
-/* The most levels that a value or an expression may have: comparing it, and letting go of it, recurses as deep. */
+/* The maximum number of levels of a value or an expression. Comparing and freeing recurse to this depth. */
 #define CEDAR_LEVELS 1000
 
-/* One node of a value or of an expression. */
+/* One node of a value or an expression. */
 typedef struct cedar_node {
     uint32_t kind;
     size_t len;
@@ -183,8 +199,8 @@ typedef struct cedar_node {
     int64_t number;
 } cedar_node;
 
-/* One attribute or tag of the entity at place `of` of a list: its key is the part `key` of the text, and its value are
- * the nodes from `from` up to, and without, `to`. `part` is 0 for an attribute and 1 for a tag. */
+/* An attribute (`part` 0) or a tag (`part` 1) of the entity at position `of` of a list. Its key is the part `key` of
+ * the text. Its value is the nodes from `from` up to, but not including, `to`. */
 typedef struct cedar_term {
     size_t of;
     uint32_t part;
@@ -195,24 +211,28 @@ typedef struct cedar_term {
 
 /* ---- bodies of policies */
 
-/* What a policy asks of the principal, the action or the resource, by `kind`: 0 nothing; 1 to be equal to the uid at
- * `uid`, 2 to what its slot is bound to; 3 to be in that uid, 4 in what its slot is bound to; 5 to be of the type that
- * is named at `type`, 6 of it and in the uid, 7 of it and in what its slot is bound to. Of an action there are 0 to 4
- * alone, and 3 asks for it to be in one of some uids that are listed beside. A part that a kind does not name is not
- * looked at. */
+/* The constraint on the principal, the action or the resource. `kind` is one of:
+ *
+ * - 0: no constraint
+ * - 1: equal to the uid at `uid`; 2: equal to the uid of its slot
+ * - 3: in the uid at `uid`; 4: in the uid of its slot
+ * - 5: of the type with the name at `type`; 6: of that type and in the uid; 7: of that type and in the uid of its slot
+ *
+ * An action has only the kinds 0 to 4, and 3 means: in one of the uids of a separate list. A part that the kind does
+ * not use is ignored. */
 typedef struct cedar_scope {
     uint32_t kind;
     cedar_span uid;
     cedar_span type;
 } cedar_scope;
 
-/* An annotation: where its key, which is an identifier, and its value, which is any text, stand. */
+/* An annotation: the part with its key, which is an identifier, and the part with its value, which is any text. */
 typedef struct cedar_annotation {
     cedar_span key;
     cedar_span value;
 } cedar_annotation;
 
-/* The effect of a policy or a template (0 permits, 1 forbids), and what it asks of the three. */
+/* The effect of a policy or a template (0 permits, 1 forbids) and its three constraints. */
 typedef struct cedar_body {
     uint32_t effect;
     cedar_scope principal;
@@ -220,101 +240,97 @@ typedef struct cedar_body {
     cedar_scope resource;
 } cedar_body;
 
-/* ---- the program and uids: no handle */
+/* ---- the program and uids, without a handle */
 
-/* Takes all lines of an input, as the program does, with `seed` and `key` as the key of its maps, and writes as much of
- * the output as there is room for. `told` has the length of all of it and `ended` the status of the run, 0 or 2.
- * Another call, with more room, makes the same output anew. CEDAR_OK, or CEDAR_NO_MEMORY, after which `out`, `told` and
- * `ended` say nothing. Any thread may call it. */
+/* Runs the program on all lines of an input, with `seed` and `key` as the key of its maps. Writes as much of the output
+ * as fits to `out`, the length of the whole output to `told`, and the exit status of the run, 0 or 2, to `ended`.
+ * Another call with more room gives the same output. Returns CEDAR_OK or CEDAR_NO_MEMORY. After CEDAR_NO_MEMORY the
+ * contents of `out`, `told` and `ended` are unspecified. Any thread may call it. */
 uint32_t cedar_run(const uint8_t *input, size_t input_len, uint64_t seed, uint64_t key, uint8_t *out, size_t room,
                    size_t *told, uint32_t *ended);
 
-/* Whether a text is a uid's: CEDAR_OK or CEDAR_NOT_A_UID, or CEDAR_NO_MEMORY. Any thread may call it. */
+/* Checks whether a text is the text of a uid. Returns CEDAR_OK, CEDAR_NOT_A_UID or CEDAR_NO_MEMORY. Any thread may call
+ * it. */
 uint32_t cedar_uid_check(const uint8_t *text, size_t text_len);
 
-/* The uid with a type, as `User` or `A::B`, and an id, which is any text and is not escaped, as `O'Brien`: writes as
- * much of its text, as `User::"O\'Brien"`, as there is room for. `told` has the length of all of it. CEDAR_OK;
- * CEDAR_NOT_A_NAME where the type is no name, CEDAR_NOT_UTF8, CEDAR_NO_MEMORY, which write nothing. Any thread may call
- * it. */
+/* Creates the uid with a type, for example `User` or `A::B`, and an id, which is any text and is not escaped, for
+ * example `O'Brien`. Writes as much of the text of the uid (`User::"O\'Brien"`) as fits to `out`, and its whole length
+ * to `told`. Returns CEDAR_OK, CEDAR_NOT_A_NAME if the type is not a name, CEDAR_NOT_UTF8 or CEDAR_NO_MEMORY. Any
+ * thread may call it. */
 uint32_t cedar_uid_make(const uint8_t *type, size_t type_len, const uint8_t *id, size_t id_len, uint8_t *out,
                         size_t room, size_t *told);
 
-/* Takes the text of a uid apart: writes the text of its type and the bytes of its id behind it, which is not escaped,
- * as much of both as there is room for. `type_len` has the length of the first and `told` that of both. CEDAR_OK;
- * CEDAR_NOT_A_UID, CEDAR_NO_MEMORY, which write nothing. Any thread may call it. */
+/* Splits the text of a uid. Writes the text of its type, followed by the bytes of its id, which are not escaped, to
+ * `out`, as much as fits. Writes the length of the type to `type_len`, and the length of both to `told`. Returns
+ * CEDAR_OK, CEDAR_NOT_A_UID or CEDAR_NO_MEMORY. Any thread may call it. */
 uint32_t cedar_uid_parts(const uint8_t *uid, size_t uid_len, uint8_t *out, size_t room, size_t *type_len,
                          size_t *told);
 
-/* Whether each of some parts of a text is a uid's: CEDAR_OK; or in `place` the place of the first that is not, from 0 on,
- * and CEDAR_NOT_A_UID, or CEDAR_BAD_ARGUMENT where it is not within the text; or CEDAR_NO_MEMORY, with the place that was
- * being read. So it tells which of a list a call is refused for. Any thread may call it. */
+/* Checks whether each part of a text is the text of a uid. Otherwise writes the position of the first invalid part,
+ * from 0 on, to `place`. Use it to find the uid for which another call returned an error. Returns CEDAR_OK,
+ * CEDAR_NOT_A_UID, CEDAR_BAD_ARGUMENT if the part is not within the text, or CEDAR_NO_MEMORY, with the position of the
+ * part that was being read in `place`. Any thread may call it. */
 uint32_t cedar_uids_check(const uint8_t *text, size_t text_len, const cedar_span *uids, size_t uids_len, size_t *place);
 
-/* Copies out the words for a status, as `not a uid` and of CEDAR_OK `ok`, as much as there is room for, and tells how
- * long they are: 0 for a number that is no status. A refusal that has a text begins with them. Takes no memory. Any
- * thread may call it. */
+/* Copies the text of a status, for example `ok` for CEDAR_OK or `not a uid`, as much as fits. Returns the whole length,
+ * which is 0 for a number that is not a status. The text of an error begins with the text of its status. Does not
+ * allocate. Any thread may call it. */
 size_t cedar_status_text(uint32_t status, uint8_t *out, size_t room);
 
-/* Where in the text of a refusal what it names at a place stands, from 0 on, in the order of the text: a uid, the id or
- * the key, or, of CEDAR_ARITY, a slot: first those that are not bound, then those that are bound and are none. `status`
- * is that of the refusal, and the text what `cedar_store_refusal` or `cedar_policies_refusal` copied out, whole. True,
- * and the part in `part`; false where it names no more, and nothing is written. Of a uid with an eid past ASCII this is
- * tested, not proved. Takes no memory. Any thread may call it. */
+/* Finds the name at position `place`, from 0 on, in the text of an error: a uid, an id, a key, or for CEDAR_ARITY a
+ * slot (first the unbound slots, then the bound slots that do not exist). `status` is the status of the error. The text
+ * is the whole text from `cedar_store_refusal` or `cedar_policies_refusal`. Returns true and writes the part to `part`.
+ * Returns false and writes nothing if there is no such name. For a uid whose eid is not ASCII this is tested, not
+ * proved. Does not allocate. Any thread may call it. */
 bool cedar_refusal_part(uint32_t status, const uint8_t *text, size_t text_len, size_t place, cedar_span *part);
 
-/* The version of the library, in one number: 65536 for each of its first number, 256 for each of its second, and its
- * third. Takes no memory. Any thread may call it. */
+/* Returns the version of the library as one number: 65536 times the major number, plus 256 times the minor number, plus
+ * the patch number. Does not allocate. Any thread may call it. */
 uint32_t cedar_version(void);
 
 /* ---- stores */
 
-/* The store without entities, whose map hashes by `seed` and `key`, goes into a handle; what that held before is freed.
- * CEDAR_OK, or CEDAR_NO_MEMORY, which leaves the handle as it was. */
+/* Opens a handle with an empty store, whose map uses `seed` and `key`. Frees the old contents of the handle. Returns
+ * CEDAR_OK or CEDAR_NO_MEMORY. */
 uint32_t cedar_store_new(cedar_store *s, uint64_t seed, uint64_t key);
 
-/* Frees what a handle holds, and closes it. A closed one stays closed. Takes no memory. */
+/* Frees the contents of a handle, and closes it. A closed handle stays closed. Does not allocate. */
 void cedar_store_free(cedar_store *s);
 
-/* The store of some entities, in the place of that which the handle holds. The first `count` of the uids are the
- * entities'; an edge says that the uid at `to` is a parent of the entity at `from`. An entity that comes twice is one,
- * if both have the same parents. No attributes and no tags: `cedar_store_build_with` takes these.
- *
- * CEDAR_OK: the ancestors of each entity are exactly the uids that it reaches over parents (in mode CEDAR_COMPUTE).
- * CEDAR_CLOSED.
- * CEDAR_BAD_ARGUMENT: a part is not within the text, `count` is more than there are parts, an edge comes from no entity
- *   or leads to no uid, or the mode is none. CEDAR_NOT_A_UID: a part is no uid's text. Both leave the store as it was.
- * CEDAR_DUPLICATE: an entity comes twice with other parents. CEDAR_CYCLE, and in mode CEDAR_ENFORCE CEDAR_NOT_CLOSED:
- *   as they say. CEDAR_NO_MEMORY. Each leaves the store as it was: it is freed once the new one is made. */
+/* Replaces the store by the entities in a list, without attributes and tags. The first `count` uids are the uids of the
+ * entities. An edge says that the uid at `to` is a parent of the entity at `from`. An entity that occurs twice counts
+ * once, if both have the same parents. After CEDAR_OK in mode CEDAR_COMPUTE, the ancestors of each entity are exactly
+ * the uids that it reaches over parents. Returns CEDAR_OK, CEDAR_CLOSED, CEDAR_NOT_A_UID, CEDAR_DUPLICATE if an entity
+ * occurs twice with different parents, CEDAR_CYCLE, CEDAR_NOT_CLOSED (mode CEDAR_ENFORCE only), CEDAR_NO_MEMORY;
+ * CEDAR_BAD_ARGUMENT if a part is not within the text, `count` exceeds the number of parts, an edge starts at no entity
+ * or ends at no uid, or the mode is invalid. The old store is freed only after the new one is built. */
 uint32_t cedar_store_build(cedar_store *s, const uint8_t *text, size_t text_len, const cedar_span *uids,
                            size_t uids_len, size_t count, const cedar_edge *edges, size_t edges_len, uint32_t mode);
 
-/* Adds entities, given as to `cedar_store_build`. One that the store has already has to have the same ancestors. The
- * statuses are those of `cedar_store_build`, and each but CEDAR_OK leaves the store as it was, but that CEDAR_NO_MEMORY
- * may leave it without entities; `cedar_store_len` says whether it did.
- *
- * In mode CEDAR_COMPUTE a store that only this mode and removals have made costs a trial of the edit more, over what is
- * listed and stands above that; any other mode, and any other store, a copy of the store. An entity that is given
- * indirect ancestors (`cedar_store_add_with`) costs that copy too, then and from then on. */
+/* Adds entities, in the form of `cedar_store_build`. An entity that the store has already must have the same ancestors.
+ * Returns the statuses of `cedar_store_build`. CEDAR_NO_MEMORY may leave the store empty: then `cedar_store_len` is 0,
+ * and the store is partial exactly if it was before. In mode CEDAR_COMPUTE, on a store that only this mode and removals
+ * have made, a call first tries the edit on the listed entities and all above them. In another mode, or on another
+ * store, it copies the store first. After an entity was given indirect ancestors (`cedar_store_add_with`), this call
+ * and all later ones copy too. */
 uint32_t cedar_store_add(cedar_store *s, const uint8_t *text, size_t text_len, const cedar_span *uids, size_t uids_len,
                          size_t count, const cedar_edge *edges, size_t edges_len, uint32_t mode);
 
-/* Puts entities, given as to `cedar_store_build`, into the store, each in the place of any with its uid; of several
- * with one uid the last counts. The statuses are those of `cedar_store_build` but for CEDAR_DUPLICATE, and leave, and
- * the call costs, what it does at `cedar_store_add`. */
+/* Upserts entities, in the form of `cedar_store_build`: each is inserted, or replaces the stored entity with its uid.
+ * Among several entities with one uid the last counts. Returns the statuses of `cedar_store_build`, except
+ * CEDAR_DUPLICATE. The costs, and the store after an error, are those of `cedar_store_add`. */
 uint32_t cedar_store_upsert(cedar_store *s, const uint8_t *text, size_t text_len, const cedar_span *uids,
                             size_t uids_len, size_t count, const cedar_edge *edges, size_t edges_len, uint32_t mode);
 
-/* As the three above, of entities with content. An edge of `above` says that the uid at `to` is an indirect ancestor of
- * the entity at `from`, where it is no parent. A term says an attribute or a tag, and of several with one key the last
- * counts. The nodes of all values are one array, over the text of the uids; those of terms may overlap. Entities that
- * come twice, or that the store has, are the same where they have the same ancestors, attributes and tags.
+/* Build, add and upsert entities with their content, as the three functions above. An edge of `above` says that the uid
+ * at `to` is an indirect ancestor of the entity at `from`, if it is not a parent. A term is an attribute or a tag;
+ * among several with one key the last counts. All values are in one array of nodes, over the text of the uids, and
+ * terms may share nodes. Entities with one uid are the same if their ancestors, attributes and tags are the same.
  *
- * The statuses are those of the call without content, and leave what they leave there; these leave the store as it was:
- * CEDAR_BAD_ARGUMENT: also where an edge of `above` comes from no entity or leads to no uid, a term is of no entity or
- *   no part, its key is not within the text or its nodes not within the nodes, or these are no partial value.
- * CEDAR_NOT_A_UID, CEDAR_NOT_UTF8, CEDAR_NOT_A_NAME: also where the part of a CEDAR_UID is no uid's text; where a key,
- *   or the part of a node that has a string or a name, is not UTF-8; where that of a name is none.
- * CEDAR_TOO_DEEP: a value has too many levels. */
+ * Return the statuses of the call without content, and leave the same state; also CEDAR_TOO_DEEP. CEDAR_BAD_ARGUMENT:
+ * also if an edge of `above` or a term has no such entity or uid, the `part` of a term is invalid, or its key or nodes
+ * are out of range or invalid. CEDAR_NOT_A_UID, CEDAR_NOT_UTF8, CEDAR_NOT_A_NAME: also if the text of a node, or a key,
+ * is not what its kind requires. */
 uint32_t cedar_store_build_with(cedar_store *s, const uint8_t *text, size_t text_len, const cedar_span *uids,
                                 size_t uids_len, size_t count, const cedar_edge *edges, size_t edges_len,
                                 const cedar_edge *above, size_t above_len, const cedar_term *terms, size_t terms_len,
@@ -328,362 +344,348 @@ uint32_t cedar_store_upsert_with(cedar_store *s, const uint8_t *text, size_t tex
                                  const cedar_edge *above, size_t above_len, const cedar_term *terms, size_t terms_len,
                                  const cedar_node *nodes, size_t nodes_len, uint32_t mode);
 
-/* Takes the entities with these uids out; they are no parents either then. Uids that the store lacks change nothing.
- * CEDAR_OK, CEDAR_CLOSED, CEDAR_BAD_ARGUMENT, CEDAR_NOT_A_UID; CEDAR_CYCLE and CEDAR_NOT_CLOSED, which come only over a
- * store that was not computed; CEDAR_NO_MEMORY. Each but the first leaves the store as it was, but that CEDAR_NO_MEMORY
- * may leave it without entities. A store that was not computed is copied first. */
+/* Removes the entities with these uids, also from the parents of other entities. A uid without an entity changes
+ * nothing. Returns CEDAR_OK, CEDAR_CLOSED, CEDAR_BAD_ARGUMENT, CEDAR_NOT_A_UID, CEDAR_NO_MEMORY; CEDAR_CYCLE and
+ * CEDAR_NOT_CLOSED, but only on a store that was not computed. CEDAR_NO_MEMORY may leave the store empty, as in
+ * `cedar_store_add`. A store that was not computed is copied first. */
 uint32_t cedar_store_remove(cedar_store *s, const uint8_t *text, size_t text_len, const cedar_span *uids,
                             size_t uids_len, uint32_t mode);
 
-/* The store becomes partial: an entity that it lacks is not known then, where in another store there is none. The
- * entities, the answer and the last refusal stay. A store that is built anew, or a slice, is not partial; a copy is as
- * its source. CEDAR_OK, CEDAR_CLOSED. Takes no memory. */
+/* Makes the store partial: a missing entity is then unknown, while in another store it does not exist. The entities,
+ * the answer and the last error stay. A store that is built, or a slice, is not partial; a copy is partial if its
+ * source is. Adding, upserting and removing leave a partial store partial, at every status. Returns CEDAR_OK or
+ * CEDAR_CLOSED. Does not allocate. */
 uint32_t cedar_store_partial(cedar_store *s);
 
-/* How many entities there are; a closed handle has none. Takes no memory. */
+/* Returns the number of entities, which is 0 for a closed handle. Does not allocate. */
 size_t cedar_store_len(cedar_store *s);
 
-/* Whether there is an entity with a uid, in `answer`, which is written at CEDAR_OK alone. CEDAR_OK, CEDAR_CLOSED,
- * CEDAR_NOT_A_UID, CEDAR_NO_MEMORY. The store stays as it is, as it does in all calls below. */
+/* Writes to `answer` whether the store has an entity with a uid. Returns CEDAR_OK, CEDAR_CLOSED, CEDAR_NOT_A_UID or
+ * CEDAR_NO_MEMORY. Neither this call nor any call below changes the store that it reads. */
 uint32_t cedar_store_has(cedar_store *s, const uint8_t *uid, size_t uid_len, bool *answer);
 
-/* Whether the entity with the first uid is a descendant of the second, over parents, however many, in `answer`, which
- * is written at CEDAR_OK alone. CEDAR_OK, CEDAR_CLOSED, CEDAR_NOT_A_UID where one of the texts is no uid's,
- * CEDAR_NO_ENTITY where the store has no entity with the first uid, CEDAR_NO_MEMORY.
+/* Writes to `answer` whether the entity with the first uid is a descendant of the second uid, over any number of
+ * parents. Returns CEDAR_OK, CEDAR_CLOSED, CEDAR_NOT_A_UID if one of the texts is not a uid, CEDAR_NO_ENTITY if the
+ * store has no entity with the first uid, or CEDAR_NO_MEMORY.
  *
- * Once the store was asked as often as it has entities, the handle notes what it is asked, by both texts, until the next
- * call that changes the store: of at most 65,536 entities the text and up to 32 ancestors, and of as many uids the text.
- * What is noted is told without reading a uid, at a quarter of the cost. Memory that notes are refused refuses nothing. */
+ * After as many queries since the last edit as the store has entities, the handle caches queries by both texts. A
+ * cached query costs a quarter, unless the entity has more than 32 ancestors. The cache has at most 65,536 texts of
+ * entities, as many texts of other uids, and 4 MiB of text. It does not store a text of more than 1,024 bytes. It is
+ * emptied when it is full, by every edit (also after an error), and when the handle gets another store. A failed
+ * allocation for the cache is not an error. */
 uint32_t cedar_store_is_descendant_of(cedar_store *s, const uint8_t *child, size_t child_len, const uint8_t *ancestor,
                                       size_t ancestor_len, bool *answer);
 
-/* Numbers of uids, for who asks about some uids again and again: a uid's text is read once, and a call that takes its
- * number reads none. `number` is that of the uid, and is written at CEDAR_OK alone: the same each time, 0 for the first
- * uid of a handle that is given one, 1 for the next, and so on. It says nothing about whether the store has an entity
- * with the uid, and stays good whatever becomes of the store, until the handle is freed, or filled by `cedar_store_new`,
- * a copy or a slice, which begin with none. The handle keeps each uid with a number for as long.
- * CEDAR_OK, CEDAR_CLOSED, CEDAR_NOT_A_UID, CEDAR_NO_MEMORY. */
+/* Writes the number of a uid to `number`: 0 for the first numbered uid of a handle, then 1, and so on. A uid always
+ * gets the same number. To query the same uids repeatedly, use calls that take numbers: they parse no text. A number
+ * does not depend on whether the store has the entity. It stays valid until the handle is freed, or filled by
+ * `cedar_store_new`, a copy or a slice, which start without numbers. The handle stores each numbered uid until then.
+ * Returns CEDAR_OK, CEDAR_CLOSED, CEDAR_NOT_A_UID or CEDAR_NO_MEMORY. */
 uint32_t cedar_store_uid_number(cedar_store *s, const uint8_t *uid, size_t uid_len, size_t *number);
 
-/* The text of the uid of a number becomes the answer. CEDAR_OK, CEDAR_CLOSED, CEDAR_BAD_ARGUMENT where no uid has this
- * number in this handle, CEDAR_NO_MEMORY. */
+/* Stores the text of the uid of a number as the answer. Returns CEDAR_OK, CEDAR_CLOSED, CEDAR_BAD_ARGUMENT if no uid
+ * has this number in this handle, or CEDAR_NO_MEMORY. */
 uint32_t cedar_store_number_uid(cedar_store *s, size_t number);
 
-/* As `cedar_store_has` and `cedar_store_is_descendant_of`, by the numbers of uids. CEDAR_BAD_ARGUMENT where a number is
- * no uid's in this handle, CEDAR_NO_ENTITY where the store has no entity with the uid of `child`; else CEDAR_OK or
- * CEDAR_CLOSED. They take no memory. */
+/* Do the same as `cedar_store_has` and `cedar_store_is_descendant_of`, for the numbers of uids. Return CEDAR_OK,
+ * CEDAR_CLOSED, CEDAR_BAD_ARGUMENT if no uid has a number in this handle, or CEDAR_NO_ENTITY if the store has no entity
+ * with the uid of `child`. Do not allocate. */
 uint32_t cedar_store_has_number(cedar_store *s, size_t number, bool *answer);
 uint32_t cedar_store_is_descendant_of_numbers(cedar_store *s, size_t child, size_t ancestor, bool *answer);
 
-/* The ancestors, or the parents, of the entity with a uid become the answer of the handle: their texts, in the order of
- * uids, each once. CEDAR_OK, CEDAR_CLOSED, CEDAR_NOT_A_UID, CEDAR_NO_ENTITY, CEDAR_NO_MEMORY; any but the first leaves
- * the answer. */
+/* Store the ancestors, or the parents, of the entity with a uid as the answer, in ascending order of uid, each once.
+ * Return CEDAR_OK, CEDAR_CLOSED, CEDAR_NOT_A_UID, CEDAR_NO_ENTITY or CEDAR_NO_MEMORY. */
 uint32_t cedar_store_ancestors(cedar_store *s, const uint8_t *uid, size_t uid_len);
 uint32_t cedar_store_parents(cedar_store *s, const uint8_t *uid, size_t uid_len);
 
-/* The indirect ancestors become the answer as the ancestors do: those that are no parents, where the store was
- * computed. */
+/* Stores the indirect ancestors as the answer, as `cedar_store_ancestors` does. In a computed store they are the
+ * ancestors that are not parents. Returns the same statuses. */
 uint32_t cedar_store_indirect_ancestors(cedar_store *s, const uint8_t *uid, size_t uid_len);
 
-/* Whether the second uid is a parent of the entity with the first, or an indirect ancestor, in `answer`, which is
- * written at CEDAR_OK alone. The statuses are those of `cedar_store_is_descendant_of`, which says whether it is one of
- * both. */
+/* Write to `answer` whether the second uid is a parent, or an indirect ancestor, of the entity with the first uid.
+ * Return the statuses of `cedar_store_is_descendant_of`, which writes whether it is one of the two. */
 uint32_t cedar_store_is_child_of(cedar_store *s, const uint8_t *child, size_t child_len, const uint8_t *parent,
                                  size_t parent_len, bool *answer);
 uint32_t cedar_store_is_indirect_descendant_of(cedar_store *s, const uint8_t *child, size_t child_len,
                                                const uint8_t *ancestor, size_t ancestor_len, bool *answer);
 
-/* Whether the store is partial, in `answer`, which is written at CEDAR_OK alone. CEDAR_OK, CEDAR_CLOSED. Takes no
- * memory. */
+/* Writes to `answer` whether the store is partial. Returns CEDAR_OK or CEDAR_CLOSED. Does not allocate. */
 uint32_t cedar_store_is_partial(cedar_store *s, bool *answer);
 
-/* What the store has with a uid, in `found`, which is written at CEDAR_OK alone: 2 where it has an entity; else 1 in a
- * partial store, where that is not known, and 0 in another. CEDAR_OK, CEDAR_CLOSED, CEDAR_NOT_A_UID, CEDAR_NO_MEMORY.
- */
+/* Writes 2 to `found` if the store has an entity with a uid. Otherwise writes 1 for a partial store, where the entity
+ * is unknown, and 0 for another store. Returns CEDAR_OK, CEDAR_CLOSED, CEDAR_NOT_A_UID or CEDAR_NO_MEMORY. */
 uint32_t cedar_store_entity(cedar_store *s, const uint8_t *uid, size_t uid_len, uint32_t *found);
 
-/* The uids of all entities become the answer of the handle: their texts, each once, in an order of the store's own,
- * which the key picks. CEDAR_OK, CEDAR_CLOSED, CEDAR_NO_MEMORY; any but the first leaves the answer. */
+/* Stores the uids of all entities as the answer, each once, in an order that depends on the key. Returns CEDAR_OK,
+ * CEDAR_CLOSED or CEDAR_NO_MEMORY. */
 uint32_t cedar_store_uids(cedar_store *s);
 
-/* How many attributes, or tags, the entity with a uid has, in `count`, which is written at CEDAR_OK alone. CEDAR_OK,
- * CEDAR_CLOSED, CEDAR_NOT_A_UID, CEDAR_NO_ENTITY, CEDAR_NO_MEMORY. */
+/* Write the number of attributes, or of tags, of the entity with a uid to `count`. Return CEDAR_OK, CEDAR_CLOSED,
+ * CEDAR_NOT_A_UID, CEDAR_NO_ENTITY or CEDAR_NO_MEMORY. */
 uint32_t cedar_store_attrs_len(cedar_store *s, const uint8_t *uid, size_t uid_len, size_t *count);
 uint32_t cedar_store_tags_len(cedar_store *s, const uint8_t *uid, size_t uid_len, size_t *count);
 
-/* The keys of the attributes, or of the tags, of the entity with a uid become the answer of the handle, in the order of
- * their bytes. CEDAR_OK, CEDAR_CLOSED, CEDAR_NOT_A_UID, CEDAR_NO_ENTITY, CEDAR_NO_MEMORY; any but the first leaves the
- * answer. */
+/* Store the keys of the attributes, or of the tags, of the entity with a uid as the answer, in byte order. Return
+ * CEDAR_OK, CEDAR_CLOSED, CEDAR_NOT_A_UID, CEDAR_NO_ENTITY or CEDAR_NO_MEMORY. */
 uint32_t cedar_store_keys(cedar_store *s, const uint8_t *uid, size_t uid_len);
 uint32_t cedar_store_tag_keys(cedar_store *s, const uint8_t *uid, size_t uid_len);
 
-/* Whether the entity with a uid has an attribute, or a tag, at a key, in `has`, which is written at CEDAR_OK alone.
- * Where it has one, its partial value becomes the nodes of the handle, and the text that their parts are of the answer,
- * which is one text; elements of a set ascend, and so do the keys of a record. Where it has none, both stay.
- * CEDAR_OK, CEDAR_CLOSED, CEDAR_NOT_A_UID, CEDAR_NO_ENTITY, CEDAR_NOT_UTF8 where the key is not UTF-8, CEDAR_NO_MEMORY;
- * any but the first leaves the answer and the nodes. */
+/* Write to `has` whether the entity with a uid has an attribute, or a tag, at a key. If it has, store the nodes of its
+ * partial value, and their text as the answer, which is one text. Otherwise both stay. Elements of a set and keys of a
+ * record are in ascending order. Return CEDAR_OK, CEDAR_CLOSED, CEDAR_NOT_A_UID, CEDAR_NO_ENTITY, CEDAR_NOT_UTF8 if the
+ * key is not UTF-8, or CEDAR_NO_MEMORY. */
 uint32_t cedar_store_get(cedar_store *s, const uint8_t *uid, size_t uid_len, const uint8_t *key, size_t key_len,
                          bool *has);
 uint32_t cedar_store_get_tag(cedar_store *s, const uint8_t *uid, size_t uid_len, const uint8_t *key, size_t key_len,
                              bool *has);
 
-/* Whether the entities that two stores have with a uid have the same attributes, tags and ancestors, in `answer`, which
- * is written at CEDAR_OK alone. CEDAR_OK, CEDAR_CLOSED where one of the two is closed, CEDAR_NOT_A_UID, CEDAR_NO_ENTITY
- * where one has no such entity, CEDAR_NO_MEMORY. */
+/* Writes to `answer` whether the entities with a uid in two stores have the same attributes, tags and ancestors.
+ * Returns CEDAR_OK, CEDAR_CLOSED if one of the handles is closed, CEDAR_NOT_A_UID, CEDAR_NO_ENTITY if one of the stores
+ * has no such entity, or CEDAR_NO_MEMORY. */
 uint32_t cedar_store_entity_equal(cedar_store *s, const uint8_t *uid, size_t uid_len, cedar_store *other,
                                   bool *answer);
 
-/* The text of the store, or of the entity with a uid, becomes the answer of the handle, which is one text: for people
- * to read. An entity's has lines for its uid, its attributes and its ancestors; a store's has the texts of its
- * entities, each with a line feed behind it, in the order of uids. What the texts are is tested, and not proved. The
- * store's looks through all entities for each. CEDAR_OK, CEDAR_CLOSED, CEDAR_NO_MEMORY, of an entity CEDAR_NOT_A_UID
- * and CEDAR_NO_ENTITY too; any but the first leaves the answer. */
+/* Store the text of the store, or of the entity with a uid, as the answer: one text, for people. An entity has lines
+ * for its uid, its attributes and its ancestors. A store has the texts of its entities in ascending order of uid, each
+ * followed by a line feed. The texts are tested, not proved. The text of a store needs a list of one pointer per
+ * entity. If that list cannot be allocated, each entity is found by a scan of all entities, with the same result.
+ * Return CEDAR_OK, CEDAR_CLOSED or CEDAR_NO_MEMORY; for an entity also CEDAR_NOT_A_UID and CEDAR_NO_ENTITY. */
 uint32_t cedar_store_text(cedar_store *s);
 uint32_t cedar_store_entity_text(cedar_store *s, const uint8_t *uid, size_t uid_len);
 
-/* Looks for what is wrong with the store: with its ancestors, as CEDAR_ENFORCE does, and then with the entity that has
- * the least uid of those with a fault. CEDAR_OK where nothing is; CEDAR_CLOSED, CEDAR_NO_MEMORY; else the status of the
- * fault, from CEDAR_CYCLE to CEDAR_RESERVED_KEY. */
+/* Validates the store: first its ancestors, as CEDAR_ENFORCE does, then its entities. Among several invalid entities it
+ * reports the one with the least uid. Returns CEDAR_OK, CEDAR_CLOSED, CEDAR_NO_MEMORY, or the status of the fault, from
+ * CEDAR_CYCLE to CEDAR_RESERVED_KEY. */
 uint32_t cedar_store_validate(cedar_store *s);
 
-/* The slice of a store at some uids goes into another handle, and what that held before is freed: the entities with
- * these uids, and those that the store has among the ancestors of one of these. CEDAR_OK, CEDAR_CLOSED where `from` is
- * closed, CEDAR_BAD_ARGUMENT, CEDAR_NOT_A_UID, CEDAR_NO_MEMORY; any but the first leaves `to` as it was. */
+/* Fills the handle `to` with the slice of a store at some uids: the entities with these uids, and the stored entities
+ * among their ancestors. Frees the old contents of `to`. Returns CEDAR_OK, CEDAR_CLOSED if `from` is closed,
+ * CEDAR_BAD_ARGUMENT, CEDAR_NOT_A_UID or CEDAR_NO_MEMORY. */
 uint32_t cedar_store_slice(cedar_store *from, cedar_store *to, const uint8_t *text, size_t text_len,
                            const cedar_span *uids, size_t uids_len);
 
-/* A copy of a store, which shares its entities, goes into another handle of this thread, and what that held before is
- * freed. CEDAR_OK, CEDAR_CLOSED where `from` is closed, CEDAR_NO_MEMORY; any but the first leaves `to` as it was. */
+/* Fills the handle `to` of this thread with a copy of a store, which shares its entities. Frees the old contents of
+ * `to`. Returns CEDAR_OK, CEDAR_CLOSED if `from` is closed, or CEDAR_NO_MEMORY. */
 uint32_t cedar_store_copy(cedar_store *from, cedar_store *to);
 
-/* As `cedar_store_slice` and `cedar_store_copy`, but what goes into `to` shares nothing with another handle, so that
- * `to` may go to another thread; `from` stays apart where it was. All that goes there is copied, so they take memory
- * and time as building that does, but nothing is computed. That nothing is shared is tested, and not proved. */
+/* Do the same as `cedar_store_slice` and `cedar_store_copy`, with a deep copy: `to` shares nothing with another handle,
+ * so it may move to another thread. So may `from`, if it could before. They cost memory and time as building that store
+ * does, but compute no ancestors. That nothing is shared is tested, not proved. */
 uint32_t cedar_store_slice_apart(cedar_store *from, cedar_store *to, const uint8_t *text, size_t text_len,
                                  const cedar_span *uids, size_t uids_len);
 uint32_t cedar_store_copy_apart(cedar_store *from, cedar_store *to);
 
-/* Whether two stores are both partial or neither is, and have the same uids, under each of them entities with the same
- * attributes, tags, parents and ancestors, in `answer`, which is written at CEDAR_OK alone. CEDAR_OK, CEDAR_CLOSED.
- * Takes no memory. */
+/* Writes to `answer` whether two stores have the same uids, under each uid an entity with the same attributes, tags and
+ * ancestors, and are both partial or both not. Does not compare which ancestors are parents; neither does
+ * `cedar_store_entity_equal`. Returns CEDAR_OK or CEDAR_CLOSED. Does not allocate. */
 uint32_t cedar_store_equal(cedar_store *one, cedar_store *other, bool *answer);
 
-/* Copies out the bytes of the texts of the last answer, one after another, from byte `from` on, as many as there is
- * room for; and where each text starts and ends in them, from text `from` on. Both tell how many there are in all; a
- * closed handle has none. The last answer is that of the last call at CEDAR_OK of those that say so, as
- * `cedar_store_ancestors`: other calls leave it, `cedar_store_build` too, but behind `cedar_store_new`, and a
- * `cedar_store_slice` or `cedar_store_copy`, apart or not, into this handle, there is none. They take no memory. */
+/* Copy the bytes of all texts of the answer, one after another, from byte `from` on, or the span of each text in these
+ * bytes, from text `from` on, as many as fit. Return the number of all bytes, or of all texts, which is 0 for a closed
+ * handle. The answer is the answer of the last call at CEDAR_OK that stores one. Other calls leave it,
+ * `cedar_store_build` too. A handle has no answer after `cedar_store_new`, a slice or a copy filled it. Do not
+ * allocate. */
 size_t cedar_store_answer(cedar_store *s, size_t from, uint8_t *out, size_t room);
 size_t cedar_store_answer_spans(cedar_store *s, size_t from, cedar_span *out, size_t room);
 
-/* Copies out the nodes of the last value, from node `from` on, as many as there is room for, and tells how many there
- * are in all; a closed handle has none. The last value is that of the last `cedar_store_get` or `cedar_store_get_tag`
- * that told one, and the parts of its nodes are of the answer that this call left: other calls leave the nodes, also
- * where they give another answer, but behind the calls that leave no last answer there are none. Takes no memory. */
+/* Copies the nodes of the last value, from node `from` on, as many as fit. Returns the number of all nodes, which is 0
+ * for a closed handle. The last value is the value of the last `cedar_store_get` or `cedar_store_get_tag` that found
+ * one, and its parts refer to the answer of that call. Other calls leave the nodes, even if they store another answer.
+ * A handle without an answer, as described above, has no nodes either. Does not allocate. */
 size_t cedar_store_answer_nodes(cedar_store *s, size_t from, cedar_node *out, size_t room);
 
-/* Copies out the text of the last refusal of the store, from CEDAR_DUPLICATE to CEDAR_RESERVED_KEY, as much as there is
- * room for, and tells how long it is: words, and behind a blank each the uids that the refusal names. A call at any
- * other status leaves it as it was, at CEDAR_NO_MEMORY too; but behind the calls that leave no last answer there is
- * none. Takes no memory. */
+/* Copies the text of the last error of the store, from CEDAR_DUPLICATE to CEDAR_RESERVED_KEY, as much as fits. Returns
+ * the whole length, which is 0 for a closed handle. The text is the text of the status, then a blank and a uid or key
+ * for each name. A call with another status leaves it, also CEDAR_NO_MEMORY. After `cedar_store_new`, a slice or a copy
+ * into this handle there is none. Does not allocate. */
 size_t cedar_store_refusal(cedar_store *s, uint8_t *out, size_t room);
 
-/* ---- policy sets. A call that is refused, for memory too, leaves the set as it was. */
+/* ---- policy sets. A call that returns an error leaves the set as it was, also after a failed allocation. */
 
-/* The set without policies, whose maps hash by `seed` and `key`, goes into a handle; what that held before is freed.
- * CEDAR_OK, or CEDAR_NO_MEMORY, which leaves the handle as it was. */
+/* Opens a handle with an empty policy set, whose maps use `seed` and `key`. Frees the old contents of the handle.
+ * Returns CEDAR_OK or CEDAR_NO_MEMORY. */
 uint32_t cedar_policies_new(cedar_policies *p, uint64_t seed, uint64_t key);
 
-/* Frees what a handle holds, and closes it. A closed one stays closed. Takes no memory. */
+/* Frees the contents of a handle, and closes it. A closed handle stays closed. Does not allocate. */
 void cedar_policies_free(cedar_policies *p);
 
-/* A static policy with an id and an effect (0 permits, 1 forbids), which constrains nothing, joins the set. CEDAR_OK,
- * CEDAR_CLOSED, CEDAR_BAD_ARGUMENT where the effect is none, CEDAR_NOT_UTF8, CEDAR_OCCUPIED, CEDAR_NO_MEMORY. */
+/* Adds a static policy without constraints, with an id and an effect (0 permits, 1 forbids). Returns CEDAR_OK,
+ * CEDAR_CLOSED, CEDAR_BAD_ARGUMENT if the effect is invalid, CEDAR_NOT_UTF8, CEDAR_OCCUPIED or CEDAR_NO_MEMORY. */
 uint32_t cedar_policies_add_static(cedar_policies *p, const uint8_t *id, size_t id_len, uint32_t effect);
 
-/* A template with an id, an effect and slots joins the set. The slots are a sum: 1 for the principal's, 2 for the
- * action's, 4 for the resource's, and of each the constraint is to be equal to what it is bound to. CEDAR_OK,
- * CEDAR_CLOSED, CEDAR_BAD_ARGUMENT where the effect or the slots are none, CEDAR_NOT_UTF8, CEDAR_OCCUPIED,
- * CEDAR_NO_MEMORY. */
+/* Adds a template with an id, an effect and slots. The slots are a sum: 1 for the principal, 2 for the action, 4 for
+ * the resource. Each slot has the constraint to be equal to its binding. Returns CEDAR_OK, CEDAR_CLOSED,
+ * CEDAR_BAD_ARGUMENT if the effect or the slots are invalid, CEDAR_NOT_UTF8, CEDAR_OCCUPIED or CEDAR_NO_MEMORY. */
 uint32_t cedar_policies_add_template(cedar_policies *p, const uint8_t *id, size_t id_len, uint32_t effect,
                                      uint32_t slots);
 
-/* A static policy with an id and a body joins the set. What `body` says, and all of the lists, are parts of one text:
- * `annotations`, of which of several with one key the last counts; `uids`, in one of which the action has to be where
- * its kind is 3, and which are not looked at where it is another; and `nodes`, the one expression that is the clause:
- * where there is no node there is no clause.
+/* Adds a static policy with an id and a body. The parts of `body` and of all lists are parts of one text. Among
+ * annotations with one key the last counts. `uids` are the uids of an action constraint of kind 3, and are ignored for
+ * another kind. `nodes` are the clause; without nodes there is no clause. Returns CEDAR_OK, CEDAR_CLOSED,
+ * CEDAR_NO_MEMORY; then, before the set is read:
  *
- * CEDAR_OK, CEDAR_CLOSED, CEDAR_NO_MEMORY; before the set is asked, and without a text:
- * CEDAR_BAD_ARGUMENT: the effect or a kind is none, a part that is looked at is not within the text, or the nodes are
- *   no expression's.
- * CEDAR_NOT_A_UID: the part of a uid, of a CEDAR_UID too, is no uid's text.
- * CEDAR_NOT_A_NAME: that of a type, or of a node that names a function or a type, is no name; or that of a key is no
- *   identifier.
- * CEDAR_NOT_UTF8: the id, the value of an annotation, or the part of a node that has a string or a name is not UTF-8.
- * CEDAR_TOO_DEEP: the clause has too many levels.
- * With a text, and in this order: CEDAR_NOT_STATIC where a slot stands in a constraint or in the clause, and
- * CEDAR_OCCUPIED. */
+ * - CEDAR_BAD_ARGUMENT: the effect or a kind is invalid, a part in use is out of range, or the nodes are no expression.
+ * - CEDAR_NOT_A_UID: the part of a uid, also of a CEDAR_UID, is not the text of a uid.
+ * - CEDAR_NOT_A_NAME: a type, or the function or type of a node, is not a name, or a key is not an identifier.
+ * - CEDAR_NOT_UTF8: the id, the value of an annotation, or the string or name of a node is not UTF-8.
+ * - CEDAR_TOO_DEEP: the clause has too many levels.
+ *
+ * Then, with a text, in this order: CEDAR_NOT_STATIC if a constraint or the clause has a slot; CEDAR_OCCUPIED. */
 uint32_t cedar_policies_add_static_with(cedar_policies *p, const uint8_t *id, size_t id_len, const uint8_t *text,
                                         size_t text_len, const cedar_body *body, const cedar_annotation *annotations,
                                         size_t annotations_len, const cedar_span *uids, size_t uids_len,
                                         const cedar_node *nodes, size_t nodes_len);
 
-/* A template with an id and a body, given as above, joins the set; its slots are those of its constraints and of its
- * clause, and there may be none. The statuses are the same but for CEDAR_NOT_STATIC. */
+/* Adds a template with an id and a body, in the form above. Its slots are the slots of its constraints and of its
+ * clause; it may have none. Returns the statuses of `cedar_policies_add_static_with`, except CEDAR_NOT_STATIC. */
 uint32_t cedar_policies_add_template_with(cedar_policies *p, const uint8_t *id, size_t id_len, const uint8_t *text,
                                           size_t text_len, const cedar_body *body,
                                           const cedar_annotation *annotations, size_t annotations_len,
                                           const cedar_span *uids, size_t uids_len, const cedar_node *nodes,
                                           size_t nodes_len);
 
-/* A link of a template joins the set under an id. Three parts of a text say what the principal's, the action's and the
- * resource's slot are bound to; an empty part leaves its slot unbound. CEDAR_OK, CEDAR_CLOSED, CEDAR_BAD_ARGUMENT where
- * there are not three parts or one is not within the text, CEDAR_NOT_A_UID, CEDAR_NOT_UTF8, CEDAR_NO_MEMORY; and in
- * this order CEDAR_NO_SUCH_TEMPLATE, CEDAR_ARITY, CEDAR_NOT_AN_ACTION, CEDAR_ID_CONFLICT. */
+/* Adds a link of a template, with its own id. Three parts of a text are the bindings of the slots of principal, action
+ * and resource; an empty part leaves its slot unbound. Returns CEDAR_OK, CEDAR_CLOSED, CEDAR_BAD_ARGUMENT if there are
+ * not three parts or a part is not within the text, CEDAR_NOT_A_UID, CEDAR_NOT_UTF8, CEDAR_NO_MEMORY; then, in this
+ * order, CEDAR_NO_SUCH_TEMPLATE, CEDAR_ARITY, CEDAR_NOT_AN_ACTION, CEDAR_ID_CONFLICT. */
 uint32_t cedar_policies_link(cedar_policies *p, const uint8_t *template_id, size_t template_id_len, const uint8_t *id,
                              size_t id_len, const uint8_t *text, size_t text_len, const cedar_span *values,
                              size_t values_len);
 
-/* The link with an id goes. CEDAR_OK, CEDAR_CLOSED, CEDAR_NOT_UTF8, CEDAR_NO_LINK, CEDAR_NOT_A_LINK, CEDAR_NO_MEMORY.
- */
+/* Removes the link with an id. Returns CEDAR_OK, CEDAR_CLOSED, CEDAR_NOT_UTF8, CEDAR_NO_LINK, CEDAR_NOT_A_LINK or
+ * CEDAR_NO_MEMORY. */
 uint32_t cedar_policies_unlink(cedar_policies *p, const uint8_t *id, size_t id_len);
 
-/* The static policy with an id goes. CEDAR_OK, CEDAR_CLOSED, CEDAR_NOT_UTF8, CEDAR_NO_STATIC, CEDAR_NOT_STATIC,
- * CEDAR_NO_MEMORY. */
+/* Removes the static policy with an id. Returns CEDAR_OK, CEDAR_CLOSED, CEDAR_NOT_UTF8, CEDAR_NO_STATIC,
+ * CEDAR_NOT_STATIC or CEDAR_NO_MEMORY. */
 uint32_t cedar_policies_remove_static(cedar_policies *p, const uint8_t *id, size_t id_len);
 
-/* The template with an id goes. CEDAR_OK, CEDAR_CLOSED, CEDAR_NOT_UTF8, CEDAR_NO_TEMPLATE, CEDAR_WITH_LINKS,
- * CEDAR_NOT_A_TEMPLATE, CEDAR_NO_MEMORY. */
+/* Removes the template with an id. Returns CEDAR_OK, CEDAR_CLOSED, CEDAR_NOT_UTF8, CEDAR_NO_TEMPLATE, CEDAR_WITH_LINKS,
+ * CEDAR_NOT_A_TEMPLATE or CEDAR_NO_MEMORY. */
 uint32_t cedar_policies_remove_template(cedar_policies *p, const uint8_t *id, size_t id_len);
 
-/* What another set binds joins the set; the other stays as it is. An id that both bind to different things conflicts:
- * with `rename` it gets the next of policy0, policy1 and so on that neither binds, and else the first is refused. At
- * CEDAR_OK the answer of the handle is the renaming: each id that was renamed, and behind it its new one. CEDAR_OK,
- * CEDAR_CLOSED where one of the two is closed, CEDAR_OCCUPIED, CEDAR_NO_MEMORY; any but the first leaves the answer. */
+/* Merges another set into this one; the other set stays. An id that both sets use differently is a conflict. With
+ * `rename` it gets the first of policy0, policy1 and so on that neither set uses. Otherwise the first conflict is an
+ * error. Stores each renamed id, followed by its new id, as the answer. Returns CEDAR_OK, CEDAR_CLOSED if one of the
+ * handles is closed, CEDAR_OCCUPIED or CEDAR_NO_MEMORY. */
 uint32_t cedar_policies_merge(cedar_policies *p, cedar_policies *other, bool rename);
 
-/* As `cedar_policies_merge`, but what joins is copied and shares nothing with the other: both stay apart where they
- * were. */
+/* Does the same as `cedar_policies_merge`, with a deep copy: the added policies and templates share nothing with the
+ * other set. Both handles may still move to another thread, if they could before. */
 uint32_t cedar_policies_merge_apart(cedar_policies *p, cedar_policies *other, bool rename);
 
-/* The ids of the bodies (static policies and templates), for 0, or of the policies (static policies and links), for 1,
- * become the answer of the handle, in the order in which they joined. CEDAR_OK, CEDAR_CLOSED, CEDAR_BAD_ARGUMENT,
- * CEDAR_NO_MEMORY; any but the first leaves the answer. */
+/* Stores ids as the answer, in insertion order: for `kind` 0 of the bodies (static policies and templates), for 1 of
+ * the policies (static policies and links). Returns CEDAR_OK, CEDAR_CLOSED, CEDAR_BAD_ARGUMENT or CEDAR_NO_MEMORY. */
 uint32_t cedar_policies_ids(cedar_policies *p, uint32_t kind);
 
-/* What an id is bound to, in `kind`, which is written at CEDAR_OK alone: 1 for a static policy, 2 for a link, 3 for a
- * template, 0 for nothing. CEDAR_OK, CEDAR_CLOSED, CEDAR_NOT_UTF8, CEDAR_NO_MEMORY. */
+/* Writes the kind of an id to `kind`: 1 for a static policy, 2 for a link, 3 for a template, and 0 if the id is not in
+ * use. Returns CEDAR_OK, CEDAR_CLOSED, CEDAR_NOT_UTF8 or CEDAR_NO_MEMORY. */
 uint32_t cedar_policies_get(cedar_policies *p, const uint8_t *id, size_t id_len, uint32_t *kind);
 
-/* The effect of what an id is bound to, in `effect`, which is written at CEDAR_OK alone: 0 permits, 1 forbids. A link
- * has that of its template. CEDAR_OK, CEDAR_CLOSED, CEDAR_NOT_UTF8, CEDAR_NO_BODY where the id is bound to nothing,
+/* Writes the effect of the policy or template with an id to `effect`: 0 permits, 1 forbids. A link has the effect of
+ * its template. Returns CEDAR_OK, CEDAR_CLOSED, CEDAR_NOT_UTF8, CEDAR_NO_BODY if the id is not in use, or
  * CEDAR_NO_MEMORY. */
 uint32_t cedar_policies_effect(cedar_policies *p, const uint8_t *id, size_t id_len, uint32_t *effect);
 
-/* The slots of the template with an id, in `slots`, which is written at CEDAR_OK alone, as the sum that
- * `cedar_policies_add_template` takes. A static policy has none of them. CEDAR_OK, CEDAR_CLOSED, CEDAR_NOT_UTF8,
- * CEDAR_NO_BODY where the id is no template's and no static policy's, CEDAR_NO_MEMORY. */
+/* Writes the slots of the template with an id to `slots`, as the sum that `cedar_policies_add_template` takes. A static
+ * policy has no slots. Returns CEDAR_OK, CEDAR_CLOSED, CEDAR_NOT_UTF8, CEDAR_NO_BODY if the id is neither the id of a
+ * template nor of a static policy, or CEDAR_NO_MEMORY. */
 uint32_t cedar_policies_slots(cedar_policies *p, const uint8_t *id, size_t id_len, uint32_t *slots);
 
-/* The annotation at a key, of what an id is bound to: `has`, which is written at CEDAR_OK alone, says whether there is
- * one, and its value is the answer of the handle then; where there is none the answer has no text. A link has those of
- * its template. CEDAR_OK, CEDAR_CLOSED, CEDAR_NOT_UTF8, CEDAR_NOT_A_NAME where the key is no identifier, CEDAR_NO_BODY
- * where the id is bound to nothing, CEDAR_NO_MEMORY; any but the first leaves the answer. */
+/* Writes to `has` whether the policy or template with an id has an annotation with a key. Stores the value as the
+ * answer, which has no text if there is no annotation. A link has the annotations of its template. Returns CEDAR_OK,
+ * CEDAR_CLOSED, CEDAR_NOT_UTF8, CEDAR_NOT_A_NAME if the key is not an identifier, CEDAR_NO_BODY if the id is not in
+ * use, or CEDAR_NO_MEMORY. */
 uint32_t cedar_policies_annotation(cedar_policies *p, const uint8_t *id, size_t id_len, const uint8_t *key,
                                    size_t key_len, bool *has);
 
-/* The annotations of what an id is bound to become the answer of the handle, in the order of the bytes of their keys:
- * each key, and behind it its value. CEDAR_OK, CEDAR_CLOSED, CEDAR_NOT_UTF8, CEDAR_NO_BODY where the id is bound to
- * nothing, CEDAR_NO_MEMORY; any but the first leaves the answer. */
+/* Stores the annotations of the policy or template with an id as the answer, in byte order of their keys: each key,
+ * followed by its value. Returns CEDAR_OK, CEDAR_CLOSED, CEDAR_NOT_UTF8, CEDAR_NO_BODY if the id is not in use, or
+ * CEDAR_NO_MEMORY. */
 uint32_t cedar_policies_annotations(cedar_policies *p, const uint8_t *id, size_t id_len);
 
-/* What the principal, for 0, the action, for 1, or the resource, for 2, has to be by what an id is bound to: its kind,
- * that of a `cedar_scope`, is in `kind`, which is written at CEDAR_OK alone, and its texts become the answer of the
- * handle: the name of the type, where there is one, and behind it the text of the uid, or of each uid. Of a link the
- * slots are filled, and an action that is to be in what its slot is bound to is in a list of one. CEDAR_OK,
- * CEDAR_CLOSED, CEDAR_BAD_ARGUMENT where `which` is none of the three, CEDAR_NOT_UTF8, CEDAR_NO_BODY where the id is
- * bound to nothing, CEDAR_NO_MEMORY; any but the first leaves the answer. */
+/* Writes the kind of a constraint of the policy or template with an id to `kind`, as in `cedar_scope`: of the principal
+ * (`which` 0), the action (1) or the resource (2). Stores its texts as the answer: the name of the type, if there is
+ * one, followed by the text of each uid. For a link the slots are filled; an action constraint `in` a slot becomes a
+ * list of one uid. Returns CEDAR_OK, CEDAR_CLOSED, CEDAR_BAD_ARGUMENT if `which` is invalid, CEDAR_NOT_UTF8,
+ * CEDAR_NO_BODY if the id is not in use, or CEDAR_NO_MEMORY. */
 uint32_t cedar_policies_scope(cedar_policies *p, const uint8_t *id, size_t id_len, uint32_t which, uint32_t *kind);
 
-/* Whether what an id is bound to has a clause, in `has`, which is written at CEDAR_OK alone. Where it has one, that
- * expression becomes the nodes of the handle, and the text that their parts are of the answer, which is one text. Where
- * it has none, both stay. A link has that of its template, with its slots. CEDAR_OK, CEDAR_CLOSED, CEDAR_NOT_UTF8,
- * CEDAR_NO_BODY where the id is bound to nothing, CEDAR_NO_MEMORY; any but the first leaves the answer and the nodes.
- */
+/* Writes to `has` whether the policy or template with an id has a clause. If it has, stores the nodes of the clause,
+ * and their text as the answer, which is one text. Otherwise both stay. A link has the clause of its template, with its
+ * slots. Returns CEDAR_OK, CEDAR_CLOSED, CEDAR_NOT_UTF8, CEDAR_NO_BODY if the id is not in use, or CEDAR_NO_MEMORY. */
 uint32_t cedar_policies_clause(cedar_policies *p, const uint8_t *id, size_t id_len, bool *has);
 
-/* The condition of what an id is bound to becomes the nodes and the answer so: that the principal is what it has to be,
- * and (the action is, and (the resource is, and the clause holds)), with `true` for each that asks nothing. A link has
- * that of its template, with its slots. The statuses are those of `cedar_policies_clause`. */
+/* Stores the nodes and the text of the condition of the policy or template with an id in the same way. The condition
+ * is: principal constraint and (action constraint and (resource constraint and clause)), with `true` for each one that
+ * is missing. A link has the condition of its template, with its slots. Returns the statuses of
+ * `cedar_policies_clause`. */
 uint32_t cedar_policies_condition(cedar_policies *p, const uint8_t *id, size_t id_len);
 
-/* What the principal's, the action's and the resource's slot are bound to, by the link with an id, becomes the answer
- * of the handle: three texts of uids, an empty one where there is no such slot. A static policy binds nothing.
- * CEDAR_OK, CEDAR_CLOSED, CEDAR_NOT_UTF8, CEDAR_NO_BODY where the id is no link's and no static policy's,
- * CEDAR_NO_MEMORY; any but the first leaves the answer. */
+/* Stores the bindings of the link with an id as the answer: three texts of uids, for principal, action and resource. A
+ * text is empty if there is no such slot. A static policy binds nothing. Returns CEDAR_OK, CEDAR_CLOSED,
+ * CEDAR_NOT_UTF8, CEDAR_NO_BODY if there is no policy with the id, or CEDAR_NO_MEMORY. */
 uint32_t cedar_policies_env(cedar_policies *p, const uint8_t *id, size_t id_len);
 
-/* The id of the template of the link with an id becomes the answer of the handle, one text; of a static policy it is
- * its own. The statuses are those of `cedar_policies_env`. */
+/* Stores the id of the template of the link with an id as the answer, one text. For a static policy it is its own id.
+ * Returns the statuses of `cedar_policies_env`. */
 uint32_t cedar_policies_template_id(cedar_policies *p, const uint8_t *id, size_t id_len);
 
-/* The ids of the links of the template with an id become the answer of the handle, in the order in which they joined;
- * of a static policy it is its own id. CEDAR_OK, CEDAR_CLOSED, CEDAR_NOT_UTF8, CEDAR_NO_BODY where the id is no
- * template's and no static policy's, CEDAR_NO_MEMORY; any but the first leaves the answer. */
+/* Stores the ids of the links of the template with an id as the answer, in insertion order. For a static policy it is
+ * its own id. Returns CEDAR_OK, CEDAR_CLOSED, CEDAR_NOT_UTF8, CEDAR_NO_BODY if the id is neither the id of a template
+ * nor of a static policy, or CEDAR_NO_MEMORY. */
 uint32_t cedar_policies_linked(cedar_policies *p, const uint8_t *id, size_t id_len);
 
-/* The text of the set; of the static policy or the link with an id; of the template or the static policy with an id:
- * each becomes the answer of the handle, one text, for people to read. What it is, is proved where all that stands in
- * it is ASCII. CEDAR_OK, CEDAR_CLOSED, CEDAR_NO_MEMORY; of the last two CEDAR_NOT_UTF8, and CEDAR_NO_BODY where the id
- * is bound to nothing of the kind; any but the first leaves the answer. */
+/* Store a text for people as the answer, one text: of the set; of the static policy or link with an id; of the template
+ * or static policy with an id. The text is proved only if all its contents are ASCII. Return CEDAR_OK, CEDAR_CLOSED or
+ * CEDAR_NO_MEMORY; the last two also CEDAR_NOT_UTF8, and CEDAR_NO_BODY if there is nothing of the kind with the id. */
 uint32_t cedar_policies_text(cedar_policies *p);
 uint32_t cedar_policies_policy_text(cedar_policies *p, const uint8_t *id, size_t id_len);
 uint32_t cedar_policies_template_text(cedar_policies *p, const uint8_t *id, size_t id_len);
 
-/* The uids that unknowns of the condition of the link or the static policy with an id name become the answer of the
- * handle: their texts, in the order of uids, each once. They are the names of those CEDAR_UNKNOWN that have a type and
- * the text of a uid for a name. CEDAR_OK, CEDAR_CLOSED, CEDAR_NOT_UTF8, CEDAR_NO_BODY where the id is no link's and no
- * static policy's, CEDAR_NO_MEMORY; any but the first leaves the answer. */
+/* Stores the uids that unknowns name in the condition of the link or static policy with an id as the answer, in
+ * ascending order of uid, each once. They are the names of the CEDAR_UNKNOWN nodes that have a type and whose name is
+ * the text of a uid. Returns CEDAR_OK, CEDAR_CLOSED, CEDAR_NOT_UTF8, CEDAR_NO_BODY if there is no policy with the id,
+ * or CEDAR_NO_MEMORY. */
 uint32_t cedar_policies_unknown_entities(cedar_policies *p, const uint8_t *id, size_t id_len);
 
-/* Looks for what is wrong with the set, which a parser would not have made. CEDAR_OK where nothing is; else the status
- * of the first fault: CEDAR_SLOTLESS_LINK of the first link, in the order of policies, of a template without slots;
- * else that of the first body, in the order of bodies, that has one of the three, in this order: CEDAR_SLOT_IN_CLAUSE,
- * which no static policy has, for none joins so; CEDAR_NOT_ACTIONS; CEDAR_UNKNOWN_FUNCTION. CEDAR_CLOSED,
- * CEDAR_NO_MEMORY. The set and the answer stay as they were. It costs a copy of the set, which shares its bodies, and
- * of one body after another a copy, which shares the clause, and a walk over the clause. */
+/* Validates the set: finds faults that a parser would not have produced. Returns CEDAR_OK, CEDAR_CLOSED,
+ * CEDAR_NO_MEMORY, or the status of the first fault: CEDAR_SLOTLESS_LINK of the first link, in the order of policies,
+ * whose template has no slots; otherwise of the first faulty body, in the order of bodies, one of CEDAR_SLOT_IN_CLAUSE
+ * (templates only), CEDAR_NOT_ACTIONS, CEDAR_UNKNOWN_FUNCTION, in this order. The set and the answer stay. Copies the
+ * set, which shares its bodies; then copies each body in turn, which shares its clause, and scans the clause. */
 uint32_t cedar_policies_validate(cedar_policies *p);
 
-/* A copy of a set goes into another handle of this thread, and what that held before is freed. CEDAR_OK, CEDAR_CLOSED
- * where `from` is closed, CEDAR_NO_MEMORY; any but the first leaves `to` as it was. */
+/* Fills the handle `to` of this thread with a copy of a set. Frees the old contents of `to`. Returns CEDAR_OK,
+ * CEDAR_CLOSED if `from` is closed, or CEDAR_NO_MEMORY. */
 uint32_t cedar_policies_copy(cedar_policies *from, cedar_policies *to);
 
-/* As `cedar_policies_copy`, but what goes into `to` shares nothing with another handle, so that `to` may go to another
- * thread. All that the set holds is copied. That nothing is shared is tested, and not proved. */
+/* Does the same as `cedar_policies_copy`, with a deep copy of the whole set: `to` shares nothing with another handle,
+ * so it may move to another thread. That nothing is shared is tested, not proved. */
 uint32_t cedar_policies_copy_apart(cedar_policies *from, cedar_policies *to);
 
-/* Whether two sets bind equal things in equal orders, in `answer`, which is written at CEDAR_OK alone. CEDAR_OK,
- * CEDAR_CLOSED. Takes no memory. */
+/* Writes to `answer` whether two sets have equal bodies and policies in the same order. Returns CEDAR_OK or
+ * CEDAR_CLOSED. Does not allocate. */
 uint32_t cedar_policies_equal(cedar_policies *one, cedar_policies *other, bool *answer);
 
-/* Copy out the last answer, the bytes of its texts and where each starts and ends in them, as the two of a store do.
- * The last answer is that of the last call at CEDAR_OK of those that say so, as `cedar_policies_ids`; behind
- * `cedar_policies_new`, and a `cedar_policies_copy`, apart or not, into this handle, there is none. They take no
- * memory. */
+/* Copy the bytes of all texts of the answer, or the span of each text, as `cedar_store_answer` and
+ * `cedar_store_answer_spans` do. The answer is the answer of the last call at CEDAR_OK that stores one, for example
+ * `cedar_policies_ids`. A handle has no answer after `cedar_policies_new` or a copy, deep or not, filled it. Do not
+ * allocate. */
 size_t cedar_policies_answer(cedar_policies *p, size_t from, uint8_t *out, size_t room);
 size_t cedar_policies_answer_spans(cedar_policies *p, size_t from, cedar_span *out, size_t room);
 
-/* Copies out the nodes of the last expression, from node `from` on, as many as there is room for, and tells how many
- * there are in all; a closed handle has none. The last expression is that of the last `cedar_policies_clause` that told
- * one, or `cedar_policies_condition`, and the parts of its nodes are of the answer that this call left: other calls
- * leave the nodes, also where they give another answer, but behind the calls that leave no last answer there are none.
- * Takes no memory. */
+/* Copies the nodes of the last expression, from node `from` on, as many as fit. Returns the number of all nodes, which
+ * is 0 for a closed handle. The last expression is the expression of the last `cedar_policies_clause` that found one,
+ * or of the last `cedar_policies_condition`. Its parts refer to the answer of that call. Other calls leave the nodes,
+ * even if they store another answer. A handle without an answer, as described above, has no nodes either. Does not
+ * allocate. */
 size_t cedar_policies_answer_nodes(cedar_policies *p, size_t from, cedar_node *out, size_t room);
 
-/* Copies out the text of the last refusal of the set, from CEDAR_OCCUPIED to CEDAR_NOT_STATIC, or from
- * CEDAR_SLOT_IN_CLAUSE on, as much as there is room for, and tells how long it is: words, a blank, and the id, the
- * slots or the uid that the refusal names. A call at any other status leaves it as it was, at CEDAR_NO_MEMORY too; but
- * behind the calls that leave no last answer there is none. Takes no memory. */
+/* Copies the text of the last error of the set, from CEDAR_OCCUPIED to CEDAR_NOT_STATIC, or from CEDAR_SLOT_IN_CLAUSE
+ * on, as much as fits. Returns the whole length, which is 0 for a closed handle. The text is the text of the status, a
+ * blank, and the id, the slots or the uid of the error. A call with another status leaves it, also CEDAR_NO_MEMORY.
+ * After `cedar_policies_new` or a copy into this handle there is none. Does not allocate. */
 size_t cedar_policies_refusal(cedar_policies *p, uint8_t *out, size_t room);
 
 #ifdef __cplusplus

@@ -1,4 +1,4 @@
-/* Ten tasks of who writes an authorizer or an administration service: docs/GUIDE.md quotes most of these functions. */
+/* Ten tasks of an authorizer or an administration service. docs/GUIDE.md quotes most of these functions. */
 #include "cedar.h"
 #include <assert.h>
 #include <stdio.h>
@@ -17,7 +17,7 @@
 
 static uint64_t key[2];
 
-/* A text as the calls take it, and a list of uids: one text, and the part of it that is each. */
+/* The two arguments of a call for a text, and a list of uids: one text and the span of each uid in it. */
 #define TEXT(text) (const uint8_t *)(text), strlen(text)
 #define LIST(...) listed((const char *const[]){__VA_ARGS__, NULL})
 #define PARTS(l) (l).text, (l).text_len, (l).parts, (l).count
@@ -99,7 +99,7 @@ static uint32_t add_and_link(cedar_policies *set) {
     return status;
 }
 
-/* What a set answered last, and the text at a place of it as `printf` takes it. */
+/* The last result of a set, and the arguments of `printf` for one of its texts. */
 #define SHOWN(a, at) (int)((a).ids[at].end - (a).ids[at].start), (a).text + (a).ids[at].start
 
 typedef struct answer {

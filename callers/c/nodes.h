@@ -1,14 +1,18 @@
-/* Values and expressions as short texts, for the tests in C: words with blanks between them, in the order of the nodes.
- * `t` and `f` are truth values, `12` a number, `'abc` a string, `@a` the uid A::"a", `{2` a set of two, `[1` a record
- * of a pair, `ip(1` a call on one, `$0` a variable, `?1` a slot, `~x:0` an unknown without a type, `!` a negation, `&`,
- * `=` and `<` the kinds for two, `^User` a test of a type, and `*` the mark that an expression is left over. */
+/* Values and expressions as short texts, for the tests in C. A text has one word for each node, in the order of the
+ * nodes, separated by spaces:
+ *
+ * - `t`, `f`: a Boolean; `12`: a number; `'abc`: a string; `@a`: the uid A::"a"
+ * - `{2`: a set of two elements; `[1`: a record of one pair; `ip(1`: a call with one argument
+ * - `$0`: a variable; `?1`: a slot; `~x:0`: an unknown without a type
+ * - `!`: a negation; `&`, `=`, `<`: the binary operators; `^User`: a test of a type
+ * - `*`: the mark of a residual expression */
 #ifndef CEDAR_NODES_H
 #define CEDAR_NODES_H
 #include "short.h"
 
 #define MOST_NODES 64
 
-/* Entities with their content, as a caller lays them out. */
+/* Encoded entities with their content. */
 typedef struct content {
     list l;
     cedar_edge above[MOST];
@@ -29,7 +33,7 @@ static inline content with_entities(const char *spec) {
     return c;
 }
 
-/* More bytes in the text, which are no uid of the list. */
+/* Appends bytes to the text without adding a uid to the list. */
 static inline cedar_span put_bytes(content *c, const char *text, size_t len) {
     cedar_span at = {c->l.text_len, c->l.text_len + len};
     memcpy(c->l.text + c->l.text_len, text, len);
@@ -41,7 +45,7 @@ static inline void put_node(content *c, uint32_t kind, size_t len, cedar_span at
     c->nodes[c->nodes_len++] = (cedar_node){kind, len, at, number};
 }
 
-/* The node of one word. */
+/* Appends the node of one word. */
 static inline void put_word(content *c, const char *word, size_t len) {
     const cedar_span none = {0, 0};
     const char *open = memchr(word, '(', len), *colon = word + len;
@@ -84,7 +88,7 @@ static inline void put_nodes(content *c, const char *words) {
     }
 }
 
-/* An attribute, for 0, or a tag, for 1, of the entity at a place, whose value is these words. */
+/* Adds an attribute (`part` 0) or a tag (1) with the value of these words to the entity with index `of`. */
 static inline cedar_term *put_term(content *c, size_t of, uint32_t part, const char *key, const char *words) {
     cedar_term *term = &c->terms[c->terms_len++];
     size_t from = c->nodes_len;
@@ -93,7 +97,7 @@ static inline cedar_term *put_term(content *c, size_t of, uint32_t part, const c
     return term;
 }
 
-/* ---- what is read */
+/* ---- reads */
 
 static inline size_t put_out(char *out, size_t room, const uint8_t *text, const cedar_node *n) {
     int len = (int)(n->at.end - n->at.start);
@@ -119,7 +123,7 @@ static inline size_t put_out(char *out, size_t room, const uint8_t *text, const 
     }
 }
 
-/* The nodes of the last value, over the last answer, as words. */
+/* Returns the nodes of the last value as words. */
 static inline const char *store_value(cedar_store *s) {
     static char out[ROOM];
     uint8_t text[ROOM];
@@ -131,7 +135,7 @@ static inline const char *store_value(cedar_store *s) {
     return out;
 }
 
-/* The attribute, for 0, or the tag, for 1, at a key as words, `none`, or the status. */
+/* Returns the attribute (`part` 0) or the tag (1) with this key as words, `none` if there is none, or the status. */
 static inline const char *value_at(cedar_store *s, const char *uid, uint32_t part, const char *key) {
     static char status_text[16];
     bool has = false;

@@ -1,8 +1,8 @@
-/* Numbers of uids, and reads of uids of many types: worked cases, each status, and handles that are closed. Prints what
- * fails, and ends with `N passed, M failed`. */
+/* Tests of numbers of uids, and of uids with many types: examples, each status, and closed handles. Prints each
+ * failure, and ends with `N passed, M failed`. */
 #include "short.h"
 
-/* What a call tells: a number, or 100 and the status. */
+/* Returns the number of a uid, or 100 plus the status. */
 static unsigned numbered(cedar_store *s, const char *uid) {
     size_t number = 9;
     uint32_t status = cedar_store_uid_number(s, TEXT(uid), &number);
@@ -49,7 +49,8 @@ static void asking(void) {
     cedar_store_free(&s);
 }
 
-/* Whatever becomes of the store its numbers stay; a copy, a slice and a new store have none. */
+/* Checks that numbers survive every change of the store, and that a copy, a slice and a new store begin without
+ * numbers. */
 static void staying(void) {
     cedar_store s = {0}, t = {0};
     CHECK(new_store(&s) == CEDAR_OK && build(&s, "a b;b c", CEDAR_COMPUTE) == CEDAR_OK);
@@ -74,7 +75,7 @@ static void closed(void) {
     CHECK(cedar_store_number_uid(&s, 0) == CEDAR_CLOSED && !s.is_open);
 }
 
-/* A handle remembers few types by their texts; each uid of others is read as before. */
+/* Checks uids of more types than a handle caches. */
 static void many_types(void) {
     cedar_store s = {0};
     char uid[32], other[32];

@@ -1,18 +1,18 @@
-/* Makes each call of the library again and again, each time with a later request for memory refused, until none is. A
- * call whose request is refused answers CEDAR_NO_MEMORY, leaves what cedar.h says, and is then made once more, with all
- * memory that it wants, and answers and leaves what it would have at once. Or it does without that memory, and does so
- * at once. Last come the calls that take no memory: they make no request. Prints what fails, and ends with `N passed, M
- * failed`. Built with `-Wl,--wrap=malloc -Wl,--wrap=realloc`. */
+/* Repeats each call of the library, each time with a later allocation failing, until none fails. A call whose
+ * allocation fails returns CEDAR_NO_MEMORY and leaves what cedar.h says. It is then repeated with all the memory that
+ * it needs, and must return and leave what it would have without the failure. Or it does without the memory, and does
+ * all that in the first call. Last are the calls that do not allocate: they make no request. Prints each failed check,
+ * and ends with `N passed, M failed`. Build it with `-Wl,--wrap=malloc -Wl,--wrap=realloc`. */
 #include "bodies.h"
 
-/* ---- the refuser */
+/* ---- failing allocations */
 
-static long due_in;  /* in how many requests one is refused; 0 for never */
-static long refused; /* how many were */
-static long asked;   /* how many were made */
+static long due_in;  /* the number of requests until one fails; 0 for never */
+static long refused; /* the number of failed requests */
+static long asked;   /* the number of all requests */
 
-static long refusals;     /* how often a call answered CEDAR_NO_MEMORY */
-static long done_without; /* how often it did without the memory that was refused, and answered what was due */
+static long refusals;     /* how often a call returned CEDAR_NO_MEMORY */
+static long done_without; /* how often a call did without the failed request and returned the expected result */
 
 void *__real_malloc(size_t size);
 void *__real_realloc(void *at, size_t size);
@@ -29,17 +29,17 @@ static bool refuses(void) {
 void *__wrap_malloc(size_t size) { return refuses() ? NULL : __real_malloc(size); }
 void *__wrap_realloc(void *at, size_t size) { return refuses() ? NULL : __real_realloc(at, size); }
 
-/* ---- what the calls are made on */
+/* ---- the handles of the calls */
 
 #define FAULTS 4
 
 typedef struct held {
     cedar_store s, t;
     cedar_policies p, q;
-    cedar_policies faulty[FAULTS]; /* of each fault one, from CEDAR_SLOT_IN_CLAUSE on */
+    cedar_policies faulty[FAULTS]; /* one for each fault, from CEDAR_SLOT_IN_CLAUSE on */
 } held;
 
-/* Of a, b and x the first has an attribute and a tag. */
+/* Returns the content of a, b and x, of which a has an attribute and a tag. */
 static content some_content(void) {
     content c = with_entities("a b;b c;x c");
     put_term(&c, 0, 0, "k", "'x '10.0.0.1 ip(1 'y @b 'z {2 [2");
@@ -52,8 +52,8 @@ static uint32_t build_some(cedar_store *s) {
     return cedar_store_build_with(s, CONTENT(c), CEDAR_COMPUTE);
 }
 
-/* A template with a slot in its clause, one for what is no action, a call of no known function, and a link without
- * slots. */
+/* Creates a template with a slot in its clause, one with an action constraint that is not an action, a call of an
+ * unknown function, and a link without slots. */
 static void set_up_faults(cedar_policies *faulty) {
     for (size_t k = 0; k < FAULTS; k++) {
         given g = given_nothing();
@@ -65,7 +65,7 @@ static void set_up_faults(cedar_policies *faulty) {
     }
 }
 
-/* Each handle is open, and has an answer and the text of a refusal; the first has nodes. */
+/* Opens each handle, with an answer and the text of an error; the first handle also has nodes. */
 static void set_up(held *h) {
     memset(h, 0, sizeof *h);
     CHECK(new_store(&h->s) == CEDAR_OK && build(&h->s, "m m", CEDAR_COMPUTE) == CEDAR_CYCLE);
@@ -100,7 +100,7 @@ static void let_go(held *h) {
     for (size_t k = 0; k < FAULTS; k++) cedar_policies_free(&h->faulty[k]);
 }
 
-/* ---- the calls that take memory */
+/* ---- the calls that allocate */
 
 #define CALL(name, made)            \
     static uint32_t name(held *h) { \
@@ -108,7 +108,7 @@ static void let_go(held *h) {
         return made;                \
     }
 
-/* 99 where an answer that was not due was written, or another than the due one. */
+/* Returns 99 if an answer was written after an error, or a wrong answer was written. */
 static uint32_t truth(uint32_t status, bool answer, bool want) { return answer == (!status && want) ? status : 99; }
 
 static uint32_t runs(held *h) {
@@ -137,7 +137,7 @@ static uint32_t asks_above(held *h) {
     return truth(status, answer, true);
 }
 
-/* Often enough for notes to be made: a request of theirs that is refused refuses no question. */
+/* Repeats a query until the handle caches it: a failed allocation of the cache is not an error of the query. */
 static uint32_t asks_again(held *h) {
     uint32_t status = CEDAR_OK;
     for (int i = 0; i < 12 && status == CEDAR_OK; i++) status = asks_above(h);
@@ -180,7 +180,7 @@ static uint32_t asks_entity_equal(held *h) {
     return truth(status, answer, false);
 }
 
-/* 99 where a number that was not due was written, or another than the due one. */
+/* Returns 99 if a number was written after an error, or a wrong number was written. */
 static uint32_t number(uint32_t status, size_t answer, size_t want) {
     return answer == (status ? 9 : want) ? status : 99;
 }
@@ -246,7 +246,7 @@ static uint32_t gets_tag(held *h) {
     return truth(status, has, true);
 }
 
-/* What is given besides: each kind of node, and an indirect ancestor. */
+/* Returns content with each kind of node, and an indirect ancestor. */
 static content more_content(const char *spec) {
     content c = with_entities(spec);
     put_term(&c, 0, 0, "k", "t 1 'one @a {4");
@@ -328,7 +328,7 @@ static uint32_t joins_whole_twice(held *h) {
     return join_template(&h->p, "a", &g);
 }
 
-/* Each kind of a constraint that takes memory and is not in the whole body, and slots. */
+/* Adds each kind of constraint that allocates and is not in the whole body, and slots. */
 static uint32_t joins_slots(held *h) {
     given g = given_nothing();
     g.body.principal = put_scope(&g, 3, U("a"), "");
@@ -582,9 +582,9 @@ static const call CALLS[] = {
     merges_apart_keeping,
 };
 
-/* ---- each with its requests refused in turn */
+/* ---- each call, with each of its allocations failing in order */
 
-/* Whether so many nodes are the same. */
+/* Returns whether `count` nodes are the same. */
 static bool same_nodes(const cedar_node *nodes, const cedar_node *others, size_t count) {
     for (size_t k = 0; k < count; k++) {
         const cedar_node *n = &nodes[k], *o = &others[k];
@@ -595,7 +595,7 @@ static bool same_nodes(const cedar_node *nodes, const cedar_node *others, size_t
     return true;
 }
 
-/* Whether two handles tell the same nodes. */
+/* Returns whether two handles have the same nodes. */
 static bool nodes_alike(held *h, held *like) {
     cedar_node nodes[MOST_NODES], others[MOST_NODES];
     size_t count = cedar_store_answer_nodes(&h->s, 0, nodes, MOST_NODES);
@@ -606,7 +606,7 @@ static bool nodes_alike(held *h, held *like) {
     return same_nodes(nodes, others, count);
 }
 
-/* Whether two handles tell the same answer. */
+/* Returns whether two handles have the same answer. */
 static bool answer_alike(held *h, held *like) {
     char kept[ROOM];
     snprintf(kept, sizeof kept, "%s", store_answer(&h->s));
@@ -615,7 +615,7 @@ static bool answer_alike(held *h, held *like) {
     return stores && IS(policies_answer(&like->p), kept);
 }
 
-/* Whether two handles tell the text of the same last refusal. */
+/* Returns whether two handles have the same text of the last error. */
 static bool store_refuses_alike(cedar_store *s, cedar_store *like) {
     char kept[ROOM];
     snprintf(kept, sizeof kept, "%s", store_refusal(s));
@@ -636,7 +636,7 @@ static bool refuse_alike(held *h, held *like) {
            set_refuses_alike(&h->p, &like->p) && set_refuses_alike(&h->q, &like->q);
 }
 
-/* Whether the handles beside the store that is called are alike. */
+/* Returns whether all handles except the called store are alike. */
 static bool alike_beside(held *h, held *like) {
     for (size_t k = 0; k < FAULTS; k++) {
         if (sets_equal(&h->faulty[k], &like->faulty[k]) != 1) return false;
@@ -644,15 +644,16 @@ static bool alike_beside(held *h, held *like) {
     return equal(&h->t, &like->t) == 1 && sets_equal(&h->p, &like->p) == 1 && sets_equal(&h->q, &like->q) == 1;
 }
 
-/* What want of memory leaves: a store that is as it was, or is without entities; all else, the answers and the texts of
- * the last refusals too, as it was. */
+/* Returns whether a failed allocation left the correct state. The store is as it was, or it is empty and partial
+ * exactly if it was partial before. Everything else is as it was, including the answers and the texts of the last
+ * errors. */
 static bool left_well(held *h, held *before) {
     if (!alike_beside(h, before) || !answer_alike(h, before) || !refuse_alike(h, before)) return false;
-    if (!h->s.is_open) return false;
+    if (!h->s.is_open || is_partial(&h->s) != is_partial(&before->s)) return false;
     return cedar_store_len(&h->s) == 0 || equal(&h->s, &before->s) == 1;
 }
 
-/* A store that was emptied is built anew, which leaves its answer and the text of its last refusal. */
+/* Builds an emptied store again, which keeps its answer and the text of its last error. */
 static void put_back(held *h, held *before) {
     if (cedar_store_len(&h->s) > 0) return;
     CHECK(build_some(&h->s) == CEDAR_OK && equal(&h->s, &before->s) == 1);
@@ -662,7 +663,7 @@ static bool ends_alike(held *h, held *after) {
     return equal(&h->s, &after->s) == 1 && alike_beside(h, after) && answer_alike(h, after) && refuse_alike(h, after);
 }
 
-/* A call with its n-th request refused. Whether there was one. */
+/* Makes a call with its n-th allocation failing. Returns whether there was an n-th allocation. */
 static bool refused_at(size_t k, long n, uint32_t due, held *before, held *after) {
     held h;
     set_up(&h);
@@ -700,7 +701,35 @@ static void in_turn(size_t k) {
     let_go(&after);
 }
 
-/* ---- the calls that take no memory */
+/* ---- edits of a partial store */
+
+static uint32_t edited(cedar_store *s, int which) {
+    if (which == 0) return add(s, "x y", CEDAR_COMPUTE);
+    if (which == 1) return upsert(s, "y x", CEDAR_COMPUTE);
+    return removed(s, "y", CEDAR_COMPUTE);
+}
+
+/* Makes each allocation of an edit fail in order: the store stays partial, even if it is left empty. Returns how often
+ * it was left empty. */
+static long emptied_by(int which) {
+    long emptied = 0;
+    for (long n = 1; n == 1 || refused > 0; n++) {
+        cedar_store s = {0};
+        CHECK(new_store(&s) == CEDAR_OK && build(&s, "y z;z", CEDAR_COMPUTE) == CEDAR_OK);
+        CHECK(cedar_store_partial(&s) == CEDAR_OK);
+        due_in = n;
+        refused = 0;
+        uint32_t status = edited(&s, which);
+        due_in = 0;
+        CHECK(status == CEDAR_OK || (status == CEDAR_NO_MEMORY && refused > 0));
+        CHECK(is_partial(&s) == 1);
+        emptied += status == CEDAR_NO_MEMORY && cedar_store_len(&s) == 0;
+        cedar_store_free(&s);
+    }
+    return emptied;
+}
+
+/* ---- the calls that do not allocate */
 
 static void no_request(void) {
     held h;
@@ -732,6 +761,7 @@ static void no_request(void) {
 
 int main(void) {
     for (size_t k = 0; k < sizeof CALLS / sizeof *CALLS; k++) in_turn(k);
+    for (int which = 0; which < 3; which++) CHECK(emptied_by(which) > 0);
     no_request();
     printf("refused.c: %ld requests refused, of which %ld were done without\n", refusals + done_without, done_without);
     return counted();

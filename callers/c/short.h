@@ -1,4 +1,4 @@
-/* What both tests in C share: counting, lists as a caller lays them out, and calls in short. */
+/* Helpers of the tests in C: a counter of checks, encoded lists, and short forms of the calls. */
 #ifndef CEDAR_SHORT_H
 #define CEDAR_SHORT_H
 #include "cedar.h"
@@ -14,24 +14,24 @@ static int passed, failed;
             passed++;                                                                                                  \
         } else {                                                                                                       \
             failed++;                                                                                                  \
-            printf("%s:%d: not so: %s\n", __FILE__, __LINE__, #what);                                                  \
+            printf("%s:%d: failed: %s\n", __FILE__, __LINE__, #what);                                                  \
         }                                                                                                              \
     } while (0)
 
-/* Ends a test: prints what was counted. */
+/* Ends a test: prints the counts and returns the exit status. */
 static inline int counted(void) {
     printf("%d passed, %d failed\n", passed, failed);
     return failed != 0;
 }
 
-/* The uid with a name. */
+/* The uid with this name. */
 #define U(name) "A::\"" name "\""
 
 static inline const uint8_t *bytes(const char *text) { return (const uint8_t *)text; }
 
 #define TEXT(text) bytes(text), strlen(text)
 
-/* ---- lists as a caller lays them out */
+/* ---- encoded lists */
 
 #define MOST 32
 
@@ -59,7 +59,7 @@ static inline size_t put_name(list *l, char name) {
     return put_text(l, uid);
 }
 
-/* Uids by their names: `ab` is two. */
+/* Returns the list of the uids with these names, one character each: `ab` is two uids. */
 static inline list uids(const char *names) {
     list l;
     memset(&l, 0, sizeof l);
@@ -67,7 +67,8 @@ static inline list uids(const char *names) {
     return l;
 }
 
-/* Entities by their names, each with those of its parents behind it: `a bc;b` is a with the parents b and c, and b. */
+/* Returns a list of entities with their parents: `a bc;b` is the entity a with the parents b and c, and the entity
+ * b. */
 static inline list listed(const char *spec) {
     list l = uids("");
     for (const char *p = spec; *p; p++) {
@@ -83,7 +84,7 @@ static inline list listed(const char *spec) {
     return l;
 }
 
-/* ---- calls in short */
+/* ---- short forms of the calls */
 
 #define LISTED(l) (l).text, (l).text_len, (l).uids, (l).uids_len
 #define ENTITIES(l) LISTED(l), (l).count, (l).edges, (l).edges_len
@@ -124,7 +125,7 @@ static inline uint32_t ancestors(cedar_store *s, const char *uid) { return cedar
 
 static inline uint32_t parents(cedar_store *s, const char *uid) { return cedar_store_parents(s, TEXT(uid)); }
 
-/* What follows answers 0 or 1, or 100 and the status. */
+/* Returns a Boolean result as 0 or 1, or 100 plus the status. The functions below return this. */
 static inline unsigned told(uint32_t status, bool answer) { return status ? 100 + status : answer; }
 
 static inline unsigned has(cedar_store *s, const char *uid) {
@@ -175,7 +176,7 @@ static inline unsigned sets_equal(cedar_policies *one, cedar_policies *other) {
     return told(status, answer);
 }
 
-/* A number, or 100 and the status. */
+/* Returns a number, or 100 plus the status. */
 static inline unsigned counted_as(uint32_t status, size_t count) { return status ? 100 + status : (unsigned)count; }
 
 static inline unsigned found(cedar_store *s, const char *uid) {
@@ -249,7 +250,7 @@ static inline uint32_t remove_template(cedar_policies *p, const char *id) {
     return cedar_policies_remove_template(p, TEXT(id));
 }
 
-/* ---- what a handle tells: the texts of its answer, each behind a comma, and its last refusal */
+/* ---- results of a handle: the texts of its last result, with a comma before each, and the text of its last error */
 
 #define ROOM 4096
 

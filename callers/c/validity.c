@@ -1,17 +1,17 @@
-/* Looks for what is wrong with policy sets, and for the entities that policies leave unknown: worked sets, and each
- * status of both calls. Prints what fails, and ends with `N passed, M failed`. */
+/* Tests of the validation of policy sets, and of the unknown entities of policies: examples, and each status of both
+ * calls. Prints each failure, and ends with `N passed, M failed`. */
 #include "bodies.h"
 
-/* ---- what is wrong with a set */
+/* ---- faults of a set */
 
-/* A body whose clause is these words. */
+/* Returns a body with the clause of these words. */
 static given given_clause(const char *words) {
     given g = given_nothing();
     put_nodes(&g.c, words);
     return g;
 }
 
-/* A body that asks the action to be this uid, for 1, or to be in it or in Action::"get", for 3. */
+/* Returns a body whose action must be this uid (kind 1), or in this uid or Action::"get" (kind 3). */
 static given given_action(uint32_t kind, const char *uid) {
     given g = given_nothing();
     g.body.action = put_scope(&g, kind, uid, "");
@@ -20,7 +20,7 @@ static given given_action(uint32_t kind, const char *uid) {
     return g;
 }
 
-/* What validating says: `ok`, or the status and the text of the refusal. */
+/* Returns the result of a validation: `ok`, or the status and the text of the error. */
 static const char *fault(cedar_policies *p) {
     static char out[ROOM];
     uint32_t status = cedar_policies_validate(p);
@@ -58,7 +58,7 @@ static void faults_of_bodies(void) {
     cedar_policies_free(&p);
 }
 
-/* The first body that has a fault, and of that the first: a slot, then an action, then a function. */
+/* Checks that the first fault of the first body with a fault is reported, in the order slot, action, function. */
 static void first_of_bodies(void) {
     cedar_policies p = {0};
     given all = given_action(1, U("a")), two = given_action(1, U("a")), call = given_clause("'x f(1");
@@ -72,7 +72,7 @@ static void first_of_bodies(void) {
     cedar_policies_free(&p);
 }
 
-/* A link of a template without slots comes before each fault of a body, and names the link. */
+/* Checks that links of templates without slots are reported before the faults of bodies. */
 static void links_come_first(void) {
     cedar_policies p = {0};
     given call = given_clause("'x f(1");
@@ -87,7 +87,8 @@ static void links_come_first(void) {
     cedar_policies_free(&p);
 }
 
-/* The set, its answer and its nodes stay, and so does the text of the last refusal where nothing is wrong. */
+/* Checks that a validation leaves the set, its last result and its nodes unchanged, and without a fault also the
+ * text of the last error. */
 static void what_validating_leaves(void) {
     cedar_policies p = {0}, q = {0};
     given whole = given_whole(), slot = given_clause("?0 $0 <");
@@ -100,7 +101,7 @@ static void what_validating_leaves(void) {
     cedar_policies_free(&q);
 }
 
-/* What each of the refusals names is the part behind its words. */
+/* Checks that the text of each fault names the part after its words. */
 static void what_a_fault_names(void) {
     static const char *const TEXTS[] = {"slot in the clause of a b", "uid of no action in a b",
                                         "unknown function in a b", "link without slots a b"};
@@ -113,9 +114,9 @@ static void what_a_fault_names(void) {
     }
 }
 
-/* ---- what is unknown */
+/* ---- unknown entities */
 
-/* The entities that a policy leaves unknown, each behind a comma, or the status. */
+/* Returns the unknown entities of a policy, with a comma before each, or the status. */
 static const char *unknown(cedar_policies *p, const char *id) {
     static char status_text[16];
     uint32_t status = cedar_policies_unknown_entities(p, TEXT(id));

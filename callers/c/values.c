@@ -1,15 +1,15 @@
-/* Gives entities with content and reads it back: worked values and expressions, each status of the calls that take or
- * tell values, and random nodes, of which no more may come than a status. Prints what fails, and ends with `N passed, M
- * failed`. */
+/* Tests of entities with content: examples of values and expressions that are stored and read back, each status of
+ * the calls, and random nodes, which must not cause more than an error status. Prints each failure, and ends with `N
+ * passed, M failed`. */
 #include "nodes.h"
 
 #define BUILD(s, c, mode) cedar_store_build_with(s, CONTENT(c), mode)
 #define ADD(s, c, mode) cedar_store_add_with(s, CONTENT(c), mode)
 #define UPSERT(s, c, mode) cedar_store_upsert_with(s, CONTENT(c), mode)
 
-/* ---- worked values */
+/* ---- examples of values */
 
-/* What a value is read as, in words; or the status of giving it. */
+/* Stores a value and returns the value that is read, as words; or the status of the call that stores it. */
 static const char *read_as(const char *words) {
     static char text[16];
     cedar_store s = {0};
@@ -23,7 +23,7 @@ static const char *read_as(const char *words) {
     return told;
 }
 
-/* What is given, and what is read: the same where nothing is said of it. */
+/* The stored value and the value that is read. An empty text means the same value. */
 static const char *const ROWS[][2] = {
     {"t", ""},
     {"f", ""},
@@ -64,12 +64,12 @@ static const char *const ROWS[][2] = {
 static void worked_values(void) {
     for (size_t k = 0; k < sizeof ROWS / sizeof *ROWS; k++) {
         const char *given = ROWS[k][0], *due = ROWS[k][1], *told = read_as(given);
-        if (!IS(told, *due ? due : given)) printf("%s is read as %s\n", given, told);
+        if (!IS(told, *due ? due : given)) printf("%s was stored, %s was read\n", given, told);
         CHECK(IS(told, *due ? due : given));
     }
 }
 
-/* Attributes and tags of two entities, of which some have the same keys. */
+/* Checks the attributes and tags of two entities, some of them with the same keys. */
 static void attributes_and_tags(void) {
     cedar_store s = {0};
     content c = with_entities("a b;b");
@@ -102,7 +102,7 @@ static void the_last_of_a_key_counts(void) {
     cedar_store_free(&s);
 }
 
-/* Sections of nodes may overlap: two terms have one value, and a third a part of it. */
+/* Checks terms with overlapping ranges of nodes: two with the same value, and a third with a part of it. */
 static void shared_nodes(void) {
     cedar_store s = {0};
     content c = with_entities("a");
@@ -127,7 +127,7 @@ static void indirect_ancestors(void) {
     CHECK(new_store(&s) == CEDAR_OK && BUILD(&s, c, CEDAR_ENFORCE) == CEDAR_OK);
     CHECK(is_child(&s, U("a"), U("b")) == 1 && is_child(&s, U("a"), U("c")) == 0);
     CHECK(is_far_below(&s, U("a"), U("c")) == 1 && is_far_below(&s, U("a"), U("b")) == 0);
-    put_above(&c, 0, 2); /* b is a parent of a, and so no indirect ancestor */
+    put_above(&c, 0, 2); /* b is a parent of a, so this is no indirect ancestor */
     put_above(&c, 0, 3);
     CHECK(BUILD(&s, c, CEDAR_ENFORCE) == CEDAR_OK && cedar_store_validate(&s) == CEDAR_OK);
     CHECK(cedar_store_indirect_ancestors(&s, TEXT(U("a"))) == CEDAR_OK && IS(store_answer(&s), "," U("c")));
@@ -137,7 +137,7 @@ static void indirect_ancestors(void) {
     cedar_store_free(&s);
 }
 
-/* With no content the calls are those without. */
+/* Checks that the calls with content, given none, equal the calls without content. */
 static void no_content(void) {
     cedar_store s = {0}, t = {0};
     content c = with_entities("a b;b c;c de;x");
@@ -179,7 +179,7 @@ static void edits_with_content(void) {
     cedar_store_free(&t);
 }
 
-/* ---- what is kept */
+/* ---- state of a handle */
 
 static void values_stay(void) {
     cedar_store s = {0}, t = {0};
@@ -200,7 +200,7 @@ static void values_stay(void) {
     CHECK(cedar_store_get(&s, TEXT(U("a")), TEXT("\xff"), &has) == CEDAR_NOT_UTF8 && has);
     CHECK(cedar_store_get_tag(&s, TEXT("q"), TEXT("k"), &has) == CEDAR_NOT_A_UID && has);
     CHECK(IS(store_value(&s), "'xy 1 [1") && IS(store_answer(&s), ",xy"));
-    /* another answer leaves the nodes, and so does an edit */
+    /* another result keeps the nodes, and so does an edit */
     CHECK(parents(&s, U("a")) == CEDAR_OK && add(&s, "z", CEDAR_COMPUTE) == CEDAR_OK);
     CHECK(cedar_store_partial(&s) == CEDAR_OK && build(&s, "a a", CEDAR_COMPUTE) == CEDAR_CYCLE);
     CHECK(cedar_store_answer_nodes(&s, 0, nodes, 4) == 3 && nodes[0].kind == CEDAR_STRING && nodes[0].at.end == 2);
@@ -209,7 +209,7 @@ static void values_stay(void) {
     CHECK(cedar_store_answer_nodes(&s, 3, nodes, 4) == 3 && cedar_store_answer_nodes(&s, SIZE_MAX, nodes, 4) == 3);
     CHECK(cedar_store_answer_nodes(&s, 1, nodes, 1) == 3 && nodes[0].kind == CEDAR_LONG);
     CHECK(cedar_store_answer_nodes(&s, 0, nodes, 0) == 3 && nodes[0].kind == CEDAR_LONG);
-    /* a number has no text: the answer is one empty text */
+    /* a number has no text, so the result is one empty text */
     CHECK(BUILD(&s, c, CEDAR_COMPUTE) == CEDAR_OK && cedar_store_copy(&s, &t) == CEDAR_OK);
     CHECK(cedar_store_answer_nodes(&t, 0, nodes, 4) == 0 && cedar_store_answer_nodes(&s, 0, nodes, 4) == 3);
     c = with_entities("a");
@@ -233,11 +233,11 @@ static void closed_handles(void) {
     CHECK(cedar_store_answer_nodes(&s, 0, nodes, 1) == 0 && nodes[0].kind == 9 && !s.is_open);
 }
 
-/* ---- what is not read leaves the store */
+/* ---- an invalid argument leaves the store unchanged */
 
 static cedar_store kept;
 
-/* Whether each of the three calls is refused by a status, and leaves what is kept. */
+/* Returns whether each of the three calls fails with this status and leaves the store unchanged. */
 static bool refused(content c, uint32_t status) {
     return BUILD(&kept, c, 0) == status && ADD(&kept, c, 0) == status && UPSERT(&kept, c, 0) == status &&
            cedar_store_len(&kept) == 1 && has(&kept, U("q")) == 1;
@@ -268,7 +268,7 @@ static void terms_out_of_range(void) {
     CHECK(refused(c, CEDAR_BAD_ARGUMENT));
 }
 
-/* Words that are no partial value, and why. */
+/* Words that are not a partial value, and the status. */
 static const struct {
     const char *words;
     uint32_t status;
@@ -314,13 +314,13 @@ static void fields_that_are_no_value(void) {
     CHECK(refused(c, CEDAR_NOT_A_UID));
     c.nodes[0].at.start = 7;
     CHECK(refused(c, CEDAR_BAD_ARGUMENT));
-    c.nodes[0] = (cedar_node){CEDAR_UID, 9, {0, 6}, 9}; /* what a kind does not use is not looked at */
+    c.nodes[0] = (cedar_node){CEDAR_UID, 9, {0, 6}, 9}; /* unused fields are not read */
     c.terms[0].key = put_bytes(&c, "\xc3", 1);
     CHECK(refused(c, CEDAR_NOT_UTF8));
     c.terms[0].key.end--;
     CHECK(BUILD(&kept, c, 0) == CEDAR_OK && IS(value_at(&kept, U("a"), 0, ""), "@a"));
     CHECK(build(&kept, "q", 0) == CEDAR_OK);
-    c = with_entities("a"); /* a mark that does not count one is none */
+    c = with_entities("a"); /* the mark of a residual expression must have `len` 1 */
     put_term(&c, 0, 0, "k", "t *");
     c.nodes[1].len = 0;
     CHECK(refused(c, CEDAR_BAD_ARGUMENT));
@@ -330,7 +330,7 @@ static void fields_that_are_no_value(void) {
 
 static cedar_node deep[CEDAR_LEVELS + 2];
 
-/* Sets within sets, or negations of negations, of so many levels. */
+/* Builds nested sets or nested negations with this number of levels. */
 static uint32_t of_levels(size_t levels, uint32_t kind, bool left_over) {
     content c = with_entities("a");
     const cedar_span none = {0, 0};
@@ -371,7 +371,7 @@ static uint32_t drawn(uint32_t below) {
     return (uint32_t)((state * 0x9e3779b97f4a7c15u) >> 33) % below;
 }
 
-/* Uids, names, strings, and bytes that are none of these. */
+/* Uids, names, strings, and bytes that are none of them. */
 static const char *const PARTS[] = {"A::\"a\"", "A::\"it\\'s\"", "ip", "N::f", "User", "x", "", "\xc3\xa9", "\xff",
                                     "if", "A::\"", "a b", "A::\"\xc3\xa9\""};
 static cedar_span parts[sizeof PARTS / sizeof *PARTS];
@@ -381,7 +381,8 @@ static cedar_span any_part(const content *c) {
     return (cedar_span){drawn(c->l.text_len + 2), drawn(c->l.text_len + 2)};
 }
 
-/* Nodes of which each mostly finds below it as many as it wants, over a stack of `high`. */
+/* Appends random nodes. Most of them have as many operands before them as they need; `high` is the size of the
+ * stack. */
 static void draw_nodes(content *c, size_t count) {
     size_t high = 0;
     for (size_t k = 0; k < count; k++) {
@@ -424,7 +425,7 @@ static content drawn_content(void) {
     return c;
 }
 
-/* The nodes that a store tells of a value, over the text that it tells, as a term of another content. */
+/* Adds the value that a store returned last, with its text, as a term of another content. */
 static void put_told(content *c, cedar_store *s, cedar_term term) {
     uint8_t text[ROOM];
     size_t len = cedar_store_answer(s, 0, text, sizeof text), from = c->nodes_len;
@@ -437,7 +438,7 @@ static void put_told(content *c, cedar_store *s, cedar_term term) {
     c->terms[c->terms_len++] = (cedar_term){term.of, term.part, term.key, from, c->nodes_len};
 }
 
-/* Whether what a store tells of each term, given to another store, makes the same entities there. */
+/* Returns whether another store, built from the terms that this store returns, has the same entities. */
 static bool told_alike(cedar_store *s, const content *c, cedar_store *t) {
     content again = with_entities("a b;b");
     for (size_t k = 0; k < sizeof PARTS / sizeof *PARTS; k++) put_bytes(&again, PARTS[k], strlen(PARTS[k]));
@@ -474,7 +475,7 @@ static void random_nodes(long rounds) {
             others++;
         }
     }
-    printf("values.c: of %ld drawn, %ld were read and %ld were not\n", rounds, read, unread);
+    printf("values.c: %ld random contents, %ld accepted, %ld rejected\n", rounds, read, unread);
     CHECK(others == 0);
     CHECK(read > rounds / 20 && unread > rounds / 20);
     cedar_store_free(&s);

@@ -1,17 +1,24 @@
-"""Entities and policies of the Cedar language in PostgreSQL, over the module `cedar_store`.
+"""Entities and policies of the Cedar language in PostgreSQL, over the package `cedar_store`.
 
-The tables are those of `schema.sql`. A request reads its slice, the entities with some uids and all above them, by one
-statement, so of one state of the tables, and builds a store of that, whose ancestors the proved library computes. A
-change reads what it touches, is tried on such a store first, and is written where that takes it, in one serializable
-transaction: so a cycle or a differing duplicate is refused (`cedar_store.Refused`) before the tables have it. A
-transaction that PostgreSQL refuses since others ran beside it is made again, up to a number of times, then `Busy` is
-raised. Where there is no connection, or it goes, `Lost` is raised; a change that was under way then is written or not:
-reading tells which, and `upsert` and `remove` may be made again. Any other error is the driver's, and nothing is
-written.
+`schema.sql` defines the tables. A request reads its slice with one statement, and so from one state of the tables. The
+slice is the requested entities and all their ancestors. The package builds a store from it, and the proved library
+computes the ancestors.
 
-A `Database` has a connection of `psycopg2`, and is of the thread that made it, as stores are. What is read is true of
-the state that was read, and of no later one; of a replica, that state may be older than its primary's (`mark`,
-`reach`).
+A change first reads the affected entities and is checked on a store of them. If the store accepts it, the change is
+written in one serializable transaction. A cycle or a conflicting duplicate raises `cedar_store.Refused` and writes
+nothing. PostgreSQL aborts a transaction that conflicts with another one. The transaction is then repeated, up to a
+number of attempts.
+
+Raises:
+    Busy: every attempt failed.
+    Lost: there is no connection, or it broke. A change in progress is written completely or not at all. Read the tables
+        to find out which. `upsert` and `remove` can be repeated.
+
+Any other error comes from the driver, and nothing is written.
+
+A `Database` has one connection of `psycopg2`. Like a store, it belongs to the thread that created it. A result holds
+for the state that was read, not for later ones. The state of a replica may be older than the state of its primary (see
+`mark` and `reach`).
 """
 from __future__ import annotations
 
@@ -30,9 +37,9 @@ __all__ = ["Busy", "Database", "Effect", "Entity", "Lost", "NotRead", "Policy", 
 
 _Answer = TypeVar("_Answer")
 
-# Each look-up stands behind `OFFSET 0`, and a connection scans no table that it need not: so each is one of an index,
-# and a serializable transaction holds what it read, and not the table. The statement is prepared, and planned once.
-# Nothing is compiled by the server, which would take longer than what it is for.
+# `OFFSET 0` and `enable_seqscan = off` make each lookup use an index. So a serializable transaction locks only what it
+# read, not the whole table. The statement is prepared and planned once. JIT compilation would take longer than the
+# query.
 _ABOVE = """
 PREPARE {name} (text[]) AS
 WITH RECURSIVE above (uid) AS (
@@ -73,20 +80,20 @@ _PUT_LINK = "INSERT INTO links (id, template, principal, action, resource) VALUE
 
 
 class Busy(Exception):
-    """A change was refused by PostgreSQL each time, since others ran beside it. Nothing is written."""
+    """PostgreSQL aborted every attempt of a change because of concurrent changes. Nothing is written."""
 
 
 class Lost(Exception):
-    """There is no connection, or it went. A change that was under way is written, or nothing of it is."""
+    """There is no connection, or it broke. A change in progress is written completely or not at all."""
 
 
 class NotRead(LookupError):
-    """A slice was asked about a uid that it was not read at, and of which it so knows nothing."""
+    """A slice was queried for a uid that it does not cover."""
 
 
 @dataclasses.dataclass(frozen=True)
 class Entity:
-    """An entity as the tables have it. Attributes and tags are objects of the language's own JSON."""
+    """An entity of the tables. Attributes and tags are JSON objects of the Cedar language."""
 
     uid: str
     parents: tuple[str, ...] = ()
@@ -95,12 +102,12 @@ class Entity:
 
 
 def _values_text(entity: Entity) -> tuple[str, str]:
-    """Attributes and tags as texts, which are the same where these are."""
+    """Returns attributes and tags as texts. Equal ones have equal texts."""
     return json.dumps(dict(entity.attributes), sort_keys=True), json.dumps(dict(entity.tags), sort_keys=True)
 
 
 def _checked(uids: Iterable[str]) -> list[str]:
-    """Texts, each of which is a uid's."""
+    """Returns the texts as a list. Raises `Refused` if one of them is not a uid."""
     asked = list(uids)
     for uid in asked:
         if not is_uid(uid):
@@ -109,7 +116,7 @@ def _checked(uids: Iterable[str]) -> list[str]:
 
 
 class Slice:
-    """What the tables had, at one moment, at some uids and above them: a store of it, and its entities."""
+    """Some entities and all their ancestors, from one state of the tables, and a store of them."""
 
     def __init__(self, uids: Iterable[str], entities: Iterable[Entity]) -> None:
         self.entities = {entity.uid: entity for entity in entities}
@@ -126,15 +133,25 @@ class Slice:
         return self._known(uid) in self.store
 
     def is_descendant_of(self, child: str, ancestor: str) -> bool:
-        """Whether an entity is a descendant of a uid; refused as `no entity` where there is none with the first."""
+        """Returns whether the second uid is an ancestor of the first.
+
+        Raises:
+            Refused: `no entity` if there is no entity with the first uid; `not a uid`.
+            NotRead: the slice does not cover the first uid.
+        """
         return self.store.is_descendant_of(self._known(child), ancestor)
 
     def ancestors(self, uid: str) -> list[str]:
-        """The ancestors of an entity, in the order of uids."""
+        """Returns the ancestors of an entity, in ascending order.
+
+        Raises:
+            Refused: `no entity` if there is no entity with this uid; `not a uid`.
+            NotRead: the slice does not cover the uid.
+        """
         return self.store.ancestors(self._known(uid))
 
     def close(self) -> None:
-        """Lets go of the store."""
+        """Frees the store."""
         self.store.close()
 
     def __enter__(self) -> Slice:
@@ -146,10 +163,10 @@ class Slice:
 
 @dataclasses.dataclass(frozen=True)
 class Policy:
-    """A static policy, a template or a link as the tables have it.
+    """A static policy, a template or a link of the tables.
 
-    `body` is the text that the service keeps with it; `kind` is `static`, `template` or `link`; slots and values are
-    those of the principal, the action and the resource.
+    `kind` is `static`, `template` or `link`. `body` is the text that the service stores with the policy. `slots` and
+    `values` are for the principal, the action and the resource, in this order.
     """
 
     id: str
@@ -162,9 +179,9 @@ class Policy:
 
 
 class PolicySet:
-    """A policy set of the proved library, and beside it what the tables want to know of each that it has.
+    """A policy set of the proved library, and the data of each policy for the tables.
 
-    A call that is refused leaves both as they were.
+    A call that raises an exception leaves both unchanged. The methods raise the exceptions of `cedar_store.Policies`.
     """
 
     def __init__(self) -> None:
@@ -172,7 +189,7 @@ class PolicySet:
         self.entries: dict[str, Policy] = {}
 
     def add_static(self, id: str, effect: Effect = Effect.PERMIT, *, body: str = "") -> None:
-        """A static policy joins, with its text."""
+        """Adds a static policy with its text."""
         self.policies.add_static(id, effect)
         self.entries[id] = Policy(id, "static", Effect(effect), body=body)
 
@@ -186,7 +203,7 @@ class PolicySet:
         resource: bool = False,
         body: str = "",
     ) -> None:
-        """A template with these slots joins, with its text."""
+        """Adds a template with these slots and its text."""
         slots = (bool(principal), bool(action), bool(resource))
         self.policies.add_template(id, effect, principal=slots[0], action=slots[1], resource=slots[2])
         self.entries[id] = Policy(id, "template", Effect(effect), slots, body)
@@ -200,30 +217,33 @@ class PolicySet:
         action: Optional[str] = None,
         resource: Optional[str] = None,
     ) -> None:
-        """A link of a template joins, with these uids in its slots."""
+        """Links a template under the new id, with these uids in its slots."""
         self.policies.link(template, id, principal=principal, action=action, resource=resource)
         self.entries[id] = Policy(id, "link", template=template, values=(principal, action, resource))
 
     def unlink(self, id: str) -> None:
-        """The link goes."""
+        """Removes the link."""
         self.policies.unlink(id)
         del self.entries[id]
 
     def remove_static(self, id: str) -> None:
-        """The static policy goes."""
+        """Removes the static policy."""
         self.policies.remove_static(id)
         del self.entries[id]
 
     def remove_template(self, id: str) -> None:
-        """The template goes."""
+        """Removes the template."""
         self.policies.remove_template(id)
         del self.entries[id]
 
     def merge(self, other: PolicySet, rename: bool = False) -> dict[str, str]:
-        """What another set binds joins; the ids that were renamed, with their new ones.
+        """Adds the policies, templates and links of another set. Returns the renamed ids, each with its new id.
 
-        The library sees no texts. So two of one id that differ in nothing but their texts are refused here, as
-        `occupied`, with `rename` too: give one of them another id first.
+        Raises:
+            Refused: `occupied` if the sets bind an id to different items and `rename` is False. Also `occupied`, even
+                with
+                `rename`, if two items with the same id differ only in their texts. The library does not see the texts,
+                so it cannot rename such an item.
         """
         for id, theirs in other.entries.items():
             ours = self.entries.get(id)
@@ -238,7 +258,10 @@ class PolicySet:
 
 
 def _tells_of_a_loss(error: psycopg2.Error) -> bool:
-    """Whether an error is of the connection: none of a statement's, which have codes, or one of a server that stops."""
+    """Returns whether the error means that the connection is lost.
+
+    Errors of statements have codes. Some codes mean that the connection failed or that the server stops.
+    """
     if error.pgcode is None:
         return type(error) in (psycopg2.DatabaseError, psycopg2.OperationalError, psycopg2.InterfaceError)
     return error.pgcode.startswith(("08", "57P"))
@@ -247,8 +270,11 @@ def _tells_of_a_loss(error: psycopg2.Error) -> bool:
 class Database:
     """Entities and policies in the tables of `schema.sql`, over one connection.
 
-    `Database(text)` connects by a connection string of PostgreSQL, to a session of its own: one that a pooler shares
-    between transactions loses what was prepared. A change is tried `attempts` times.
+    `Database(text)` connects with a connection string of PostgreSQL. The session must not be shared by a pooler between
+    transactions, because the prepared statements would be lost. A change is attempted `attempts` times.
+
+    Raises:
+        Lost: the connection failed.
     """
 
     def __init__(self, where: str, attempts: int = 20) -> None:
@@ -261,10 +287,10 @@ class Database:
         self._prepared: set[str] = set()
         self._attempts = attempts
         self._within = False
-        self.retried = 0  # how many transactions were made again
+        self.retried = 0  # the number of repeated transactions
 
     def close(self) -> None:
-        """Lets go of the connection. What is not committed then is not written."""
+        """Closes the connection. An uncommitted change is not written."""
         self._connection.close()
 
     def __enter__(self) -> Database:
@@ -312,14 +338,16 @@ class Database:
         raise Busy(f"refused {self._attempts} times")
 
     def snapshot(self) -> contextlib.AbstractContextManager[None]:
-        """All that is read within is of one state of the tables. Nothing can be changed within."""
+        """Returns a context in which all reads see one state of the tables. Changes are not possible in it."""
         return self._transaction("REPEATABLE READ READ ONLY")
 
     def read(self, uids: Iterable[str], values: bool = False) -> Slice:
-        """The slice at some uids, with attributes and tags where `values` is true.
+        """Reads the slice of some uids. Reads attributes and tags too if `values` is true.
 
-        Refused as `not a uid` where one of them is none, and as `cycle` where the tables have one there, which only
-        another hand can have put in.
+        Raises:
+            Refused: `not a uid` if a text is not a uid; `cycle` if the slice has a cycle. Only another program can have
+                written
+                a cycle.
         """
         asked = _checked(uids)
         name = "cedar_slice_with_values" if values else "cedar_slice"
@@ -330,20 +358,28 @@ class Database:
         return Slice(asked, (Entity(uid, tuple(above), held or {}, tags or {}) for uid, above, held, tags in rows))
 
     def is_descendant_of(self, child: str, ancestor: str) -> bool:
-        """Whether an entity is a descendant of a uid; refused as `no entity` where there is none with the first."""
+        """Returns whether the second uid is an ancestor of the first.
+
+        Raises:
+            Refused: `no entity` if there is no entity with the first uid; `not a uid`.
+        """
         with self.read([child]) as part:
             return part.is_descendant_of(child, ancestor)
 
     def all_entities(self) -> list[Entity]:
-        """All entities, as of one state of the tables, with their attributes and tags: a copy of everything."""
+        """Returns copies of all entities, with attributes and tags, from one state of the tables."""
         rows = self._rows(_ALL_ENTITIES)
         return [Entity(uid, tuple(above), attributes, tags) for uid, above, attributes, tags in rows]
 
     def upsert(self, entities: Iterable[Entity]) -> None:
-        """Puts entities in the place of any with their uids; of several with one uid the last counts.
+        """Inserts entities, and replaces the entities with the same uids. If a uid occurs several times, the last
+        entity with it is used.
 
-        Refused where a cycle would stand. What is read is all above the entities and above their parents: an edge that
-        is put in starts at one of them, so a cycle that was not there is within that.
+        Reads the entities, their parents and all ancestors. Every new edge starts at one of the entities, so a new
+        cycle lies within this slice.
+
+        Raises:
+            Refused: `cycle` if the change would create a cycle; `not a uid`.
         """
         put = {entity.uid: entity for entity in entities}
         if put:
@@ -355,9 +391,12 @@ class Database:
         self._write(put.values(), part)
 
     def add(self, entities: Iterable[Entity]) -> None:
-        """Adds entities. One that is there already changes nothing, and has to be the same.
+        """Adds entities. An entity with a stored uid must equal the stored entity, and changes nothing.
 
-        It is where its ancestors, attributes and tags are. Refused where they are not, and where a cycle would stand.
+        Raises:
+            Refused: `duplicate` if the ancestors, attributes or tags differ from the entity with the same uid; `cycle`
+                if the
+                change would create a cycle; `not a uid`.
         """
         given = list(entities)
         if given:
@@ -380,7 +419,7 @@ class Database:
         return self.read(uids, values)
 
     def _write(self, entities: Iterable[Entity], part: Slice) -> None:
-        """Writes entities that the store took, over what was read of them: only what differs."""
+        """Writes entities that the store accepted. Writes only what differs from the slice."""
         put = list(entities)
         here = {(entity.uid, parent) for entity in put for parent in entity.parents}
         there = {(entity.uid, parent) for entity in put if entity.uid in part.entities
@@ -393,9 +432,12 @@ class Database:
                 self._rows(statement, *map(list, zip(*edges)))
 
     def remove(self, uids: Iterable[str]) -> int:
-        """Takes entities out, and out of others' parents; how many were there. Others change nothing.
+        """Removes entities, also from the parents of other entities. Returns the number of removed entities.
 
-        Refused as `not a uid` where one of them is none; no store can refuse more, so none is asked.
+        Uids without an entity have no effect. No store is built, because a removal cannot fail in one.
+
+        Raises:
+            Refused: `not a uid` if a text is not a uid.
         """
         gone = _checked(uids)
         return self._changed(lambda: self._remove_now(gone))
@@ -406,7 +448,7 @@ class Database:
         return len(gone)
 
     def policies(self) -> PolicySet:
-        """All policies of the tables: added and linked in the order in which they joined."""
+        """Reads all policies of the tables, in insertion order."""
         read = PolicySet()
         for id, kind, effect, principal, action, resource, body, template, *values in self._rows(_READ_POLICIES):
             if kind == "link":
@@ -419,10 +461,10 @@ class Database:
         return read
 
     def change_policies(self, change: Callable[[PolicySet], _Answer]) -> _Answer:
-        """Makes a change on the set of the tables, and writes what it did, in one transaction; what it answered.
+        """Applies a change to the policy set of the tables, and writes the difference in one transaction.
 
-        Where the change raises, as where the set refuses, nothing is written. It may be called several times, on a set
-        that is read anew each time.
+        Returns the result of `change`. If `change` raises an exception, nothing is written. `change` may be called
+        several times, each time on a set that was read again.
         """
         return self._changed(lambda: self._change_policies_now(change))
 
@@ -443,11 +485,13 @@ class Database:
         return answer
 
     def mark(self) -> str:
-        """A mark of the primary that stands behind all that was committed before, for `reach` on a replica."""
+        """Returns the current position of the primary, for `reach` on a replica. It covers all earlier commits."""
         return self._rows("SELECT pg_current_wal_flush_lsn()::text")[0][0]
 
     def reach(self, mark: str, seconds: float) -> bool:
-        """Whether this replica came to a mark of its primary within some seconds: what is read afterwards has that."""
+        """Waits until this replica has reached a position of its primary. Returns False if that takes longer than
+        `seconds`.
+        """
         until = time.monotonic() + seconds
         while not self._rows("SELECT pg_last_wal_replay_lsn() >= %s::pg_lsn", mark)[0][0]:
             if time.monotonic() >= until:

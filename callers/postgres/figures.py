@@ -1,4 +1,7 @@
-"""Figures over a PostgreSQL of this machine, by a python3 with its driver: figures.py ENTITIES [SECONDS]."""
+"""Measures entities in a PostgreSQL server of this machine: figures.py ENTITIES [SECONDS].
+
+It needs a python3 with psycopg2.
+"""
 from __future__ import annotations
 
 import os
@@ -18,7 +21,7 @@ TABLES = ("entities", "parents", "entities_pkey", "parents_pkey", "parents_by_pa
 
 
 class Clock:
-    """Adds up what parts of a call take."""
+    """A clock that sums up the durations of the parts of a call."""
 
     def __init__(self) -> None:
         self.parts: dict[str, list[float]] = {}
@@ -91,7 +94,7 @@ def sizes(server: Server, where: str) -> None:
 
 
 def many(what: str, where: str, count: int, seconds: float) -> None:
-    """So many clients, each a process, that ask or put in users as fast as they can."""
+    """Runs several client processes that read or insert users as fast as they can."""
     for clients in (1, 2, 8):
         command = [sys.executable, "-B", os.path.abspath(__file__), "--" + what, where, str(count), str(seconds)]
         running = [subprocess.Popen([*command, str(seed)], stdout=subprocess.PIPE, text=True)

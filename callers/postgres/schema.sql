@@ -1,12 +1,11 @@
 -- Entities and policies of the Cedar language, as cedar_postgres.py reads and writes them.
 --
--- A uid stands in one spelling, the only one that the library reads, so that equal texts are equal uids; texts
--- compare by their bytes. A row of an index has at most some 2,700 bytes, so a longer uid or id is refused here. SQL
--- keeps what can be said of a row and of a reference. That parents make no cycle it cannot keep: the library looks
--- for that before it writes.
+-- Each uid has only one spelling, so equal texts are equal uids. Texts are compared by their bytes. An index row has at
+-- most about 2,700 bytes, so the database rejects a longer uid or id. Constraints check each row and each reference.
+-- They cannot exclude cycles of parents: the library checks this before it writes.
 
--- Attributes and tags are objects of the language's own JSON. They are kept and handed back, and not read here. An id
--- may be any text without a zero byte, and a string in JSON has none either: no text of PostgreSQL has.
+-- Attributes and tags are JSON objects of the Cedar language. They are stored and returned, but not interpreted. An id
+-- is any text without a zero byte. JSON strings cannot contain one either, as in every text of PostgreSQL.
 CREATE TABLE entities (
     uid text COLLATE "C" PRIMARY KEY CHECK (uid LIKE '_%::"%"'),
     attributes jsonb NOT NULL DEFAULT '{}' CHECK (jsonb_typeof(attributes) = 'object'),
@@ -21,9 +20,9 @@ CREATE TABLE parents (
 );
 CREATE INDEX parents_by_parent ON parents (parent);
 
--- Static policies, templates and links share their ids. `position` is the order in which they joined. `body` is the
--- text of a static policy or a template as the service keeps it, with its conditions; it is not read here. A link has
--- the effect, the slots and the body of its template, and none of its own.
+-- Static policies, templates and links share their ids. `position` is the insertion order. `body` is the text of a
+-- static policy or a template, with its conditions. It is stored, but not interpreted. A link has the effect, the slots
+-- and the body of its template, and none of its own.
 CREATE TABLE policies (
     id text COLLATE "C" PRIMARY KEY,
     position bigint GENERATED ALWAYS AS IDENTITY,
@@ -40,8 +39,9 @@ CREATE TABLE policies (
     UNIQUE (id, kind, principal_slot, action_slot, resource_slot)
 );
 
--- What each link binds: a uid for each slot of its template, and for no other. Both references see to it that a link
--- is one, that its template is one, and that the slots of both are the same. A template with links cannot go.
+-- The uids that each link binds: one for each slot of its template, and none for other slots. The two references check
+-- that the policy is a link, that its template is a template, and that their slots match. A template with links cannot
+-- be deleted.
 CREATE TABLE links (
     id text COLLATE "C" PRIMARY KEY,
     kind text NOT NULL GENERATED ALWAYS AS ('link') STORED,

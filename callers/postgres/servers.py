@@ -1,4 +1,7 @@
-"""Servers of PostgreSQL for a test: in a folder of their own, on a socket in it alone, as a user that is not root."""
+"""PostgreSQL servers for tests, each in a folder of its own.
+
+A server listens only on a socket in its folder, and does not run as root.
+"""
 from __future__ import annotations
 
 import atexit
@@ -29,14 +32,14 @@ fsync = {fsync}
 
 
 def programs() -> str:
-    """The folder with the programs of the newest server of this machine, or nothing."""
+    """Returns the folder with the programs of the newest server of this machine, or an empty text."""
     found = [name for name in glob.glob("/usr/lib/postgresql/*/bin/initdb") if name.split("/")[4].isdigit()]
     newest = max(found, key=lambda name: int(name.split("/")[4]), default=None) or shutil.which("initdb")
     return os.path.dirname(os.path.realpath(newest)) if newest else ""
 
 
 def _user() -> dict:
-    """As whom a server runs: where this is root, as a user that is not, which initdb wants."""
+    """Returns the user that a server runs as. `initdb` does not run as root."""
     if os.getuid() != 0:
         return {}
     names = {entry.pw_name: entry for entry in pwd.getpwall()}
@@ -45,13 +48,13 @@ def _user() -> dict:
 
 
 class Server:
-    """A server with data of its own; `close` stops it, and takes its folder away."""
+    """A server with data of its own. `close` stops it and deletes its folder."""
 
     def __init__(self, of: Server | None = None, durable: bool = True) -> None:
-        """A server whose tables are empty or, where a primary is given, its replica.
+        """Creates a server with empty tables, or a replica of the given primary.
 
-        One that is not `durable` does not wait for the disk: it would lose what was committed where the machine stops,
-        and loses nothing where it stops itself.
+        A server that is not `durable` does not wait for the disk. It loses commits if the machine crashes, but not if
+        the server crashes.
         """
         self.folder = tempfile.mkdtemp(prefix="cedar-")
         atexit.register(self.close)
@@ -79,15 +82,16 @@ class Server:
         self._run("pg_ctl", "-D", self.folder + "/data", "-s", "-w", "-t", "60", *arguments)
 
     def start(self) -> None:
-        """Starts it, and waits until it answers."""
+        """Starts the server, and waits until it accepts connections."""
         self._control("-l", self.folder + "/log", "start")
 
     def stop(self, how: str = "fast") -> None:
-        """Stops it: `immediate` as if the machine's power went, but for what its files already have."""
+        """Stops the server. `immediate` is like a power failure, except that the files keep everything written to them.
+        """
         self._control("-m", how, "stop")
 
     def fresh(self, name: str) -> str:
-        """A database with the tables of `schema.sql`, empty: its connection string."""
+        """Creates a database with the empty tables of `schema.sql`. Returns its connection string."""
         self.sql("CREATE DATABASE " + name)
         where = self.where.replace("dbname=postgres", "dbname=" + name)
         with open(os.path.join(os.path.dirname(os.path.abspath(__file__)), "schema.sql")) as schema:
@@ -95,7 +99,7 @@ class Server:
         return where
 
     def sql(self, statement: str, *values: object, where: str = "") -> list:
-        """The rows of a statement of another hand than the library's, in a connection of its own."""
+        """Runs a statement in a connection of its own, without the library. Returns the rows."""
         connection = psycopg2.connect(where or self.where)
         connection.autocommit = True
         with contextlib.closing(connection), connection.cursor() as cursor:
@@ -103,7 +107,7 @@ class Server:
             return cursor.fetchall() if cursor.description else []
 
     def close(self) -> None:
-        """Stops it where it runs, and takes its folder away; at the end of the process at the latest."""
+        """Stops the server if it runs, and deletes its folder. Called at the end of the process at the latest."""
         if os.path.exists(self.folder + "/data/postmaster.pid"):
             self.stop("immediate")
         shutil.rmtree(self.folder, ignore_errors=True)
@@ -120,7 +124,7 @@ _shared: list[Server] = []
 
 
 def shared() -> Server:
-    """The server of all tests that want no other, started by the first."""
+    """Returns the server that tests share. The first test starts it."""
     if not _shared:
         _shared.append(Server(durable=False))
     return _shared[0]

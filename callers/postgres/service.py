@@ -1,4 +1,4 @@
-"""A service that answers from the tables of `schema.sql`, over HTTP, by the standard library alone but for the driver.
+"""An HTTP service over the tables of `schema.sql`. It needs only the standard library and the driver.
 
     PYTHONPATH=callers/python CEDAR_LIBRARY=callers/out/libcedar.so \\
         python3 callers/postgres/service.py 'dbname=cedar' 8080
@@ -7,8 +7,8 @@
     curl -X PUT http://localhost:8080/entities -d '[{"uid": "User::\\"alice\\"", "parents": ["Group::\\"staff\\""]}]'
     curl -X DELETE http://localhost:8080/entities -d '["User::\\"alice\\""]'
 
-A connection of a client has a thread of its own, and that its connection to the tables. Whoever reaches the port may
-ask and write: it stands behind whatever says who may.
+Each connection of a client has a thread and a database connection of its own. The service checks no permissions: every
+client that reaches the port can read and write. Restrict the access in front of it.
 """
 import http.server
 import json

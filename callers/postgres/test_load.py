@@ -1,6 +1,6 @@
-"""Many clients at once, a client that is killed, a server that is stopped hard, and a replica.
+"""Tests with many concurrent clients, a killed client, a crashed server and a replica.
 
-No answer may differ from the whole store's at the moment of the answer, and nothing that was committed may be lost.
+Every result has to equal the result of the whole store at that moment. No committed change may be lost.
 """
 from __future__ import annotations
 
@@ -22,8 +22,8 @@ from worlds import request, uid, world
 
 SECONDS = 6
 READERS, WRITERS = 20, 4
-BATCH = 400  # how many entities a client puts in at once that is killed
-PAIR = ('Pair::"left"', 'Pair::"right"')  # two entities that are always put in together, with the same parent
+BATCH = 400  # the number of entities that the killed client writes at once
+PAIR = ('Pair::"left"', 'Pair::"right"')  # two entities that are always inserted together, with the same parent
 CLOCK = 'Clock::"now"'
 
 
@@ -32,7 +32,7 @@ def whole_store(entities: list[Entity]) -> Store:
 
 
 class Client(threading.Thread):
-    """A thread that works until it is told to stop, and connects again where its connection is lost."""
+    """A thread that works until it is stopped, and connects again if its connection is lost."""
 
     def __init__(self, where: str, stop: threading.Event, seed: int, pause: float = 0.0) -> None:
         super().__init__()
@@ -48,7 +48,7 @@ class Client(threading.Thread):
             except Lost:
                 self.lost += 1
                 time.sleep(0.05)
-            except Exception as fault:  # a fault of the test's own is told, and not lost with the thread
+            except Exception as fault:  # reports a fault of the test, which would be lost with the thread
                 self.faults.append(repr(fault))
                 return
 
@@ -61,7 +61,7 @@ class Client(threading.Thread):
 
 
 class Reader(Client):
-    """Asks; and each tenth time for all entities in the same snapshot, to compare with the whole store."""
+    """A client that reads slices. It compares every tenth slice with a store of all entities of the same snapshot."""
 
     def __init__(self, where: str, stop: threading.Event, seed: int, entities: list[Entity]) -> None:
         super().__init__(where, stop, seed, pause=0.04)
@@ -91,16 +91,17 @@ class Reader(Client):
 
 
 class Writer(Client):
-    """Puts in entities of its own, whose versions it keeps account of, and changes those that all share."""
+    """A client that inserts entities of its own, records their versions, and changes entities that all clients share.
+    """
 
     def __init__(self, where: str, stop: threading.Event, seed: int, entities: list[Entity]) -> None:
         super().__init__(where, stop, seed, pause=0.02)
         self.shared = [entity.uid for entity in entities]
         self.groups = [name for name in self.shared if name.startswith("Group")]
         self.seed, self.version, self.refused, self.busy = seed, 0, 0, 0
-        self.lot = 0  # goes on while the server is down, so that nothing is written over what was written before
-        self.committed: dict[int, int] = {}  # what is known to be written, by the number of three entities
-        self.unsure: dict[int, set[int]] = {}  # what may be written besides, since the connection was lost
+        self.lot = 0  # the number of the batch; grows while the server is down, so no entity is overwritten
+        self.committed: dict[int, int] = {}  # versions known to be written, by the number of three entities
+        self.unsure: dict[int, set[int]] = {}  # versions that may be written: the connection was lost
 
     def mine(self, number: int) -> list[str]:
         return [f'Mine::"{self.seed} {number} {at}"' for at in range(3)]
@@ -137,7 +138,9 @@ class Writer(Client):
 
 
 def kill_in_a_write(where: str, drawn: random.Random) -> tuple[int, int]:
-    """Kills a client in a write of many entities: the version that it wrote last, and the one that it had begun."""
+    """Kills a client while it writes many entities. Returns the last version that it wrote and the version that it had
+    begun.
+    """
     command = [sys.executable, "-B", os.path.abspath(__file__), where]
     path = os.pathsep.join(folder for folder in sys.path if folder)
     client = subprocess.Popen(command, stdout=subprocess.PIPE, text=True, env={**os.environ, "PYTHONPATH": path})
@@ -153,7 +156,9 @@ def kill_in_a_write(where: str, drawn: random.Random) -> tuple[int, int]:
 
 
 def write_until_killed(where: str) -> None:
-    """The client that is killed: tells each version before it writes it, so that the one before is written then."""
+    """Runs the client that is killed. It prints each version before writing it, so the previous version is written by
+    then.
+    """
     with Database(where) as database:
         for version in range(1, 1000000):
             print("begun", version, flush=True)
@@ -162,7 +167,9 @@ def write_until_killed(where: str) -> None:
 
 
 class Load(unittest.TestCase):
-    """Readers and writers at once, with clients killed and the server stopped hard in between; then what is left."""
+    """Concurrent readers and writers, with killed clients and server crashes in between, and a check of the final
+    state.
+    """
 
     @classmethod
     def setUpClass(cls) -> None:
@@ -203,7 +210,7 @@ class Load(unittest.TestCase):
 
     @classmethod
     def _batch(cls) -> set[tuple]:
-        """What is seen of the entities of the client that was killed: one pair if it left all or nothing."""
+        """Returns the states of the entities of the killed client. There is exactly one if its write was atomic."""
         with Database(cls.where) as database, database.read([f'Batch::"{at}"' for at in range(BATCH)], True) as part:
             return {(entity.attributes["version"], entity.parents) for entity in part.entities.values()}
 
@@ -246,7 +253,7 @@ class Load(unittest.TestCase):
 
 
 class Keeper(Client):
-    """Puts in edges, with a clock in the same write, and keeps what all entities were at each of its times."""
+    """A client that inserts edges together with a clock value, and records the entities at each clock value."""
 
     def __init__(self, where: str, stop: threading.Event, entities: list[Entity]) -> None:
         super().__init__(where, stop, 23, pause=0.01)
@@ -268,7 +275,7 @@ class Keeper(Client):
 
 
 class Replica(unittest.TestCase):
-    """A primary, and a replica of it that answers requests."""
+    """A primary, and a replica of it that serves requests."""
 
     @classmethod
     def setUpClass(cls) -> None:

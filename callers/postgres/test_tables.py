@@ -1,4 +1,4 @@
-"""What the library reads and writes, by one client and by few: beside the whole store, each time."""
+"""Tests of reads and writes by one client and by a few, compared with the whole store each time."""
 from __future__ import annotations
 
 import contextlib
@@ -35,7 +35,7 @@ def whole_store(entities: list[Entity]) -> Store:
 
 
 def refusal(call, *arguments: object) -> str:
-    """Why a call was refused, or nothing."""
+    """Returns the reason of the error that a call raises, or an empty text."""
     try:
         call(*arguments)
     except Refused as refused:
@@ -227,7 +227,7 @@ def _templates(policies: PolicySet) -> None:
 
 class Shown(unittest.TestCase):
     def test_what_the_page_shows(self) -> None:
-        """The lines that `callers/README.md` shows, over tables of this test."""
+        """Runs the lines that `callers/README.md` shows, on tables of this test."""
         with open(os.path.join(os.path.dirname(HERE), "README.md")) as page:
             shown = page.read().split("## Over PostgreSQL")[1].split("```python\n")[1].split("```")[0]
         where, told = shared().fresh("shown"), io.StringIO()
@@ -252,7 +252,7 @@ class PoliciesOfTables(unittest.TestCase):
         self.assertEqual({*read.policies.bodies(), *read.policies.policies()}, set(read.entries))
 
     def _make(self, change, due: PolicySet) -> str:
-        """Makes one change on the tables and on a set beside them: why both refused it, or nothing."""
+        """Applies a change to the tables and to a set. Returns the reason why both failed, or an empty text."""
         told = refusal(self.database.change_policies, change)
         self.assertEqual(told, refusal(change, due))
         self._same(due)
@@ -283,7 +283,7 @@ class PoliciesOfTables(unittest.TestCase):
 
 
 def _drawn_change(drawn: random.Random, at: int):
-    """A change of a set that is drawn, as a function, since it is made on two."""
+    """Returns a random change of a policy set, as a function, because it is applied to two sets."""
     ids = [drawn.choice(("p", "t", "l", "q", "u", "m", "k")) for _ in range(2)]
     name = drawn.choice(("add_static", "add_template", "link", "link", "unlink", "remove_static", "remove_template"))
     effect, slots = Effect(drawn.randrange(2)), [drawn.random() < 0.5 for _ in range(3)]
@@ -299,7 +299,7 @@ def _drawn_change(drawn: random.Random, at: int):
 
 
 def _fitting(policies: PolicySet, template: str, values: dict, slots: list) -> dict:
-    """Values for the slots of a template; now and then for others."""
+    """Returns values for the slots of a template, and sometimes for other slots."""
     entry = policies.entries.get(template)
     wanted = entry.slots if entry and entry.kind == "template" and sum(slots) > 0 else slots
     return {name: value for (name, value), slot in zip(values.items(), wanted) if slot}

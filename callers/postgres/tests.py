@@ -1,9 +1,10 @@
-"""The tests of the library over a PostgreSQL of this machine. The last line is `N passed, M failed`, and `, K skipped`
-where something is missing, which is named.
+"""Tests of the library with a PostgreSQL server of this machine.
 
-    test                 everything, the load for some seconds
-    test --minute        the load for a minute
-    test --missing       names what is missing, and runs nothing
+The last line is `N passed, M failed`, and `, K skipped` if a program or a package is missing.
+
+    test                 runs everything, and the load test for some seconds
+    test --minute        runs the load test for a minute
+    test --missing       prints what is missing, and runs nothing
 """
 from __future__ import annotations
 
@@ -19,7 +20,7 @@ sys.path[:0] = [HERE, os.path.join(os.path.dirname(HERE), "python")]
 
 
 def missing() -> str:
-    """What is not here and is wanted, or nothing."""
+    """Returns the name of the missing program or package, or an empty text."""
     try:
         import psycopg2
     except ImportError:
@@ -30,7 +31,7 @@ def missing() -> str:
 
 
 class Timed(unittest.TextTestResult):
-    """Tells, of each test, how many seconds it took, and counts those that passed."""
+    """A test result that prints the duration of each test and counts the passed tests."""
 
     passed = 0
 
@@ -65,7 +66,7 @@ def main(arguments: list[str]) -> int:
     tests = load.loadTestsFromNames(names) if names else unittest.TestSuite(
         [load.loadTestsFromModule(module) for module in (test_tables, test_load)])
     told = io.StringIO()
-    signal.signal(signal.SIGTERM, lambda *_: sys.exit(1))  # so that servers are stopped then too
+    signal.signal(signal.SIGTERM, lambda *_: sys.exit(1))  # so that the servers are stopped
     result = unittest.TextTestRunner(stream=told, verbosity=2, resultclass=Timed).run(tests)
     ill = len(result.failures) + len(result.errors)
     if ill:

@@ -1,4 +1,4 @@
-"""Worlds that are drawn: users of groups, documents of folders, and parents that are no entities."""
+"""Random entities for tests: users in groups, documents in folders, and parents that are not entities."""
 from __future__ import annotations
 
 import random
@@ -7,17 +7,17 @@ from cedar_postgres import Entity
 
 
 def uid(kind: str, number: int) -> str:
-    """A uid; those of documents have a quote in them, and those of some users letters past ASCII."""
+    """Returns a uid. Ids of documents contain a quote, and ids of some users non-ASCII letters."""
     user = f"é{number}" if number % 7 == 0 else f"u{number}"
     name = {"Doc": f"it\\'s {number}", "User": user}.get(kind, str(number))
     return f'{kind}::"{name}"'
 
 
 def world(count: int, drawn: random.Random) -> list[Entity]:
-    """So many entities: of 50 some 1 is a group, 3 are folders, 33 users and the others documents.
+    """Returns `count` entities. About 1 of 50 is a group, 3 are folders, 33 are users and the others are documents.
 
-    A group or a folder stands below ones with lower numbers, so there is no cycle. Some parents of users and of folders
-    are no entities.
+    The parents of a group or a folder have lower numbers, so there is no cycle. Some parents of users and folders are
+    not entities.
     """
     groups, folders, users = max(count // 50, 2), max(count // 16, 2), count * 2 // 3
     entities = [Entity(uid("Group", at), _below("Group", at, drawn.randrange(3), drawn)) for at in range(groups)]
@@ -34,12 +34,12 @@ def world(count: int, drawn: random.Random) -> list[Entity]:
 
 
 def _below(kind: str, bound: int, count: int, drawn: random.Random) -> tuple[str, ...]:
-    """Parents of a kind with numbers below a bound."""
+    """Returns parents of a kind with numbers below a bound."""
     return tuple({uid(kind, drawn.randrange(bound)): None for _ in range(count if bound else 0)})
 
 
 def request(entities: list[Entity], drawn: random.Random) -> list[str]:
-    """The uids of a request: a principal, an action and a resource; now and then one that is no entity."""
+    """Returns the uids of a request: a principal, an action and a resource. Sometimes one of them is not an entity."""
     asked = [drawn.choice(entities).uid, 'Action::"view"', drawn.choice(entities).uid]
     if drawn.random() < 0.05:
         asked[drawn.randrange(3)] = drawn.choice(('Group::"gone"', 'User::"nobody"'))

@@ -1,4 +1,4 @@
-"""Ten tasks of who writes an authorizer or an administration service: the functions that docs/GUIDE.md quotes."""
+"""Ten tasks of an authorizer or an administration service. `docs/GUIDE.md` quotes these functions."""
 from typing import Callable
 
 from cedar_store import Effect, Entities, Policies, Refused, Store

@@ -1,4 +1,4 @@
-"""The tests of copies and slices that go to other threads, which `test_cedar_store.py` runs too."""
+"""Tests of copies and slices that are given to other threads. `test_cedar_store.py` runs them too."""
 import concurrent.futures
 import os
 import pickle
@@ -16,18 +16,18 @@ def uid(name):
 
 
 def made(*pairs):
-    """Entities, each with the names of its parents."""
+    """Returns entities, each with the names of its parents."""
     return {uid(name): list(map(uid, parents)) for name, parents in pairs}
 
 
 def on_thread(call):
-    """Makes a call on another thread, and what came of it."""
+    """Makes a call on another thread, and returns its result or its exception."""
     with concurrent.futures.ThreadPoolExecutor(1) as pool:
         return pool.submit(call).result()
 
 
 def resident():
-    """The bytes that this process has in memory, where Linux tells them, and else none."""
+    """Returns the resident memory of this process in bytes, or 0 if the system does not report it."""
     try:
         with open("/proc/self/statm") as told:
             return int(told.read().split()[1]) * os.sysconf("SC_PAGE_SIZE")
@@ -127,7 +127,7 @@ class Apart(unittest.TestCase):
                     held.clear()
                     held = [store.copy_apart()]
                     on_thread(held.clear)
-        # Four hundred of them take more than eighty megabytes.
+        # Four hundred copies take more than eighty megabytes.
         self.assertLess(resident() - before, 8 << 20)
         self.assertEqual((len(own.opened), own.left), (opened, []))
 

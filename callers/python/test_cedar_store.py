@@ -1,4 +1,4 @@
-"""The tests of the module. The last line is `N passed, M failed`."""
+"""The tests of the package. The last line is `N passed, M failed`."""
 import concurrent.futures
 import copy
 import gc
@@ -379,7 +379,7 @@ class Refusals(unittest.TestCase):
             self.assertEqual(uids, tuple(map(uid, names)))
             self.assertEqual((type(uids), type(uids[0]), uids[0].id), (tuple, EntityUid, "a"))
             self.assertEqual(pickle.loads(pickle.dumps(caught.exception)).uids, uids)
-        # A uid that has blanks, quotes and what looks like another uid in its id.
+        # A uid with spaces, quotes and the text of another uid in its id.
         name = EntityUid.make("N::A", 'x " A::"b" \\')
         with self.assertRaises(Refused) as caught:
             Store({name: [name]})
@@ -410,7 +410,7 @@ class Refusals(unittest.TestCase):
         store = Store(made(("a", "b")))
         with self.assertRaises(Refused):
             store.add(made(("b", "a")))
-        # These have no text: that of the last refusal is not theirs.
+        # Errors without a text of their own do not get the text of the last error.
         for status in (26, 27, 28):
             with self.assertRaises(Refused) as caught:
                 store._refuse(status)
@@ -458,7 +458,7 @@ class Pickles(unittest.TestCase):
             again = pickle.loads(pickle.dumps(store))
             self.assertEqual([again.entity(uid) for uid in again], [store.entity(uid) for uid in again])
         else:
-            with self.assertRaisesRegex(TypeError, "no mode makes"):
+            with self.assertRaisesRegex(TypeError, "no mode computes"):
                 pickle.dumps(store)
         self.assertEqual(len(store), 4)
 
@@ -500,7 +500,7 @@ class Pickles(unittest.TestCase):
         store = Store(made(("a", "b"), ("b", "c")))
         with concurrent.futures.ProcessPoolExecutor(1) as pool:
             again = pool.submit(edited, store.portable(), uid("x")).result()
-            # A pool pickles on a thread of its own.
+            # A process pool pickles on a thread of its own.
             with self.assertRaisesRegex(WrongThread, "portable"):
                 pool.submit(edited, store, uid("x")).result()
         self.assertEqual((set(again), again.parents(uid("x"))), ({uid("a"), uid("b"), uid("x")}, [uid("a")]))
@@ -575,7 +575,7 @@ class Arguments(unittest.TestCase):
 
 
 def resident():
-    """The bytes that this process has in memory, where Linux tells them, and else none."""
+    """Returns the resident memory of this process in bytes, or 0 if the system does not report it."""
     try:
         with open("/proc/self/statm") as told:
             return int(told.read().split()[1]) * os.sysconf("SC_PAGE_SIZE")
@@ -584,13 +584,13 @@ def resident():
 
 
 def in_cycle(entities):
-    """A store that nothing but a cycle of references holds."""
+    """Creates a store that is only referenced by a cycle of references."""
     held = [Store(entities)]
     held.append(held)
 
 
 def on_thread(call):
-    """Makes a call on another thread, and what came of it."""
+    """Makes a call on another thread, and returns its result or its exception."""
     with concurrent.futures.ThreadPoolExecutor(1) as pool:
         return pool.submit(call).result()
 
@@ -612,7 +612,7 @@ class Memory(unittest.TestCase):
         self.assertLess(resident() - before, 8 * self.MEGABYTE)
 
     def left_to_the_collector(self, collects):
-        """Five hundred stores in cycles, which are found by a collector that is called so."""
+        """Creates five hundred stores in reference cycles, and calls the garbage collector."""
         gc.disable()
         try:
             for _ in range(500):
@@ -630,13 +630,13 @@ class Memory(unittest.TestCase):
                 before = resident()
                 for _ in range(3):
                     self.left_to_the_collector(collects)
-            # Five hundred of them take more than a hundred megabytes.
+            # Five hundred stores take more than a hundred megabytes.
             self.assertLess(resident() - before, 8 * self.MEGABYTE)
 
     def test_another_thread_lets_go(self):
         held = [Store(self.many)]
         other = held[0].copy()
-        with self.assertWarnsRegex(ResourceWarning, "a store let go of by another thread"):
+        with self.assertWarnsRegex(ResourceWarning, "a store dropped by another thread"):
             on_thread(held.clear)
         own = cedar_store._held.LOCAL.thread
         self.assertEqual(len(own.left), 1)
@@ -645,7 +645,10 @@ class Memory(unittest.TestCase):
         self.assertEqual((len(own.left), len(own.opened)), (0, opened - 1))
 
     def test_a_thread_that_begins_lets_go(self):
-        """What a thread lets go of before it has something of its own, as the collector may, is left to its own."""
+        """Checks an object that a thread drops before its own state exists, as the garbage collector may do.
+
+        The owning thread has to free it.
+        """
         held, own = [Store(made(("a", "b")))], cedar_store._held.LOCAL.thread
         begins = cedar_store._held.Thread.__init__
 
@@ -655,7 +658,7 @@ class Memory(unittest.TestCase):
 
         cedar_store._held.Thread.__init__ = lets_go
         try:
-            with self.assertWarnsRegex(ResourceWarning, "a store let go of by another thread"):
+            with self.assertWarnsRegex(ResourceWarning, "a store dropped by another thread"):
                 on_thread(lambda: Store(made(("c", "d"))).close())
         finally:
             cedar_store._held.Thread.__init__ = begins
@@ -699,7 +702,7 @@ class Memory(unittest.TestCase):
             len(stores[0])
         before = resident()
         kept = [made_and_left() for _ in range(40)]
-        # All of them take a thousand megabytes; what stays is what the allocator keeps for threads.
+        # All stores together take a thousand megabytes. The rest is memory that the allocator keeps for threads.
         self.assertLess(resident() - before, 100 * self.MEGABYTE)
         with warnings.catch_warnings():
             warnings.simplefilter("error")
@@ -716,12 +719,12 @@ class Package(unittest.TestCase):
             shutil.copytree(package, alone, ignore=shutil.ignore_patterns("*.so", "__pycache__"))
 
             def told(**environment):
-                """What a program over the package alone says, with these variables."""
+                """Returns the output of a program that uses only the package, with these environment variables."""
                 given = [sys.executable, "-B", "-c", "import cedar_store; print(cedar_store.is_uid('A::\"a\"'))"]
                 ran = subprocess.run(given, cwd=folder, env={**bare, **environment}, capture_output=True, text=True)
                 return ran.stdout + ran.stderr
 
-            self.assertIn("ImportError: there is no libcedar.so: run callers/run", told())
+            self.assertIn("ImportError: cannot find libcedar.so: run callers/run", told())
             self.assertEqual(told(CEDAR_LIBRARY=library), "True\n")
             self.assertIn("OSError", told(CEDAR_LIBRARY=os.path.join(folder, "none.so")))
             shutil.copy(library, os.path.join(alone, "libcedar.so"))

@@ -1,4 +1,4 @@
-"""The tests of policy sets, which `test_cedar_store.py` runs too."""
+"""Tests of policy sets. `test_cedar_store.py` runs them too."""
 import unittest
 
 from cedar_store import Bound, Closed, Constraint, Effect, Policies, Refused

@@ -1,7 +1,7 @@
-"""The tests of values and expressions, of the nodes by which they cross, and of entities that have them.
+"""Tests of values and expressions, of their nodes, and of entities with attributes and tags.
 
-What they need of the library is uids, but for the last: there is one class for a library that takes values, and one for
-a library that does not.
+Most of them need only uids from the library. The last class is an exception: it has one version for a library that
+takes values, and one for a library that does not.
 """
 import copy
 import pickle
@@ -104,7 +104,7 @@ class Values(unittest.TestCase):
         self.assertFalse(same(True, 1) or same(0, False) or same([True], [1]) or same({"a": True}, {"a": 1}))
         self.assertFalse(same(ALICE, str(ALICE)) or same([1], 1) or same([], {}))
         for members in ([True, 1], [[0], [False]], [ALICE, str(ALICE)], [{"a": 0}, {"a": False}]):
-            with self.assertRaisesRegex(ValueError, "takes for one"):
+            with self.assertRaisesRegex(ValueError, "equal in Python"):
                 from_nodes(*to_nodes(members))
         self.assertEqual(from_nodes(*to_nodes([[True], 1])), frozenset({frozenset({True}), 1}))
         again = from_nodes(*to_nodes({"a": [1, 1, {"b": 2}], "c": True}))

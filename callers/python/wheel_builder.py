@@ -1,7 +1,7 @@
-"""Builds the wheel of this package, with the shared library in it: `./build FOLDER`, or any front end of wheels.
+"""Builds the wheel of this package, with the shared library in it.
 
-It stands in the place of a tool that a machine may lack: `pip wheel --no-deps .` needs nothing else, and no network.
-The library is the one that CEDAR_LIBRARY names or, where nothing does, what `callers/run` left in `callers/out`.
+Run it as `./build FOLDER`, or by any wheel front end: `pip wheel --no-deps .` needs no other tool and no network.
+`CEDAR_LIBRARY` names the library. If it is not set, the library is the one that `callers/run` built in `callers/out`.
 """
 import base64
 import hashlib
@@ -16,11 +16,11 @@ CALLERS = os.path.dirname(HERE)
 
 
 class UnsupportedOperation(Exception):
-    """There is no source distribution."""
+    """Raised for a source distribution, which does not exist."""
 
 
 def _project():
-    """The name, the version and so on that `pyproject.toml` has, each on a line of its own."""
+    """Returns the fields of `pyproject.toml` that are on a line of their own, like the name and the version."""
     with open(os.path.join(HERE, "pyproject.toml"), encoding="utf-8") as file:
         return dict(re.findall(r'^([a-z-]+) = "(.*)"$', file.read(), re.M))
 
@@ -28,7 +28,7 @@ def _project():
 def _library():
     path = os.environ.get("CEDAR_LIBRARY") or os.path.join(CALLERS, "out", "libcedar.so")
     if not os.path.exists(path):
-        raise SystemExit(f"there is no {path}: run callers/run first, or name the library by CEDAR_LIBRARY")
+        raise SystemExit(f"cannot find {path}: run callers/run first, or set CEDAR_LIBRARY to the path of the library")
     return path
 
 
@@ -53,7 +53,7 @@ def _metadata(project):
 
 
 def _files(project, tag, info):
-    """What the wheel has, by its paths."""
+    """Returns the files of the wheel by their paths."""
     files = {}
     package = os.path.join(HERE, "cedar_store")
     for name in sorted(os.listdir(package)):
@@ -77,7 +77,7 @@ def _record(files, info):
 
 
 def build_wheel(wheel_directory, config_settings=None, metadata_directory=None):
-    """Writes the wheel into a folder, and answers its name."""
+    """Writes the wheel into a folder, and returns its file name."""
     project = _project()
     tag = "py3-none-" + re.sub("[-.]", "_", sysconfig.get_platform())
     stem = re.sub("[-_.]+", "_", project["name"]) + "-" + project["version"]
@@ -95,8 +95,8 @@ def build_wheel(wheel_directory, config_settings=None, metadata_directory=None):
 
 
 def build_sdist(sdist_directory, config_settings=None):
-    """None is built: the library comes out of a checkout."""
-    raise UnsupportedOperation("the library is built in a checkout: build the wheel there")
+    """Raises `UnsupportedOperation`: the library is built in a checkout only."""
+    raise UnsupportedOperation("no source distribution: build the wheel in a checkout, where the library is built")
 
 
 if __name__ == "__main__":

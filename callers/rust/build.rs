@@ -1,5 +1,5 @@
-//! Links the two archives. They stand in the folder that CEDAR_LIBRARY_DIR names or, where nothing does, in `../out`,
-//! where `callers/run` puts them.
+//! Links the two archives of the library. They are in the folder `CEDAR_LIBRARY_DIR`. If that variable is not set, they
+//! are in `../out`, where `callers/run` writes them.
 use std::path::Path;
 
 fn main() {
@@ -11,9 +11,9 @@ fn main() {
         println!("cargo:rerun-if-changed={}", path.display());
         assert!(
             path.is_file(),
-            "there is no {}. Run callers/run in the checkout, which leaves both archives in callers/out; or let \
-             CEDAR_LIBRARY_DIR name the folder that has libcedar_c.a and liblibc_c.a, as callers/out/try, where \
-             callers/try leaves them, unproved",
+            "there is no {}. Run callers/run in the checkout, which writes both archives to callers/out. Or set \
+             CEDAR_LIBRARY_DIR to a folder with libcedar_c.a and liblibc_c.a, for example callers/out/try, to which \
+             callers/try writes them without proofs",
             path.display()
         );
     }

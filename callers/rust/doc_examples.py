@@ -1,11 +1,14 @@
 #!/usr/bin/env python3
-"""Runs the examples that stand in the comments of the package `cedar-store` over this crate under that name: what both have differs by the
-name alone, so each is compiled as it stands there. `doc_examples.txt` names those with calls that do not cross.
+"""Runs the examples in the comments of the package `cedar-store` with the crate `cedar-store-proved`.
+
+Both have the same public names, so each example is compiled unchanged, under the name of the package.
+`doc_examples.txt` lists the examples with calls that the crate does not have.
 
     callers/rust/doc_examples.py OUT [--list]
 
-OUT is a folder for the crate that is made of them. `CEDAR_LIBRARY_DIR` names the library's, as for the crate itself. With `--list` it tells
-which do not compile, in the form of the file. Ends with `N passed, M failed`.
+OUT is a folder for the generated crate. `CEDAR_LIBRARY_DIR` names the folder of the library, as for the crate itself.
+With `--list` it prints the examples that do not compile, in the form of doc_examples.txt. The last line is `N passed, M
+failed`.
 """
 import glob
 import json
@@ -20,14 +23,14 @@ ITEM = re.compile(r'^\s*(?:#\[.*\]\s*)?(?:pub )?(?:const |unsafe )?(?:fn|struct|
 
 
 class Example:
-    """An example: the file and the item that it stands above, its lines, and the name of its module."""
+    """An example: its file and item, its lines, and the name of its module."""
 
     def __init__(self, place, lines):
         self.place, self.lines = place, lines
         self.module = 'at_' + re.sub(r'\W+', '_', place)
 
     def text(self):
-        """The module that runs it as rustdoc would."""
+        """Returns the module that runs the example as rustdoc would."""
         body = '\n'.join(self.lines)
         if re.search(r'^\s*fn main\(', body, re.M):
             return f'mod {self.module} {{\n{body}\n#[test]\nfn example() {{ let _ended = main(); }}\n}}\n'
@@ -38,7 +41,7 @@ class Example:
 
 
 def examples_of(path, name):
-    """The examples of one file, in their order."""
+    """Returns the examples of one file, in order."""
     found, waiting, inside = [], [], None
     with open(path, encoding='utf-8') as text:
         for line in text:
@@ -62,7 +65,7 @@ def examples_of(path, name):
 
 
 def all_examples():
-    """All examples, by their files."""
+    """Returns all examples, in the order of their files."""
     found = []
     for path in sorted(glob.glob(os.path.join(PACKAGE, '**', '*.rs'), recursive=True)):
         found += examples_of(path, os.path.relpath(path, PACKAGE)[:-len('.rs')])
@@ -70,7 +73,7 @@ def all_examples():
 
 
 def write(out, examples):
-    """Writes the crate of these examples."""
+    """Writes the crate that runs the given examples."""
     os.makedirs(os.path.join(out, 'src'), exist_ok=True)
     with open(os.path.join(out, 'Cargo.toml'), 'w', encoding='utf-8') as text:
         text.write('[package]\nname = "doc-examples"\nversion = "0.1.0"\nedition = "2021"\n\n[workspace]\n\n[dependencies]\n'
@@ -80,7 +83,7 @@ def write(out, examples):
 
 
 def failing(out, examples):
-    """Those that do not compile, by what rustc says of their lines."""
+    """Returns the examples that do not compile, found by the lines of rustc's errors."""
     told = subprocess.run(['cargo', 'test', '-q', '--offline', '--no-run', '--message-format=json'],
                           cwd=out, capture_output=True, text=True, check=False)
     starts, line = [], 3
@@ -101,7 +104,7 @@ def failing(out, examples):
 
 
 def listed(out, examples):
-    """Prints which do not compile, in turn, as what is refused first hides the rest."""
+    """Prints the examples that do not compile. Compiles repeatedly, because the first errors hide later ones."""
     apart = set()
     while True:
         rest = [example for example in examples if example not in apart]
@@ -125,7 +128,7 @@ def main():
     places = {example.place for example in examples}
     gone = [place for place in apart if place not in places]
     for place in gone:
-        print(f'doc_examples.txt: there is no example at {place}')
+        print(f'doc_examples.txt: no example at {place}')
     write(out, [example for example in examples if example.place not in apart])
     told = subprocess.run(['cargo', 'test', '-q', '--offline', '--no-fail-fast'], cwd=out, capture_output=True, text=True, check=False)
     counts = re.search(r'^test result: \w+\. (\d+) passed; (\d+) failed', told.stdout, re.M)

@@ -1,24 +1,32 @@
 """Stores of entities and policy sets of the Cedar authorization language.
 
-The calls are those of a static library whose functions are proved, up to the boundary that `cedar.h` describes; this
-package lays lists out for it, copies answers out of it, and lets go of what it holds. It is tested, not proved. The
-shared library is the one that CEDAR_LIBRARY names or, where nothing does, `libcedar.so` beside this file, as a wheel
-has it; in a checkout it is what `callers/run` leaves.
+The package calls a library whose functions are proved, within the limits that `cedar.h` describes. The package itself
+is tested, not proved. It encodes Python lists for the library, copies results out of it and frees its handles.
 
-Uids are texts as `A::B::"c"`: a type, and an id in quotes, escaped; `EntityUid` makes one of a type and an id. Ids of
-policies are any text. A refused call raises `Refused`, and one on what was let go of `Closed`. A number that is no mode
-or no effect raises `ValueError`, want of memory `MemoryError`.
+`CEDAR_LIBRARY` names the shared library. If it is not set, the package loads the `libcedar.so` in its own folder, which
+a wheel contains. In a checkout it then tries `callers/out/libcedar.so`, which `callers/run` builds.
 
-A store or a set is of the thread that made it: another thread's call raises `WrongThread`. One that another thread lets
-go of last is freed by its own thread, at that thread's next call on a store or a set, and `ResourceWarning` says so. As
-a thread ends, all that it made is freed.
+A uid is a text like `A::B::"c"`: a type, and an escaped id in quotes. `EntityUid.make` builds one from a type and an
+id. The id of a policy or of a template is any text.
 
-Entities may have attributes and tags, as `Entity` and the module `values` have them, and policies constraints
-(`Constraint`), annotations and a condition. A library from before that lacks some calls: `NotImplementedError` says so.
+Raises:
+    Refused: the library returned an error. `reason` and the text describe it.
+    Closed: the store or the policy set was closed before the call.
+    WrongThread: the store or the policy set belongs to another thread.
+    ValueError: a mode, an effect or a key is invalid.
+    MemoryError: an allocation failed.
+    NotImplementedError: the loaded library is older than the call.
 
-The maps of a store or a set hash by a key of 16 bytes, drawn by `os.urandom` where none is given, so that whoever picks
-ids cannot pick such as collide. No answer depends on it, but for which of several cycles or of several missing
-ancestors a refusal names.
+A store or a policy set belongs to the thread that created it. If another thread drops the last reference, the owning
+thread frees it at its next call on a store or a set. A `ResourceWarning` reports this. When a thread ends, everything
+that it created is freed.
+
+Entities can have attributes and tags: see `Entity` and the module `values`. Policies can have constraints (see
+`Constraint`), annotations and a condition.
+
+The maps of a store or a set are hashed with a key of 16 bytes. If no key is given, `os.urandom` draws one. An attacker
+who controls the ids then cannot force hash collisions. The key affects two results: the order of `uids`, and which of
+several cycles, or of several missing ancestors, an error names.
 """
 from __future__ import annotations
 

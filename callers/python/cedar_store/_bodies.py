@@ -1,4 +1,4 @@
-"""Bodies of policies and templates, as they cross: constraints, annotations and a clause."""
+"""Bodies of policies and templates, encoded for the library: constraints, annotations and a clause."""
 from __future__ import annotations
 
 from array import array
@@ -13,7 +13,7 @@ _ANY, _EQ, _EQ_SLOT, _IN, _IN_SLOT, _IS, _IS_IN, _IS_IN_SLOT = range(8)
 
 
 class Constraint(NamedTuple):
-    """What a policy asks of the principal, the action or the resource; by itself nothing."""
+    """A constraint of a policy on the principal, the action or the resource. The default has no effect."""
 
     kind: int = _ANY
     type: Optional[str] = None
@@ -21,42 +21,42 @@ class Constraint(NamedTuple):
 
     @classmethod
     def any(cls) -> Constraint:
-        """It may be anything."""
+        """Returns the constraint that every entity meets."""
         return cls()
 
     @classmethod
     def is_eq(cls, uid: str) -> Constraint:
-        """It is this uid."""
+        """Returns the constraint `== uid`."""
         return cls(_EQ, None, (uid,))
 
     @classmethod
     def is_eq_slot(cls) -> Constraint:
-        """It is what its slot is bound to."""
+        """Returns the constraint `==` with the slot on the right."""
         return cls(_EQ_SLOT)
 
     @classmethod
     def is_in(cls, *uids: str) -> Constraint:
-        """It is this uid or below it; an action is one of some uids, or below one."""
+        """Returns the constraint `in uid`. For an action it takes a list of uids: `in [uid, ..]`."""
         return cls(_IN, None, uids)
 
     @classmethod
     def is_in_slot(cls) -> Constraint:
-        """It is what its slot is bound to, or below that."""
+        """Returns the constraint `in` with the slot on the right."""
         return cls(_IN_SLOT)
 
     @classmethod
     def is_entity_type(cls, type: str) -> Constraint:
-        """It is of this type. An action has none."""
+        """Returns the constraint `is type`. Not for actions."""
         return cls(_IS, type)
 
     @classmethod
     def is_entity_type_in(cls, type: str, uid: str) -> Constraint:
-        """It is of this type, and this uid or below it."""
+        """Returns the constraint `is type in uid`. Not for actions."""
         return cls(_IS_IN, type, (uid,))
 
     @classmethod
     def is_entity_type_in_slot(cls, type: str) -> Constraint:
-        """It is of this type, and what its slot is bound to or below that."""
+        """Returns the constraint `is type in` with the slot on the right. Not for actions."""
         return cls(_IS_IN_SLOT, type)
 
 
@@ -64,13 +64,13 @@ ANY = Constraint()
 
 
 def told(kind: int, texts: List[str]) -> Constraint:
-    """The constraint that a number and the texts of its type and its uids tell."""
+    """Decodes a constraint from its kind and the texts of its type and its uids."""
     typed = texts[: int(kind in (_IS, _IS_IN, _IS_IN_SLOT))]
     return Constraint(kind, "".join(typed) if typed else None, tuple(map(EntityUid, texts[len(typed) :])))
 
 
 class Body:
-    """A body as one text and lists over it. What it has is kept for the call."""
+    """A body, encoded as one text and lists of places in it. It must live until the call returns."""
 
     def __init__(
         self,
@@ -92,16 +92,16 @@ class Body:
         self.counts = len(pairs) // 4, len(uids) // 2, len(draft.nodes)
 
     def arguments(self) -> Tuple[object, ...]:
-        """What the call is given behind the handle and the id."""
+        """Returns the arguments of the call that follow the handle and the id."""
         body, pairs, uids, nodes = (laid.buffer_info()[0] for laid in self.lists)
         annotated, counted, noded = self.counts
         return self.text, len(self.text), body, pairs, annotated, uids, counted, nodes, noded
 
 
 def _scope(draft: Draft, constraint: Constraint, lists_uids: bool = False) -> List[int]:
-    """A constraint as its number, the place of its uid and that of its type."""
+    """Encodes a constraint as its kind, the place of its uid and the place of its type."""
     kind, type, uids = constraint
     if not (lists_uids and kind == _IN) and len(uids) != int(kind in (_EQ, _IN, _IS_IN)):
-        raise ValueError("a constraint of this kind has another number of uids")
+        raise ValueError("a constraint of this kind takes another number of uids")
     uid = (0, 0) if lists_uids and kind == _IN or not uids else draft.place(uids[0])
     return [kind, *uid, *((0, 0) if type is None else draft.place(type))]

@@ -1,4 +1,4 @@
-"""Entities with their attributes, tags and indirect ancestors, as they cross."""
+"""Entities with their attributes, tags and indirect ancestors, encoded for the library."""
 from __future__ import annotations
 
 from array import array
@@ -10,7 +10,7 @@ from .values import Draft, packed
 
 
 class Content:
-    """Entities as one text and lists over it. What it has is kept for the call."""
+    """Entities, encoded as one text and lists of places in it. It must live until the call returns."""
 
     def __init__(self, entities: List[Entity]) -> None:
         self.count = len(entities)
@@ -47,7 +47,7 @@ class Content:
         self.crossing = laid_edges(self.edges), laid_edges(self.above)
 
     def arguments(self) -> Tuple[object, ...]:
-        """What the call is given behind the handle, but for the mode."""
+        """Returns the arguments of the call between the handle and the mode."""
         _, _, spans, uids_len = self.uids.arguments()
         edges, above = self.crossing
         return (

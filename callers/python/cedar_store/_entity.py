@@ -1,4 +1,4 @@
-"""What a store has with a uid."""
+"""Entities, and the marker for an entity that a partial store does not know."""
 from __future__ import annotations
 
 import dataclasses
@@ -10,17 +10,22 @@ from .values import Expr, Record, Term, same
 
 
 class Unknown(enum.Enum):
-    """What a partial store has with a uid that it lacks: that is not known."""
+    """The lookup result of a partial store for a uid that it does not contain: the entity is unknown."""
 
     UNKNOWN = "unknown"
 
 
 @dataclasses.dataclass(frozen=True, init=False, eq=False)
 class Entity:
-    """An entity to be handed to a store, or as it was when it was read.
+    """An entity to insert into a store, or a snapshot of one that was read.
 
-    It has a uid, its parents, attributes and tags, which are values or expressions that are left over
-    (`cedar_store.values`), and the indirect ancestors: those that are no parents. Two are equal where all of it is.
+    It has a uid, parents, attributes, tags and indirect ancestors. An attribute or a tag is a value or a residual
+    expression (see `cedar_store.values`). Indirect ancestors are the ancestors that are not parents. Two entities are
+    equal if all their parts are equal.
+
+    Raises:
+        Refused: `not a uid` if a text is not a uid.
+        TypeError: one text was given where a list of uids is expected, or a text is not a `str`.
     """
 
     uid: EntityUid
@@ -47,12 +52,12 @@ class Entity:
 
     @property
     def ancestors(self) -> FrozenSet[EntityUid]:
-        """All that it is a descendant of."""
+        """Returns the parents and the indirect ancestors."""
         return self.parents | self.indirect_ancestors
 
     @property
     def has_content(self) -> bool:
-        """Whether it has more than its parents."""
+        """Returns whether the entity has attributes, tags or indirect ancestors."""
         return bool(self.attrs or self.tags or self.indirect_ancestors)
 
     def __eq__(self, other: object) -> bool:
@@ -82,11 +87,11 @@ def _are_same(some: Mapping[str, Term], others: Mapping[str, Term]) -> bool:
 
 
 def _as_uid(text: str) -> EntityUid:
-    """A text as a uid, which is refused where it is none."""
+    """Returns the text as an `EntityUid`. Raises `Refused` if it is not a uid."""
     return text if isinstance(text, EntityUid) else EntityUid(text)
 
 
 def _as_uids(texts: Iterable[str]) -> FrozenSet[EntityUid]:
     if isinstance(texts, str):
-        raise TypeError("a list of texts is wanted, and this is one text")
+        raise TypeError("expected a list of texts, got one text")
     return frozenset(map(_as_uid, texts))

@@ -1,4 +1,4 @@
-"""Expressions: small things that do not change, and that are equal where all of them is."""
+"""Immutable expressions. Two expressions are equal if all their parts are equal."""
 from __future__ import annotations
 
 from typing import Any, List, NoReturn, Optional, Tuple, Union
@@ -9,9 +9,9 @@ Literal = Union[bool, int, str]
 
 
 class Expr:
-    """An expression. `~` negates it, `&` joins two; `eq`, `is_in` and `is_type` ask of it.
+    """An expression. `~` negates it, and `&` builds a conjunction. `eq`, `is_in` and `is_type` build tests of it.
 
-    `==` says whether two expressions are the same one; an expression has no truth.
+    `==` compares two expressions in Python. An expression has no truth value.
     """
 
     __slots__ = ("_says", "below", "_hash")
@@ -21,21 +21,21 @@ class Expr:
 
     def __new__(cls, *_: Any, **__: Any) -> Any:
         if cls is Expr:
-            raise TypeError("an expression is of one of the kinds")
+            raise TypeError("Expr is abstract: create one of its subclasses")
         return super().__new__(cls)
 
     def _made(self, says: Tuple[Any, ...], *below: Expr) -> None:
-        """Fills it: what it says itself, and the expressions below it."""
+        """Sets the fields: the expression's own data, and its operands."""
         set_field = object.__setattr__
         set_field(self, "_says", says)
         set_field(self, "below", below)
         set_field(self, "_hash", hash((type(self), says, tuple(map(hash, below)))))
 
     def __setattr__(self, _: str, __: object) -> NoReturn:
-        raise AttributeError("an expression does not change")
+        raise AttributeError("an expression is immutable")
 
     def __delattr__(self, _: str) -> NoReturn:
-        raise AttributeError("an expression does not change")
+        raise AttributeError("an expression is immutable")
 
     def __invert__(self) -> Expr:
         return Not(self)
@@ -47,19 +47,31 @@ class Expr:
         return And(other, self)
 
     def eq(self, other: Operand) -> Expr:
-        """Whether it equals another one."""
+        """Builds the test whether both expressions are equal.
+
+        Raises:
+            TypeError: the operand is not an expression or a literal.
+        """
         return Eq(self, other)
 
     def is_in(self, other: Operand) -> Expr:
-        """Whether it is an entity, or a descendant of an entity or of one of a set."""
+        """Builds the test whether an entity is, or is a descendant of, another entity or an element of a set.
+
+        Raises:
+            TypeError: the operand is not an expression or a literal.
+        """
         return In(self, other)
 
     def is_type(self, type: str) -> Expr:
-        """Whether it is an entity of a type."""
+        """Builds the test whether the expression is an entity of a type.
+
+        Raises:
+            TypeError: the type is not a `str`.
+        """
         return Is(self, type)
 
     def __bool__(self) -> bool:
-        raise TypeError("an expression has no truth: join by & and ~, compare by eq")
+        raise TypeError("an expression has no truth value: combine expressions with & and ~, compare with eq")
 
     def __hash__(self) -> int:
         return self._hash
@@ -86,7 +98,7 @@ class Expr:
         return expr_from_nodes, (text, nodes)
 
     def __str__(self) -> str:
-        """The text of the expression, for people to read."""
+        """Returns the text of the expression, for display."""
         order: List[Expr] = []
         pending: List[Expr] = [self]
         while pending:
@@ -103,7 +115,7 @@ class Expr:
         return f"<{type(self).__name__} {self}>"
 
     def _text(self, below: List[str]) -> str:
-        """Its text, of those of the expressions below it."""
+        """Returns the text of the expression, from the texts of its operands."""
         raise NotImplementedError
 
 
@@ -111,7 +123,7 @@ Operand = Union[Expr, Literal]
 
 
 def expr_of(operand: Operand) -> Expr:
-    """An expression as it is, and a truth, a number, a text or a uid as a literal."""
+    """Returns an expression unchanged, and a `bool`, an `int`, a text or a uid as a literal."""
     return operand if isinstance(operand, Expr) else Lit(operand)
 
 
@@ -120,7 +132,7 @@ def _quoted(text: str) -> str:
 
 
 class Lit(Expr):
-    """A truth, a number, a text or a uid."""
+    """A literal: a `bool`, an `int`, a text or a uid."""
 
     __slots__ = ()
 
@@ -134,10 +146,11 @@ class Lit(Expr):
         elif isinstance(value, str):
             self._made((str, str(value)))
         else:
-            raise TypeError(f"a {type(value).__name__} is no literal")
+            raise TypeError(f"a {type(value).__name__} is not a literal")
 
     @property
     def value(self) -> Literal:
+        """Returns the value of the literal."""
         found: Literal = self._says[1]
         return found
 
@@ -150,21 +163,21 @@ class Lit(Expr):
 
 
 class _Named(Expr):
-    """One of a few names."""
+    """An expression with a name from a fixed list."""
 
     __slots__ = ()
     _names: Tuple[str, ...] = ()
 
     def __init__(self, name: str) -> None:
         if name not in self._names:
-            raise ValueError(f"{type(self).__name__} is one of {', '.join(self._names)}")
+            raise ValueError(f"the name of a {type(self).__name__} must be one of {', '.join(self._names)}")
         self._made((name,))
 
     @classmethod
     def at(cls, place: int) -> Any:
-        """The one with a place."""
+        """Returns the expression with this number. Raises `ValueError` if there is none."""
         if not 0 <= place < len(cls._names):
-            raise ValueError(f"{cls.__name__} has no place {place}")
+            raise ValueError(f"{cls.__name__} has no member with the number {place}")
         return cls(cls._names[place])
 
     @property
@@ -174,7 +187,7 @@ class _Named(Expr):
 
     @property
     def place(self) -> int:
-        """The number by which it crosses."""
+        """Returns the number of the expression in the library."""
         return self._names.index(self.name)
 
     def _text(self, below: List[str]) -> str:
@@ -196,7 +209,7 @@ class Slot(_Named):
 
 
 class UnknownExpr(Expr):
-    """What is not known, by a name; the type of the entity that it will be, where that is known."""
+    """An unknown value with a name. It has a type if the type of the entity is known."""
 
     __slots__ = ()
 
@@ -220,7 +233,7 @@ class UnknownExpr(Expr):
 
 
 class SetOf(Expr):
-    """A set of what some expressions are, in their order."""
+    """A set of expressions, in their order."""
 
     __slots__ = ()
 
@@ -261,7 +274,7 @@ class Not(Expr):
 
 
 class _Joined(Expr):
-    """Two expressions that are joined."""
+    """An expression with two operands."""
 
     __slots__ = ()
     _sign = ""
@@ -274,28 +287,28 @@ class _Joined(Expr):
 
 
 class And(_Joined):
-    """Whether both are true."""
+    """The conjunction of two expressions."""
 
     __slots__ = ()
     _sign = "&&"
 
 
 class Eq(_Joined):
-    """Whether both are equal."""
+    """The test whether two expressions are equal."""
 
     __slots__ = ()
     _sign = "=="
 
 
 class In(_Joined):
-    """Whether the left is an entity, or a descendant of an entity or of one of a set, on the right."""
+    """The test whether the left entity is, or is a descendant of, the right entity or an element of the right set."""
 
     __slots__ = ()
     _sign = "in"
 
 
 class Is(Expr):
-    """Whether an expression is an entity of a type."""
+    """The test whether an expression is an entity of a type."""
 
     __slots__ = ()
 
@@ -313,7 +326,7 @@ class Is(Expr):
 
 def _text_only(text: str) -> str:
     if not isinstance(text, str):
-        raise TypeError(f"a text is a str, and this is a {type(text).__name__}")
+        raise TypeError(f"expected a str, got a {type(text).__name__}")
     return str(text)
 
 

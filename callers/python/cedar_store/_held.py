@@ -1,4 +1,4 @@
-"""Handles: of which thread each is, and when it is freed."""
+"""Handles of the library: which thread owns each one, and when it is freed."""
 from __future__ import annotations
 
 import ctypes
@@ -15,7 +15,7 @@ _Frees = Callable[[Any], None]
 
 
 class Thread:
-    """What a thread has of its own: the handles that it opened, those that other threads let go of, and some room."""
+    """The state of one thread: its open handles, its handles that other threads dropped, and reusable buffers."""
 
     def __init__(self) -> None:
         self.ident = threading.get_ident()
@@ -30,17 +30,21 @@ class Thread:
         self.places = (ctypes.c_size_t * (_ROOM // 4))()
 
     def free(self, at: int) -> None:
-        """Frees a handle. This thread alone calls it."""
+        """Frees a handle. Only the owning thread calls it."""
         handle, frees = self.opened.pop(at)
         frees(ctypes.byref(handle))
 
     def sweep(self) -> None:
-        """Frees what other threads let go of. This thread alone calls it."""
+        """Frees the handles that other threads dropped. Only the owning thread calls it."""
         while self.left:
             self.free(self.left.pop())
 
     def end(self, ident: Callable[[], int] = threading.get_ident) -> None:
-        """Frees all, as the thread ends. Behind a fork the threads that are gone end on another: they free nothing."""
+        """Frees all handles when the thread ends.
+
+        After a fork, the child process destroys the state of the parent's threads on another thread. Nothing is freed
+        then.
+        """
         if self.ident == ident():
             self.has_ended = True
             while self.opened:
@@ -48,7 +52,7 @@ class Thread:
 
 
 class _Keeper:
-    """Ends its thread's handles when the thread ends, which lets go of it."""
+    """A thread-local guard that frees the handles of its thread when the thread ends."""
 
     def __init__(self) -> None:
         self.thread = Thread()
@@ -65,7 +69,7 @@ class _Local(threading.local):
 
 LOCAL = _Local()
 
-# Whose a handle is that no thread has opened yet, or that is apart until a thread calls it. It frees nothing.
+# The owner of handles that no thread has opened yet, and of deep copies that no thread has called yet. Frees nothing.
 NOBODY = Thread()
 NOBODY.has_ended = True
 
@@ -73,7 +77,7 @@ _Kind = TypeVar("_Kind", bound="Held")
 
 
 class Held:
-    """A store or a set: a handle that its own thread alone uses and frees."""
+    """The base of stores and policy sets: a handle that only its own thread uses and frees."""
 
     __slots__ = ("_handle", "_at", "_thread", "_untaken", "__weakref__")
     _kind = ""
@@ -88,7 +92,7 @@ class Held:
     _handle: Handle
     _at: Any
     _thread: Thread
-    # Of one that is apart: one thing, which the first thread to call it takes out.
+    # Only in a deep copy: one item. The first thread that calls the copy pops it.
     _untaken: List[bool]
 
     def __new__(cls, *_: Any, **__: Any) -> Any:
@@ -98,7 +102,7 @@ class Held:
 
     @classmethod
     def _of_nobody(cls: Type[_Kind]) -> _Kind:
-        """A closed one, which is of no thread yet."""
+        """Returns an object with a closed handle that no thread owns yet."""
         made = object.__new__(cls)
         made._thread = NOBODY
         made._handle = handle = Handle()
@@ -106,22 +110,24 @@ class Held:
         return made
 
     def _open(self) -> None:
-        """It becomes this thread's."""
+        """Makes the current thread the owner."""
         self._thread = thread = LOCAL.thread
         if thread.left:
             thread.sweep()
         thread.opened[ctypes.addressof(self._handle)] = self._handle, self._free
 
     def _first(self) -> None:
-        """Makes what is of no thread yet this thread's. Of threads that call it at one time one gets it."""
+        """Makes the current thread the owner of an object without an owner. If several threads call it at the same
+        time, one wins.
+        """
         try:
             self._untaken.pop()
         except (AttributeError, IndexError):
-            raise WrongThread(f"{self._kind} of another thread") from None
+            raise WrongThread(f"{self._kind} belongs to another thread") from None
         self._open()
 
     def _apart(self: _Kind, function: Any, *arguments: Any) -> _Kind:
-        """What a call makes that shares nothing with this one: it is of no thread yet."""
+        """Calls a library function that makes a deep copy, and returns the copy. No thread owns the copy yet."""
         self._mine()
         fresh = type(self)._of_nobody()
         self._call(function, fresh._at, *arguments)
@@ -136,24 +142,25 @@ class Held:
             refuse(status)
 
     def _mine(self) -> None:
-        """Sees to it that the call is on the thread of the handle, and frees what other threads let go of."""
+        """Checks that the current thread owns the handle, and frees the handles that other threads dropped."""
         thread = self._thread
         if thread is NOBODY:
             self._first()
         elif thread is not LOCAL.thread:
-            raise WrongThread(f"{self._kind} of another thread")
+            raise WrongThread(f"{self._kind} belongs to another thread")
         elif thread.left:
             thread.sweep()
 
     def _call(self, function: Any, *arguments: Any) -> None:
-        """A call that answers a status."""
+        """Calls a library function that returns a status. Raises an exception if it is not 0."""
         self._mine()
         status = function(self._at, *arguments)
         if status:
             self._refuse(status)
 
     def _call_listed(self, function: Any, uids: Laid, *arguments: Any) -> None:
-        """A call over a list of uids. A refusal of one that is none has its place and its text."""
+        """Calls a library function on a list of uids. If a text is not a uid, the exception has the text and its place.
+        """
         self._mine()
         status = function(self._at, *arguments)
         place = uids.first_unread() if status == NOT_A_UID else None
@@ -172,7 +179,7 @@ class Held:
         refuse(status, text)
 
     def _answer_bytes(self) -> bytes:
-        """The bytes of the texts of the last answer."""
+        """Returns the bytes of the texts of the last result."""
         out: Any = self._thread.bytes
         length = self._answer(self._at, _NOTHING, out, SIZES[_ROOM])
         if length > _ROOM:
@@ -182,7 +189,7 @@ class Held:
         return laid
 
     def _answered(self) -> List[str]:
-        """The texts of the last answer."""
+        """Returns the texts of the last result."""
         laid = self._answer_bytes()
         places: Any = self._thread.places
         count = self._answer_spans(self._at, _NOTHING, places, SIZES[_ROOM // 8])
@@ -196,16 +203,29 @@ class Held:
         return [laid[start:end].decode("utf-8", "replace") for start, end in zip(flat[::2], flat[1::2])]
 
     def copy(self: _Kind) -> _Kind:
-        """A copy, with the same key."""
+        """Returns a copy with the same key. It shares its contents with the original, and belongs to the current
+        thread.
+
+        Raises:
+            Closed: it was closed.
+            WrongThread: it belongs to another thread.
+            MemoryError: an allocation failed.
+        """
         self._mine()
         fresh: _Kind = type(self).__new__(type(self))
         self._call(self._copy, fresh._at)
         return fresh
 
     def copy_apart(self: _Kind) -> _Kind:
-        """A copy, with the same key, which shares nothing with this one, and is of the thread that calls it first.
+        """Returns a deep copy with the same key, for use by another thread.
 
-        All that this one holds is copied. Until then nothing is asked of it, and any thread may let go of it.
+        The copy shares nothing with the original. It belongs to the first thread that calls one of its methods. Until
+        then, any thread may drop it.
+
+        Raises:
+            Closed: it was closed.
+            WrongThread: it belongs to another thread.
+            MemoryError: an allocation failed.
         """
         return self._apart(self._copy_apart)
 
@@ -215,7 +235,7 @@ class Held:
         return self.copy()
 
     def __reduce__(self) -> Tuple[Any, ...]:
-        raise TypeError(f"{self._kind} cannot be pickled: no call lists all that it holds. Pickle what it is made of")
+        raise TypeError(f"{self._kind} cannot be pickled: no call lists all its contents. Pickle its input instead")
 
     def __eq__(self, other: object) -> bool:
         if not isinstance(other, Held) or other._kind != self._kind:
@@ -230,9 +250,12 @@ class Held:
     __hash__ = None  # type: ignore[assignment]
 
     def close(self) -> None:
-        """Lets go of what is held, once or any number of times.
+        """Frees the contents. Closing again has no effect.
 
-        Later calls raise `Closed`, but for the `len` of a store, which is 0.
+        Later calls raise `Closed`, except that the `len` of a closed store is 0.
+
+        Raises:
+            WrongThread: it belongs to another thread.
         """
         self._mine()
         self._free(self._at)
@@ -246,14 +269,14 @@ class Held:
     def __del__(self) -> None:
         thread = self._thread
         if thread.has_ended:
-            # One that is apart and that no thread has called is freed by the thread that lets go of it.
+            # A deep copy that no thread has called is freed by the thread that drops it.
             if thread is NOBODY and self._handle.is_open:
                 self._free(self._at)
             return
         at = ctypes.addressof(self._handle)
-        # A thread that is just about to have something of its own has nothing yet.
+        # A thread whose local state is still being created has no `thread` yet.
         if thread is getattr(LOCAL, "thread", None):
             thread.free(at)
             return
         thread.left.append(at)
-        warnings.warn(f"{self._kind} let go of by another thread: its own frees it", ResourceWarning, source=self)
+        warnings.warn(f"{self._kind} dropped by another thread: its own thread frees it", ResourceWarning, source=self)

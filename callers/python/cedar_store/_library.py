@@ -1,7 +1,7 @@
-"""The functions of `cedar.h`, and lists as they cross.
+"""The functions of `cedar.h`, and the encoding of lists for them.
 
-The calls that answer at once are made without letting other threads of Python in between, and without a conversion of
-each argument: they are given bytes, numbers of the size that they want, and addresses, by the functions here alone.
+Quick calls keep the lock of the Python interpreter and convert no arguments. Only the functions here make them, with
+bytes, numbers of the right size and addresses.
 """
 from __future__ import annotations
 
@@ -16,7 +16,7 @@ from ._refusals import NOT_A_UID, refuse
 
 
 class Handle(ctypes.Structure):
-    """What the library has of a store or a set. Zeroes are a closed one."""
+    """The handle of a store or of a policy set in the library. Zeroes are a closed handle."""
 
     _fields_ = [("at", ctypes.c_void_p), ("is_open", ctypes.c_bool)]
 
@@ -81,7 +81,7 @@ for _kind in ("store_", "policies_"):
 
 
 def _path() -> str:
-    """Where the shared library stands."""
+    """Returns the path of the shared library."""
     named = os.environ.get("CEDAR_LIBRARY")
     if named:
         return os.path.abspath(named)
@@ -93,8 +93,8 @@ def _path() -> str:
     left = os.path.join(callers, "out", "libcedar.so")
     if os.path.exists(os.path.join(callers, "c", "cedar.h")) and os.path.exists(left):
         return left
-    raise ImportError("there is no libcedar.so: run callers/run in the checkout, or name it by CEDAR_LIBRARY, "
-                      "as the one that callers/try leaves, unproved, in callers/out/try")
+    raise ImportError("cannot find libcedar.so: run callers/run in the checkout, or set CEDAR_LIBRARY to its path "
+                      "(callers/try builds one without the proofs, in callers/out/try)")
 
 
 _LIBRARY = ctypes.CDLL(_path())
@@ -102,62 +102,65 @@ _HELD = ctypes.PyDLL(_LIBRARY._name)
 
 
 def function(name: str) -> Any:
-    """A function that may take long: other threads of Python run meanwhile. Its arguments are converted."""
+    """Returns a library function that can take long. It converts its arguments and lets other Python threads run
+    meanwhile.
+    """
     found = _LIBRARY["cedar_" + name]
     found.restype, found.argtypes = _DECLARED[name]
     return found
 
 
 def quick(name: str, result: Any = _U) -> Any:
-    """A function that answers at once. It is given bytes, sizes and addresses: nothing is converted."""
+    """Returns a library function that returns quickly. It takes bytes, sizes and addresses, and converts nothing."""
     found = _HELD["cedar_" + name]
     found.restype = result
     return found
 
 
 def newer(name: str) -> Any:
-    """A function that not every library has. Where this one lacks it, calling it says so."""
+    """Returns a function that older libraries do not have. If it is missing, calling it raises `NotImplementedError`.
+    """
     if has(name):
         return function(name)
 
     def lacking(*_: object) -> NoReturn:
-        raise NotImplementedError(f"the library that is loaded, {_LIBRARY._name}, has no cedar_{name}")
+        raise NotImplementedError(f"the loaded library, {_LIBRARY._name}, has no cedar_{name}")
 
     return lacking
 
 
 def has(name: str) -> bool:
-    """Whether the library has a function."""
+    """Returns whether the library has the function."""
     return hasattr(_LIBRARY, "cedar_" + name)
 
 
 class _Sizes(Dict[int, Any]):
-    """Numbers as a call takes a `size_t`, those of short texts made once."""
+    """Numbers as `size_t` arguments. The small numbers are created only once."""
 
     def __missing__(self, size: int) -> Any:
         return _N.from_param(size)
 
 
-# A number as a call takes a `size_t`. What is out of range loses bits.
+# Converts a number to a `size_t` argument. A number out of range loses bits.
 as_size = _N.from_param
 SIZES = _Sizes({size: _N.from_param(size) for size in range(513)})
 
 
 def encoded(text: str) -> bytes:
-    """A text as it crosses. Half a surrogate goes through, for the library to refuse."""
+    """Encodes a text as UTF-8. A lone surrogate is encoded too, so that the library reports it."""
     if not isinstance(text, str):
-        raise TypeError(f"a text is a str, and this is a {type(text).__name__}")
+        raise TypeError(f"expected a str, got a {type(text).__name__}")
     return text.encode("utf-8", "surrogatepass")
 
 
 def text_of(text: str) -> Tuple[bytes, int]:
-    """A text and its length."""
+    """Returns the encoded text and its length."""
     laid = encoded(text)
     return laid, len(laid)
 
 
 class Laid:
-    """A list of uids as it crosses: one text, and the part of it that is each. What it has is kept for the call."""
+    """A list of uids, encoded as one text and the span of each uid in it. It must live until the call returns."""
 
     __slots__ = ("text", "spans", "count")
 
@@ -175,37 +178,37 @@ class Laid:
             self.spans[2::2] = ends[:-1]
 
     def arguments(self) -> Tuple[bytes, int, int, int]:
-        """The text, its length, where the parts stand, and how many there are."""
+        """Returns the text, its length, the address of the spans and their number."""
         return self.text, len(self.text), self.spans.buffer_info()[0], self.count
 
 
     def at(self, place: int) -> str:
-        """The text at a place."""
+        """Returns the text at a place of the list."""
         return self.text[self.spans[2 * place] : self.spans[2 * place + 1]].decode("utf-8", "replace")
 
     def first_unread(self) -> Optional[int]:
-        """The place of the first that is no uid's text, where there is one."""
+        """Returns the place of the first text that is not a uid, or None."""
         place = ctypes.c_size_t(0)
         return place.value if _uids_check(*self.arguments(), ctypes.byref(place)) == NOT_A_UID else None
 
 
 def laid_edges(edges: List[int]) -> "array[int]":
-    """Edges, each as two numbers, as they cross: an array that has an address, also where there are none."""
+    """Encodes edges, two numbers each. The array has an address even if there are no edges."""
     return array("Q", edges or (0, 0))
 
 
 def listed(texts: Iterable[str]) -> List[str]:
-    """Texts as a list. One text is no list of texts."""
+    """Returns the texts as a list. Raises `TypeError` for a single text."""
     if isinstance(texts, str):
-        raise TypeError("a list of texts is wanted, and this is one text")
+        raise TypeError("expected a list of texts, got one text")
     return list(texts)
 
 
 def halves(key: Optional[bytes]) -> Tuple[int, int]:
-    """A key as the two numbers by which it crosses."""
+    """Returns a key as the two numbers that the library takes. Draws a random key if there is none."""
     drawn = os.urandom(16) if key is None else bytes(key)
     if len(drawn) != 16:
-        raise ValueError("a key has 16 bytes")
+        raise ValueError("a key must have 16 bytes")
     seed, other = struct.unpack("<QQ", drawn)
     return seed, other
 
@@ -215,7 +218,7 @@ _uids_check, _refusal_part = newer("uids_check"), newer("refusal_part")
 
 
 def parts_named(status: int, text: str) -> List[str]:
-    """What the text of a refusal with a status names, in its order."""
+    """Returns the parts that the text of an error names, in the order of the text."""
     names: List[str] = []
     laid, part = encoded(text), (ctypes.c_size_t * 2)()
     while _refusal_part(status, laid, len(laid), len(names), part):
@@ -224,7 +227,8 @@ def parts_named(status: int, text: str) -> List[str]:
 
 
 def status_text(status: int) -> str:
-    """The words for a status of `cedar.h`, as `not a uid`; none for a number that is no status."""
+    """Returns the words for a status of `cedar.h`, like `not a uid`. Returns an empty text if there is no such status.
+    """
     if not 0 <= status < 1 << 32:
         return ""
     out = ctypes.create_string_buffer(256)
@@ -233,13 +237,18 @@ def status_text(status: int) -> str:
 
 
 def version() -> str:
-    """The version of the library that is loaded, as `0.1.0`."""
+    """Returns the version of the loaded library, like `0.1.0`."""
     number = _version()
     return f"{number >> 16}.{number >> 8 & 255}.{number & 255}"
 
 
 def run(lines: bytes, *, key: Optional[bytes] = None) -> Tuple[bytes, int]:
-    """What the program writes for all lines of an input, and the status of its run, 0 or 2."""
+    """Runs the program on all lines of an input. Returns its output and its exit status, 0 or 2.
+
+    Raises:
+        MemoryError: an allocation failed.
+        ValueError: the key does not have 16 bytes.
+    """
     drawn, room = halves(key), max(len(lines), 4096)
     while True:
         out, told, ended = ctypes.create_string_buffer(room), ctypes.c_size_t(0), ctypes.c_uint32(0)

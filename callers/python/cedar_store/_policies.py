@@ -36,7 +36,7 @@ class Effect(enum.IntEnum):
 
 
 class Bound(enum.IntEnum):
-    """What an id of a set is bound to."""
+    """The kind of item that an id of a set is bound to."""
 
     STATIC = 1
     LINK = 2
@@ -44,7 +44,7 @@ class Bound(enum.IntEnum):
 
 
 class Env(NamedTuple):
-    """What a policy's slots are bound to; None where there is no such slot."""
+    """The uids that the slots of a policy are bound to. A slot that the policy does not have is None."""
 
     principal: Optional[EntityUid]
     action: Optional[EntityUid]
@@ -55,7 +55,15 @@ _SLOTS = {1: "principal", 2: "action", 4: "resource"}
 
 
 class Policies(Held):
-    """A policy set. A refused call leaves it as it was."""
+    """A policy set. A call that raises an exception leaves it unchanged.
+
+    Raises:
+        Closed: the set was closed (every method).
+        WrongThread: the set belongs to another thread (every method).
+        MemoryError: an allocation failed (every method).
+        TypeError: an argument has the wrong type, for example an id that is not a `str`.
+        Refused: as each method says; `not UTF-8` if an id contains a lone surrogate.
+    """
 
     __slots__ = ()
     _kind = "a policy set"
@@ -76,9 +84,13 @@ class Policies(Held):
         annotations: Mapping[str, str] = {},
         when: Optional[Operand] = None,
     ) -> None:
-        """A static policy joins; by itself it constrains nothing. `when` is its clause.
+        """Adds a static policy. Without further arguments it has no constraints. `when` is its clause.
 
-        Refused as `not static` where a slot stands in it.
+        Raises:
+            ValueError: the effect is invalid, or a constraint has the wrong number of uids.
+            Refused: `occupied` if the id is bound already; `not static` if a constraint or the clause has a slot; `not
+                a uid`,
+                `not a name`, `not UTF-8` or `too deep` if a part of the body is invalid.
         """
         number = number_of(effect, Effect)
         if (principal, action, resource) == (ANY, ANY, ANY) and not annotations and when is None:
@@ -97,7 +109,15 @@ class Policies(Held):
         annotations: Mapping[str, str] = {},
         when: Optional[Operand] = None,
     ) -> None:
-        """A template joins. Of the three True stands for `Constraint.is_eq_slot()`, and False for no constraint."""
+        """Adds a template. For a constraint, True is short for `Constraint.is_eq_slot()`, and False means no
+        constraint.
+
+        Raises:
+            ValueError: the effect is invalid, or a constraint has the wrong number of uids.
+            Refused: `occupied` if the id is bound already; `not a uid`, `not a name`, `not UTF-8` or `too deep` if a
+                part of
+                the body is invalid.
+        """
         asked = principal, action, resource
         number = number_of(effect, Effect)
         if not any(isinstance(one, Constraint) for one in asked) and not annotations and when is None:
@@ -118,7 +138,17 @@ class Policies(Held):
         action: Optional[str] = None,
         resource: Optional[str] = None,
     ) -> None:
-        """A link of a template joins, with these uids in its slots."""
+        """Links a template under the new id, with these uids in its slots.
+
+        Raises:
+            Refused: the first error of this list.
+
+            - `not a uid`: a value is not a uid.
+            - `no such template`: there is no template with this id.
+            - `arity`: a slot of the template is unbound, or a slot that it does not have is bound.
+            - `not an action`: the value of the action slot is not an action.
+            - `id conflict`: the new id is bound already.
+        """
         values = (principal, action, resource)
         if "" in values:
             refuse(NOT_A_UID)
@@ -126,21 +156,40 @@ class Policies(Held):
         self._call_listed(_link, laid, *text_of(template), *text_of(id), *laid.arguments())
 
     def unlink(self, id: str) -> None:
-        """The link goes."""
+        """Removes the link with this id.
+
+        Raises:
+            Refused: `no link` if nothing is bound to the id; `not a link` if another item is.
+        """
         self._call(_unlink, *text_of(id))
 
     def remove_static(self, id: str) -> None:
-        """The static policy goes."""
+        """Removes the static policy with this id.
+
+        Raises:
+            Refused: `no static` if no policy has the id; `not static` if the policy is a link.
+        """
         self._call(_remove_static, *text_of(id))
 
     def remove_template(self, id: str) -> None:
-        """The template goes."""
+        """Removes the template with this id.
+
+        Raises:
+            Refused: `no template` if nothing is bound to the id; `not a template` if another item is; `with links` if
+                the
+                template has links.
+        """
         self._call(_remove_template, *text_of(id))
 
     def merge(self, other: Policies, rename: bool = False) -> Dict[str, str]:
-        """What another set binds joins; the ids that were renamed, with their new ones.
+        """Adds the policies, templates and links of another set. Returns the renamed ids, each with its new id.
 
-        Without `rename` the first id that both bind to different things is refused as `occupied`.
+        An id that the two sets bind to different items is a conflict. With `rename`, the item of the other set gets a
+        new id.
+
+        Raises:
+            Refused: `occupied` if there is a conflict and `rename` is False. The error names the first such id.
+            Closed: one of the sets was closed.
         """
         other._mine()
         if other is self:
@@ -150,12 +199,12 @@ class Policies(Held):
         return dict(zip(texts[::2], texts[1::2]))
 
     def bodies(self) -> List[str]:
-        """The ids of static policies and templates, in the order in which they joined."""
+        """Returns the ids of the static policies and the templates, in insertion order."""
         self._call(_ids, 0)
         return self._answered()
 
     def policies(self) -> List[str]:
-        """The ids of static policies and links, in the order in which they joined."""
+        """Returns the ids of the static policies and the links, in insertion order."""
         self._call(_ids, 1)
         return self._answered()
 
@@ -169,27 +218,44 @@ class Policies(Held):
         return self._answered()
 
     def get(self, id: str) -> Optional[Bound]:
-        """What an id is bound to, or None."""
+        """Returns the kind of item that the id is bound to, or None."""
         bound = self._number(_get, id)
         return Bound(bound) if bound else None
 
     def effect(self, id: str) -> Effect:
-        """The effect of what an id is bound to; a link has that of its template."""
+        """Returns the effect of the item with this id. A link has the effect of its template.
+
+        Raises:
+            Refused: `no body` if nothing is bound to the id.
+        """
         return Effect(self._number(_effect, id))
 
     def slots(self, id: str) -> FrozenSet[str]:
-        """The slots of a template, of `principal`, `action` and `resource`; a static policy has none."""
+        """Returns the slots of a template: a subset of `principal`, `action` and `resource`. A static policy has no
+        slots.
+
+        Raises:
+            Refused: `no body` if the id is not bound to a template or a static policy.
+        """
         slots = self._number(_slots, id)
         return frozenset(name for bit, name in _SLOTS.items() if slots & bit)
 
     def annotation(self, id: str, key: str) -> Optional[str]:
-        """The annotation at a key, or None; a link has those of its template."""
+        """Returns the value of an annotation, or None. A link has the annotations of its template.
+
+        Raises:
+            Refused: `no body` if nothing is bound to the id; `not a name` if the key is not an identifier.
+        """
         has = ctypes.c_bool(False)
         self._call(_annotation, *text_of(id), *text_of(key), ctypes.byref(has))
         return "".join(self._answered()) if has.value else None
 
     def annotations(self, id: str) -> Dict[str, str]:
-        """All annotations, in the order of the bytes of their keys."""
+        """Returns all annotations, in the order of the bytes of their keys. A link has the annotations of its template.
+
+        Raises:
+            Refused: `no body` if nothing is bound to the id.
+        """
         texts = self._texts(_annotations, *text_of(id))
         return dict(zip(texts[::2], texts[1::2]))
 
@@ -199,15 +265,27 @@ class Policies(Held):
         return told(kind.value, self._answered())
 
     def principal_constraint(self, id: str) -> Constraint:
-        """What the principal has to be by what an id is bound to; a link has its slots filled."""
+        """Returns the constraint on the principal. In a link the slot is filled.
+
+        Raises:
+            Refused: `no body` if nothing is bound to the id.
+        """
         return self._constraint(id, 0)
 
     def action_constraint(self, id: str) -> Constraint:
-        """What the action has to be by that."""
+        """Returns the constraint on the action. In a link the slot is filled.
+
+        Raises:
+            Refused: `no body` if nothing is bound to the id.
+        """
         return self._constraint(id, 1)
 
     def resource_constraint(self, id: str) -> Constraint:
-        """What the resource has to be by that."""
+        """Returns the constraint on the resource. In a link the slot is filled.
+
+        Raises:
+            Refused: `no body` if nothing is bound to the id.
+        """
         return self._constraint(id, 2)
 
     def _expression(self) -> Expr:
@@ -217,51 +295,92 @@ class Policies(Held):
         return expr_from_nodes(self._answer_bytes(), unpacked(out.raw))
 
     def non_scope_constraints(self, id: str) -> Optional[Expr]:
-        """The clause of what an id is bound to, or None; a link has that of its template, with its slots."""
+        """Returns the clause, or None. A link has the clause of its template, with its slots not filled.
+
+        Raises:
+            Refused: `no body` if nothing is bound to the id.
+        """
         has = ctypes.c_bool(False)
         self._call(_clause, *text_of(id), ctypes.byref(has))
         return self._expression() if has.value else None
 
     def condition(self, id: str) -> Expr:
-        """The constraints and the clause as one expression; a link has that of its template, with its slots."""
+        """Returns the constraints and the clause as one expression. A link has the condition of its template, with its
+        slots not filled.
+
+        Raises:
+            Refused: `no body` if nothing is bound to the id.
+        """
         self._call(_condition, *text_of(id))
         return self._expression()
 
     def env(self, id: str) -> Env:
-        """What the slots of a link are bound to; a static policy binds none."""
+        """Returns the uids that the slots of a link are bound to. A static policy binds none.
+
+        Raises:
+            Refused: `no body` if the id is not bound to a link or a static policy.
+        """
         return Env(*(EntityUid(uid) if uid else None for uid in self._texts(_env, *text_of(id))))
 
     def template_id(self, id: str) -> str:
-        """The id of a link's template; a static policy's is its own."""
+        """Returns the id of the template of a link. For a static policy it is the policy's own id.
+
+        Raises:
+            Refused: `no body` if the id is not bound to a link or a static policy.
+        """
         return "".join(self._texts(_template_id, *text_of(id)))
 
     def linked(self, id: str) -> List[str]:
-        """The ids of a template's links, in the order in which they joined; of a static policy it is its own."""
+        """Returns the ids of the links of a template, in insertion order. For a static policy it is the policy's own
+        id.
+
+        Raises:
+            Refused: `no body` if the id is not bound to a template or a static policy.
+        """
         return self._texts(_linked, *text_of(id))
 
     def unknown_entities(self, id: str) -> List[EntityUid]:
-        """The uids that unknowns of a policy's condition name, in their order, each once.
+        """Returns the uids of the unknown entities in the condition of a policy, in ascending order and without
+        duplicates.
 
-        They are the names of the unknowns with a type that are texts of uids.
+        An unknown with a type counts if its name is the text of a uid.
+
+        Raises:
+            Refused: `no body` if the id is not bound to a link or a static policy.
         """
         return [EntityUid(uid) for uid in self._texts(_unknown_entities, *text_of(id))]
 
     def validate(self) -> None:
-        """Raises the first fault of the set, if there is one; it names the id of a link or of a body.
+        """Checks the set, and raises the first fault. The error names the id of a link or of a body.
 
-        First `slotless link`, of a link whose template has no slots; then, of the first body that has one, `slot in
-        clause`, `not actions`, where its action is asked to be, or to be in, no action, or `unknown function`.
+        Links are checked first, then each body in insertion order.
+
+        Raises:
+            Refused: the first fault, in the order of this list.
+
+            - `slotless link`: the template of a link has no slots.
+            - `slot in clause`: the clause of a template has a slot.
+            - `not actions`: the constraint on the action names a uid that is not an action.
+            - `unknown function`: the clause calls an unknown function.
         """
         self._call(_validate)
 
     def policy_text(self, id: str) -> str:
-        """The text of a static policy or a link, for people to read."""
+        """Returns the text of a static policy or a link, for display.
+
+        Raises:
+            Refused: `no body` if the id is not bound to a static policy or a link.
+        """
         return "".join(self._texts(_policy_text, *text_of(id)))
 
     def template_text(self, id: str) -> str:
-        """The text of a template or a static policy, for people to read."""
+        """Returns the text of a template or a static policy, for display.
+
+        Raises:
+            Refused: `no body` if the id is not bound to a template or a static policy.
+        """
         return "".join(self._texts(_template_text, *text_of(id)))
 
     def __str__(self) -> str:
-        """The text of the set, for people to read."""
+        """Returns the text of the set, for display."""
         return "".join(self._texts(_text))

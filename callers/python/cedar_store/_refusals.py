@@ -1,4 +1,4 @@
-"""What a call raises."""
+"""The exceptions of the package."""
 from __future__ import annotations
 
 import enum
@@ -20,29 +20,29 @@ REASONS = dict(
     )
 )
 
-# The reasons whose texts name uids; all others name an id, a key or slots, or nothing.
+# The reasons whose texts name uids. The others name an id, a key or slots, or nothing.
 _NAME_UIDS = frozenset(
     ("duplicate", "cycle", "not closed", "self ancestor", "duplicate ancestor", "action parent", "not an action")
 )
 _STATUSES = {reason: status for status, reason in REASONS.items()}
 
 NO_MEMORY, CLOSED, BAD_ARGUMENT, NOT_A_UID, NO_ENTITY = 1, 2, 3, 4, 6
-# Those that have a text.
+# The statuses whose errors have a text.
 WITH_TEXT = frozenset((*range(7, 26), *range(29, 33)))
 
 
 class Closed(Exception):
-    """A store or a set was let go of before the call."""
+    """The store or the policy set was closed before the call."""
 
 
 class WrongThread(Exception):
-    """A store or a set was called from another thread than the one that made it."""
+    """The store or the policy set belongs to another thread."""
 
 
 class Refused(Exception):
-    """A refused call. `reason` is a word for the status of `cedar.h`; the text names what it is about.
+    """An error that the library returned. `reason` names the status of `cedar.h`; the text names the items concerned.
 
-    Where a list of uids was given of which one is none, `place` is its place in the list, from 0 on, else None.
+    If an item of a list of uids is not a uid, `place` is its index in the list. Otherwise `place` is None.
     """
 
     reason: str
@@ -55,14 +55,20 @@ class Refused(Exception):
 
     @property
     def names(self) -> Tuple[str, ...]:
-        """What the text names, in its order: uids, an id or a key, or, of `arity`, slots: first those not bound."""
+        """Returns the items that the text names, in the order of the text: uids, an id or a key.
+
+        For `arity` they are slots: first the unbound ones, then the bound ones that the template does not have.
+        """
         from ._library import parts_named
 
         return tuple(parts_named(_STATUSES.get(self.reason, 0), str(self)))
 
     @property
     def uids(self) -> Tuple[EntityUid, ...]:
-        """The uids that the text names, in its order: of `not closed` the entity, its ancestor and the missing one."""
+        """Returns the uids that the text names, in the order of the text.
+
+        For `not closed` they are the entity, its ancestor and the missing ancestor.
+        """
         from ._uids import named
 
         return tuple(named(self.names if self.reason in _NAME_UIDS else ()))
@@ -72,17 +78,17 @@ class Refused(Exception):
 
 
 def refuse(status: int, text: str = "", place: Optional[int] = None) -> NoReturn:
-    """Raises what a status that is not 0 says; the text is the library's, where it has one."""
+    """Raises the exception for a status other than 0. The text comes from the library if it has one."""
     if status == NO_MEMORY:
         raise MemoryError("out of memory")
     if status == CLOSED:
-        raise Closed("it was let go of before")
+        raise Closed("the store or the set was closed before the call")
     reason = REASONS.get(status, f"status {status}")
     raise Refused(reason, text or reason, place)
 
 
 def number_of(value: object, kind: Type[enum.IntEnum]) -> int:
-    """A mode or an effect as the number by which it crosses. A truth, a float and any other number is none."""
+    """Returns a mode or an effect as its number. Raises `ValueError` for a `bool`, a `float` or any other number."""
     if type(value) is kind or (type(value) is int and value in list(kind)):
         return int(value)
     raise ValueError(f"{kind.__name__} has no member for this {type(value).__name__}")

@@ -13,14 +13,14 @@ from ._refusals import BAD_ARGUMENT, NOT_A_UID, Refused, WrongThread, number_of
 from ._uids import EntityUid, named
 from .values import NODE_SIZE, Term, from_nodes, unpacked
 
-# Entities as they are handed in: uids with their parents, or those that have more than that.
+# Entities as arguments: uids with their parents, or `Entity` objects with attributes, tags and indirect ancestors.
 Entities = Union[
     Mapping[str, Iterable[str]],
     Mapping[EntityUid, Iterable[str]],
     Iterable[Union[Tuple[str, Iterable[str]], Entity]],
 ]
 
-# Each change by uids and parents alone, and by all that entities have.
+# Each change has two functions: one for uids with parents, one for entities with content.
 _build, _add, _upsert = [
     (function("store_" + name), newer(f"store_{name}_with")) for name in ("build", "add", "upsert")
 ]
@@ -42,22 +42,25 @@ _attrs_len, _tags_len = quick("store_attrs_len"), quick("store_tags_len")
 _entity_equal = quick("store_entity_equal")
 
 
-# Numbers of more bits, and those below 0, are no uid's.
+# A number of more bits, or below 0, belongs to no uid.
 _BITS = 8 * ctypes.sizeof(ctypes.c_size_t) - 1
 
-# As many entities are written by one call of the library.
+# The largest store whose text one call of the library writes.
 _FEW = 100
 _Kind = TypeVar("_Kind", bound="Store")
 
 
 class Mode(enum.IntEnum):
-    """How a call on a store sees to it that ancestors are closed.
+    """How a call on a store keeps the ancestors of entities complete.
 
-    What a call touches is what it puts in or takes out, and what has that among its ancestors. `COMPUTE` gives that all
-    that it reaches, and refuses where one of it reaches itself; nothing else is checked. `ENFORCE` takes what is put in
-    to have all its ancestors as parents, and afterwards checks the whole store: it is refused where an ancestor of an
-    ancestor is missing, or an entity is among its own. `ASSUME` does as `ENFORCE`, but checks nothing and refuses no
-    cycle. A removal gives what it touched what it still reaches, in each mode, before anything is checked.
+    A call affects the entities that it inserts or removes, and the entities that have an inserted or removed entity as
+    an ancestor. In every mode, a removal first repairs the affected entities: they get all ancestors that they reach.
+
+    - `COMPUTE` gives the affected entities all ancestors that they reach. It raises `cycle` if an affected entity
+      reaches itself. Nothing else is checked.
+    - `ENFORCE` takes the parents of an inserted entity as all its ancestors. Then it checks the whole store. It raises
+      `not closed` if an ancestor of an ancestor is missing. It raises `cycle` if an entity is its own ancestor.
+    - `ASSUME` does the same as `ENFORCE`, but without the check.
     """
 
     COMPUTE = 0
@@ -66,7 +69,9 @@ class Mode(enum.IntEnum):
 
 
 def _laid(entities: Entities) -> Tuple[Laid, int, List[int]]:
-    """Entities as a list of uids, theirs first and then those of their other parents; how many they are; edges."""
+    """Encodes entities as a list of uids, their number, and edges. The uids of the entities come before their other
+    parents.
+    """
     above: Iterable[Iterable[str]]
     if isinstance(entities, Mapping):
         uids, above = [*entities], entities.values()
@@ -79,7 +84,7 @@ def _laid(entities: Entities) -> Tuple[Laid, int, List[int]]:
     put = edges.append
     for place, parents in enumerate(above):
         if isinstance(parents, str):
-            raise TypeError("the parents of an entity are a list of texts, and these are one text")
+            raise TypeError("expected a list of parents, got one text")
         for parent in parents:
             at = places.get(parent)
             if at is None:
@@ -91,15 +96,24 @@ def _laid(entities: Entities) -> Tuple[Laid, int, List[int]]:
 
 
 class Store(Held):
-    """A store of entities: uids with their parents, handed in as a mapping from uids to parents, or as pairs.
+    """A store of entities, given as a mapping from uids to parents, as pairs, or as a list of `Entity`.
 
-    A refused `add`, `upsert` or `remove` leaves the store as it was, but that `MemoryError` may leave it without
-    entities.
+    If `add`, `upsert` or `remove` raises an exception, the store is unchanged. One exception: after a `MemoryError` the
+    store may have no entities.
+
+    The constructor builds the store: see `build`.
+
+    Raises:
+        Closed: the store was closed (every method except `len`).
+        WrongThread: the store belongs to another thread (every method).
+        MemoryError: an allocation failed (every method).
+        TypeError: an argument has the wrong type, for example a uid that is not a `str`.
+        Refused: as each method says; `not a uid` if a text that should be a uid is not one.
     """
 
     __slots__ = ("_made_of",)
     _kind = "a store"
-    # While it is of no thread: the entities, the mode and whether it is partial.
+    # Only while no thread owns the store: its entities, its mode and whether it is partial.
     _made_of: List[Tuple[Entities, int, bool]]
     _new, _free, _copy = function("store_new"), function("store_free"), function("store_copy")
     _copy_apart = newer("store_copy_apart")
@@ -114,7 +128,14 @@ class Store(Held):
 
     @classmethod
     def build(cls: Type[_Kind], entities: Entities, mode: int = Mode.COMPUTE, *, key: Optional[bytes] = None) -> _Kind:
-        """The store of some entities, as the class itself makes it."""
+        """Returns a new store of the given entities, like the class itself.
+
+        Raises:
+            ValueError: the mode is invalid, the key does not have 16 bytes, or a number does not fit into 64 bits.
+            Refused: `duplicate` if two different entities have the same uid; `cycle` or `not closed` (see `Mode`); `not
+                a uid`,
+                `not a name`, `not UTF-8` or `too deep` if an entity is invalid.
+        """
         return cls(entities, mode, key=key)
 
     def _changed(self, calls: Tuple[Any, Any], entities: Entities, mode: int) -> None:
@@ -135,15 +156,32 @@ class Store(Held):
         self._call_listed(call, laid, *laid.arguments(), count, address, len(edges) // 2, number)
 
     def add(self, entities: Entities, mode: int = Mode.COMPUTE) -> None:
-        """Adds entities. One that is there already has to have the same ancestors, and changes nothing."""
+        """Adds entities. An entity with a stored uid must equal the stored entity, and changes nothing.
+
+        Raises:
+            ValueError: the mode is invalid, or a number does not fit into 64 bits.
+            Refused: `duplicate` if a different entity with the same uid exists; otherwise as `build`.
+        """
         self._changed(_add, entities, mode)
 
     def upsert(self, entities: Entities, mode: int = Mode.COMPUTE) -> None:
-        """Puts entities in the place of any with their uids; of several with one uid the last counts."""
+        """Inserts entities, and replaces the stored entities with the same uids. If a uid occurs several times, the
+        last entity with it is used.
+
+        Raises:
+            ValueError: the mode is invalid, or a number does not fit into 64 bits.
+            Refused: as `build`, but never `duplicate`.
+        """
         self._changed(_upsert, entities, mode)
 
     def remove(self, uids: Iterable[str], mode: int = Mode.COMPUTE) -> None:
-        """Takes entities out; they are no parents either then. Uids that the store lacks change nothing."""
+        """Removes entities, also from the parents of other entities. Uids that are not in the store have no effect.
+
+        Raises:
+            ValueError: the mode is invalid.
+            Refused: `not a uid`; `cycle` or `not closed` (see `Mode`), only if another mode than `COMPUTE` built or
+                changed the store.
+        """
         number, laid = number_of(mode, Mode), Laid(listed(uids))
         self._call_listed(_remove, laid, *laid.arguments(), number)
 
@@ -153,7 +191,7 @@ class Store(Held):
         return length
 
     def __contains__(self, uid: object) -> bool:
-        """Whether there is an entity with a uid. False for what is no uid's text."""
+        """Returns whether the store has an entity with this uid. Returns False if the argument is not a uid."""
         thread = self._thread
         if thread is not LOCAL.thread or thread.left:
             self._mine()
@@ -169,9 +207,10 @@ class Store(Held):
         return thread.truth.value
 
     def is_descendant_of(self, child: str, ancestor: str) -> bool:
-        """Whether an entity is a descendant of a uid, over parents, however many.
+        """Returns whether the second uid is an ancestor of the first.
 
-        Refused as `no entity` where the store has none with the first uid, as `ancestors` and `parents` are.
+        Raises:
+            Refused: `no entity` if the store has no entity with the first uid; `not a uid`.
         """
         thread = self._thread
         if thread is not LOCAL.thread or thread.left:
@@ -187,17 +226,23 @@ class Store(Held):
         return thread.truth.value
 
     def number(self, uid: str) -> int:
-        """The number of a uid in this store, the same each time, for who asks about some uids again and again.
+        """Returns the number of a uid in this store. Queries by number do not read a text.
 
-        It says nothing about whether the store has an entity with the uid, and stays good however the store changes; a
-        copy, a slice, and what another thread or process has of it, give numbers of their own. The store keeps each uid
-        that has a number.
+        The number of a uid never changes, and is also given to a uid without an entity. The store stores each uid that
+        has a number. A copy, a slice and an unpickled store have numbers of their own.
+
+        Raises:
+            Refused: `not a uid`.
         """
         self._asked(_uid_number, uid, self._thread.number_at)
         return self._thread.number.value
 
     def uid_of_number(self, number: int) -> EntityUid:
-        """The uid of a number. Refused as `bad argument` where it is no uid's in this store, as the two below are."""
+        """Returns the uid with this number.
+
+        Raises:
+            Refused: `bad argument` if no uid of this store has the number.
+        """
         self._mine()
         status = BAD_ARGUMENT if number >> _BITS else _number_uid(self._at, as_size(number))
         if status:
@@ -205,7 +250,11 @@ class Store(Held):
         return named(self._answered())[0]
 
     def has_number(self, number: int) -> bool:
-        """Whether there is an entity with the uid of a number."""
+        """Returns whether the store has an entity whose uid has this number.
+
+        Raises:
+            Refused: `bad argument` if no uid of this store has the number.
+        """
         self._mine()
         status = BAD_ARGUMENT
         if not number >> _BITS:
@@ -215,7 +264,13 @@ class Store(Held):
         return self._thread.truth.value
 
     def is_descendant_of_numbers(self, child: int, ancestor: int) -> bool:
-        """What `is_descendant_of` says, by the numbers of both uids: no text crosses, and none is read."""
+        """Returns the result of `is_descendant_of` for the uids with these numbers, without reading a text.
+
+        Raises:
+            Refused: `bad argument` if no uid of this store has one of the numbers; `no entity` if the store has no
+                entity with
+                the first uid.
+        """
         thread = self._thread
         if thread is not LOCAL.thread or thread.left:
             self._mine()
@@ -236,15 +291,23 @@ class Store(Held):
         return self._thread.truth.value
 
     def is_child_of(self, child: str, parent: str) -> bool:
-        """Whether a uid is a parent of an entity."""
+        """Returns whether the second uid is a parent of the first.
+
+        Raises:
+            Refused: `no entity` if the store has no entity with the first uid; `not a uid`.
+        """
         return self._is(_is_child, child, parent)
 
     def is_indirect_descendant_of(self, child: str, ancestor: str) -> bool:
-        """Whether a uid is an ancestor of an entity and, in a store that was computed, no parent of it."""
+        """Returns whether the second uid is an indirect ancestor of the first. In a computed store, no parent is one.
+
+        Raises:
+            Refused: `no entity` if the store has no entity with the first uid; `not a uid`.
+        """
         return self._is(_is_far_below, child, ancestor)
 
     def _asked(self, call: Any, uid: str, *more: Any) -> None:
-        """A call about one uid."""
+        """Calls a library function on one uid. Raises an exception if the status is not 0."""
         self._mine()
         laid = encoded(uid)
         status = call(self._at, laid, SIZES[len(laid)], *more)
@@ -252,31 +315,49 @@ class Store(Held):
             self._refuse(status)
 
     def ancestors(self, uid: str) -> List[str]:
-        """The ancestors of an entity, in the order of uids."""
+        """Returns the ancestors of an entity, in ascending order.
+
+        Raises:
+            Refused: `no entity` if the store has no entity with this uid; `not a uid`.
+        """
         self._asked(_ancestors, uid)
         return self._answered()
 
     def parents(self, uid: str) -> List[str]:
-        """The parents of an entity, in the order of uids."""
+        """Returns the parents of an entity, in ascending order.
+
+        Raises:
+            Refused: `no entity` if the store has no entity with this uid; `not a uid`.
+        """
         self._asked(_parents, uid)
         return self._answered()
 
     def indirect_ancestors(self, uid: str) -> List[str]:
-        """The ancestors of an entity that are, in a store that was computed, no parents of it, in the order of uids."""
+        """Returns the indirect ancestors of an entity, in ascending order. In a computed store, no parent is one.
+
+        Raises:
+            Refused: `no entity` if the store has no entity with this uid; `not a uid`.
+        """
         self._asked(_indirect, uid)
         return self._answered()
 
     def uids(self) -> List[EntityUid]:
-        """The uids of all entities, each once, in no order that means anything."""
+        """Returns the uids of all entities, without duplicates and in no particular order."""
         self._call(_uids)
         return named(self._answered())
 
     def __iter__(self) -> Iterator[EntityUid]:
-        """The uids that the store has now: what changes it meanwhile does not change them."""
+        """Iterates over the uids that the store has now. Later changes of the store do not affect the iterator."""
         return iter(self.uids())
 
     def entity(self, uid: str) -> Union[Entity, Unknown, None]:
-        """The entity with a uid as it is now; without one None or, in a partial store, `Unknown.UNKNOWN`."""
+        """Returns a snapshot of the entity with this uid. Without one, returns None, or `Unknown.UNKNOWN` in a partial
+        store.
+
+        Raises:
+            Refused: `not a uid`.
+            ValueError: a set of an attribute or a tag has members that are equal in Python, like true and 1.
+        """
         found = ctypes.c_uint32(0)
         self._asked(_entity, uid, ctypes.byref(found))
         if found.value == 2:
@@ -296,22 +377,32 @@ class Store(Held):
         return terms
 
     def partial(self) -> None:
-        """The store becomes partial: what it lacks is not known then. A slice is not, a copy is as its source."""
+        """Makes the store partial: an entity that it does not contain is unknown, not absent. A copy is partial too, a
+        slice is not.
+        """
         self._call(_partial)
 
     def is_partial(self) -> bool:
-        """Whether the store is partial."""
+        """Returns whether the store is partial."""
         self._mine()
         self._call(_is_partial, self._thread.truth_at)
         return self._thread.truth.value
 
     def keys(self, uid: str) -> List[str]:
-        """The keys of an entity's attributes, in the order of their bytes."""
+        """Returns the keys of the attributes of an entity, in the order of their bytes.
+
+        Raises:
+            Refused: `no entity` if the store has no entity with this uid; `not a uid`.
+        """
         self._asked(_keys, uid)
         return self._answered()
 
     def tag_keys(self, uid: str) -> List[str]:
-        """The keys of an entity's tags, in the order of their bytes."""
+        """Returns the keys of the tags of an entity, in the order of their bytes.
+
+        Raises:
+            Refused: `no entity` if the store has no entity with this uid; `not a uid`.
+        """
         self._asked(_tag_keys, uid)
         return self._answered()
 
@@ -327,29 +418,48 @@ class Store(Held):
         return from_nodes(self._answer_bytes(), unpacked(out.raw))
 
     def get(self, uid: str, key: str) -> Optional[Term]:
-        """The attribute of an entity at a key: a value, or an expression that is left over. None where it has none."""
+        """Returns an attribute of an entity: a value, a residual expression, or None if there is no such attribute.
+
+        Raises:
+            Refused: `no entity` if the store has no entity with this uid; `not a uid`; `not UTF-8` if the key is
+                invalid.
+            ValueError: a set in the value has members that are equal in Python, like true and 1.
+        """
         return self._got(_get, uid, key)
 
     def get_tag(self, uid: str, key: str) -> Optional[Term]:
-        """The tag of an entity at a key, as `get` gives an attribute."""
+        """Returns a tag of an entity, with the results and the exceptions of `get`."""
         return self._got(_get_tag, uid, key)
 
     def attrs_len(self, uid: str) -> int:
-        """How many attributes an entity has."""
+        """Returns the number of attributes of an entity.
+
+        Raises:
+            Refused: `no entity` if the store has no entity with this uid; `not a uid`.
+        """
         self._mine()
         self._asked(_attrs_len, uid, self._thread.number_at)
         return self._thread.number.value
 
     def tags_len(self, uid: str) -> int:
-        """How many tags an entity has."""
+        """Returns the number of tags of an entity.
+
+        Raises:
+            Refused: `no entity` if the store has no entity with this uid; `not a uid`.
+        """
         self._mine()
         self._asked(_tags_len, uid, self._thread.number_at)
         return self._thread.number.value
 
     def entity_equal(self, uid: str, other: Store) -> bool:
-        """Whether the entities that two stores have with a uid have the same attributes, tags and ancestors."""
+        """Returns whether the entities with this uid in two stores have the same attributes, tags and ancestors.
+
+        Raises:
+            Refused: `no entity` if one of the stores has no entity with this uid; `not a uid`.
+            TypeError: `other` is not a `Store`.
+        """
         if not isinstance(other, Store):
-            raise TypeError(f"a store is wanted, and this is a {type(other).__name__}")
+            raise TypeError(f"expected a store, got a {type(other).__name__}")
         if other is self:
             self.attrs_len(uid)
             return True
@@ -359,22 +469,27 @@ class Store(Held):
         return self._thread.truth.value
 
     def entity_text(self, uid: str) -> str:
-        """The text of an entity, for people to read: its uid, its attributes and its ancestors."""
+        """Returns the text of an entity, for display: its uid, its attributes and its ancestors.
+
+        Raises:
+            Refused: `no entity` if the store has no entity with this uid; `not a uid`.
+        """
         self._asked(_entity_text, uid)
         return "".join(self._answered())
 
     def __str__(self) -> str:
-        """The texts of all entities in the order of uids, each with a line feed behind it, for people to read."""
+        """Returns the texts of all entities for display, in ascending order of uid, with a line feed after each."""
         if len(self) <= _FEW:
             self._call(_text)
             return "".join(self._answered())
-        # That call looks through all entities for each. The parents of one are listed in the order of uids.
+        # For more entities, `store_text` is slow: it scans all entities for each one. A helper store sorts the uids
+        # instead, because the parents of an entity are listed in ascending order.
         uids = self.uids()
         with Store({uids[0]: uids}, Mode.ASSUME) as order:
             return "".join([self.entity_text(uid) + "\n" for uid in order.parents(uids[0])])
 
     def __repr__(self) -> str:
-        """How many entities there are. It raises nothing."""
+        """Returns the number of entities. Raises no exception."""
         if self._thread is NOBODY:
             return "<Store that no thread has called yet>"
         if self._thread is not LOCAL.thread:
@@ -382,26 +497,33 @@ class Store(Held):
         return f"<Store of {len(self)} entities>" if self._handle.is_open else "<Store, closed>"
 
     def portable(self: _Kind) -> _Kind:
-        """A store of the same entities, partial as this one is, which is of the thread that calls it first.
+        """Returns a copy that belongs to the first thread that calls one of its methods. It has a key of its own.
 
-        It is for other threads, and for a pool of processes, which pickles what it is handed on a thread of its own. It
-        has a key of its own. `TypeError` where the store cannot be made again.
+        Use it for other threads, and for a process pool, which pickles its arguments on a thread of its own.
+
+        Raises:
+            TypeError: the store cannot be rebuilt from entities and a mode.
         """
         entities, mode = self._recipe()
         return _not_made(type(self), entities, mode, self.is_partial())
 
     def __reduce__(self) -> Tuple[Any, ...]:
-        """What `portable` answers is pickled: the uids with their parents, a mode, and whether it is partial."""
+        """Pickles the result of `portable`: the uids with their parents, a mode, and whether the store is partial.
+
+        Raises:
+            TypeError: the store cannot be rebuilt from entities and a mode.
+            WrongThread: the store belongs to another thread.
+        """
         source = self
         if self._thread is NOBODY and self._handle.is_open:
             self._mine()
         if self._thread is not NOBODY:
             if self._thread is not LOCAL.thread:
-                raise WrongThread("a store of another thread, as a pool pickles it: hand over its `portable()`")
+                raise WrongThread("a store belongs to another thread: give a process pool its `portable()`")
             source = self.portable()
         for made_of in source._made_of:
             return (_not_made, (type(self), *made_of))
-        raise WrongThread("a store of another thread")
+        raise WrongThread("a store belongs to another thread")
 
     def _first(self) -> None:
         if self._handle.is_open:
@@ -410,7 +532,7 @@ class Store(Held):
         try:
             made_of = self._made_of.pop()
         except IndexError:
-            raise WrongThread("a store of another thread") from None
+            raise WrongThread("a store belongs to another thread") from None
         self._open()
         try:
             entities, mode, is_partial = made_of
@@ -424,7 +546,7 @@ class Store(Held):
             raise
 
     def _recipe(self) -> Tuple[Entities, int]:
-        """Entities and a mode that make this store. It makes the store to see that."""
+        """Returns entities and a mode that rebuild this store. Rebuilds the store to check them."""
         uids = list(map(str, self.uids()))
         entities: Entities = self._with_parents(uids)
         if has("store_build_with") and any(self.attrs_len(uid) or self.tags_len(uid) for uid in uids):
@@ -433,11 +555,11 @@ class Store(Held):
             if self._is_made_of(entities, mode):
                 return entities, int(mode)
         if not has("store_build_with"):
-            raise TypeError("a store cannot be pickled whose ancestors no mode makes of its parents")
+            raise TypeError("a store cannot be pickled: no mode computes its ancestors from its parents")
         return [self._read(uid, self.indirect_ancestors(uid)) for uid in uids], int(Mode.ASSUME)
 
     def _with_parents(self, uids: List[str]) -> Dict[str, List[str]]:
-        # Each text is one object, which is pickled once.
+        # Equal texts become one object, which is pickled once.
         texts = dict(zip(uids, uids))
         return {uid: [texts.setdefault(parent, parent) for parent in self.parents(uid)] for uid in uids}
 
@@ -449,11 +571,23 @@ class Store(Held):
             return False
 
     def validate(self) -> None:
-        """Raises the first fault of the store, if there is one."""
+        """Checks the store, and raises the first fault.
+
+        Checks the ancestors first, as `Mode.ENFORCE` does. Then it reports the fault of the entity with the least uid.
+
+        Raises:
+            Refused: `cycle`, `not closed`, `self ancestor`, `duplicate ancestor`, `action parent` or `reserved key`.
+        """
         self._call(_validate)
 
     def slice(self, uids: Iterable[str]) -> Store:
-        """A store of the entities with these uids, and of those that this one has among their ancestors."""
+        """Returns a store of the entities with these uids and of all their ancestors that are in the store.
+
+        The slice shares its entities with this store, has the same key, and belongs to the current thread.
+
+        Raises:
+            Refused: `not a uid`.
+        """
         laid = Laid(listed(uids))
         self._mine()
         fresh: Store = Store.__new__(type(self))
@@ -461,13 +595,17 @@ class Store(Held):
         return fresh
 
     def slice_apart(self, uids: Iterable[str]) -> Store:
-        """What `slice` gives, sharing nothing with this store: it is of the thread that calls it first."""
+        """Returns a deep copy of `slice`. It belongs to the first thread that calls one of its methods.
+
+        Raises:
+            Refused: `not a uid`.
+        """
         laid = Laid(listed(uids))
         return self._apart(_slice_apart, *laid.arguments())
 
 
 def _not_made(kind: Type[_Kind], entities: Entities, mode: int, is_partial: bool) -> _Kind:
-    """A store that is made by the first call on it."""
+    """Returns a store that its first method call builds."""
     store = kind._of_nobody()
     store._made_of = [(entities, mode, is_partial)]
     return store

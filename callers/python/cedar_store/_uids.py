@@ -11,7 +11,12 @@ _check, _make, _parts = function("uid_check"), function("uid_make"), function("u
 
 
 def is_uid(text: str) -> bool:
-    """Whether a text is a uid's."""
+    """Returns whether the text is a uid.
+
+    Raises:
+        TypeError: the text is not a `str`.
+        MemoryError: an allocation failed.
+    """
     status = _check(*text_of(text))
     if status and status != NOT_A_UID:
         refuse(status)
@@ -19,9 +24,13 @@ def is_uid(text: str) -> bool:
 
 
 class EntityUid(str):
-    """The uid of an entity: a text as `A::B::"c"`, which is a `str` and stands wherever one does.
+    """The uid of an entity: a text like `A::B::"c"`. It is a `str` and can be used as one.
 
-    It is made of a text, which is refused as `not a uid` where it is none, or by `make` of a type and an id.
+    `EntityUid(text)` checks a text; `EntityUid.make` builds a uid from a type and an id.
+
+    Raises:
+        Refused: `not a uid` if the text is not a uid.
+        TypeError: the text is not a `str`.
     """
 
     __slots__ = ()
@@ -33,9 +42,12 @@ class EntityUid(str):
 
     @classmethod
     def make(cls, type: str, id: str) -> EntityUid:
-        """The uid with a type, as `A::B`, and an id, which is any text and is not escaped.
+        """Builds the uid with a type, like `A::B`, and an id. The id is any text, not escaped.
 
-        Refused as `not a name` where the type is no name.
+        Raises:
+            Refused: `not a name` if the type is not a name; `not UTF-8` if the id has a lone surrogate.
+            TypeError: the type or the id is not a `str`.
+            MemoryError: an allocation failed.
         """
         (kind, kind_length), (own, length) = text_of(type), text_of(id)
         room, told = kind_length + 2 * length + 16, ctypes.c_size_t(0)
@@ -50,12 +62,17 @@ class EntityUid(str):
 
     @staticmethod
     def escape(id: str) -> str:
-        """An id as it stands between the quotes of a uid's text."""
+        """Escapes an id for use between the quotes of a uid.
+
+        Raises:
+            Refused: `not UTF-8` if the id has a lone surrogate.
+            TypeError: the id is not a `str`.
+        """
         return EntityUid.make("A", id)[4:-1]
 
     @property
     def parts(self) -> Tuple[str, str]:
-        """The type and the id, which is not escaped."""
+        """Returns the type and the id. The id is not escaped."""
         text = encoded(self)
         out, kind, told = ctypes.create_string_buffer(len(text)), ctypes.c_size_t(0), ctypes.c_size_t(0)
         status = _parts(text, len(text), out, len(text), ctypes.byref(kind), ctypes.byref(told))
@@ -65,12 +82,12 @@ class EntityUid(str):
 
     @property
     def type(self) -> str:
-        """The type, as `A::B`."""
+        """Returns the type, like `A::B`."""
         return self.parts[0]
 
     @property
     def id(self) -> str:
-        """The id, which is not escaped."""
+        """Returns the id, not escaped."""
         return self.parts[1]
 
     def __reduce__(self) -> Tuple[Any, ...]:
@@ -78,6 +95,6 @@ class EntityUid(str):
 
 
 def named(texts: Iterable[str]) -> List[EntityUid]:
-    """Texts that the library wrote, as uids."""
+    """Returns texts that the library wrote as `EntityUid`s, without a check."""
     new, kind = str.__new__, EntityUid
     return [new(kind, text) for text in texts]

@@ -1,14 +1,15 @@
-"""Values and expressions of the language, and the nodes by which they cross to the library.
+"""Values and expressions of the Cedar language, and the nodes that encode them for the library.
 
-A value is a `bool`, an `int` of 64 bits, a `str`, an `EntityUid`, an `Extension`, a set or a record. A set is handed in
-as a `frozenset`, `set`, `list` or `tuple`, a record as any mapping; what is read has a `frozenset` for a set and for a
-record a `Record`, which is a `dict`. Python takes true for 1, false for 0 and a uid for its text: `same` does not.
+A value is a `bool`, an `int` of 64 bits, a `str`, an `EntityUid`, an `Extension`, a set or a record. A set is given as
+a `frozenset`, `set`, `list` or `tuple`, and a record as any mapping. When a value is read, a set is a `frozenset` and a
+record is a `Record`, a subclass of `dict`. Python takes true and 1 as equal, and a uid and its text. `same` does not.
 
-An expression is what the calls here make of values and other expressions, as `PRINCIPAL.is_in(uid) & ~CONTEXT.eq(1)`.
+The classes and operators here build expressions from values and other expressions, like `PRINCIPAL.is_in(uid) &
+~CONTEXT.eq(1)`.
 
-Nodes stand over one text, each behind all that stands below it. `to_nodes` and `from_nodes` are of attributes and tags:
-values, and expressions that are left over; `expr_to_nodes` and `expr_from_nodes` are of expressions. None of them
-recurses, so a term may be as deep as the library takes it.
+Nodes refer to one text. Each node follows its operands. `to_nodes` and `from_nodes` encode and decode attributes and
+tags, which are values or residual expressions. `expr_to_nodes` and `expr_from_nodes` do this for expressions. None of
+them recurses, so the depth of a term is limited only by the library.
 """
 from __future__ import annotations
 
@@ -73,14 +74,16 @@ _SLOT, _UNKNOWN, _NOT, _AND, _EQ, _IN, _IS, _LEFT_OVER = range(8, 16)
 
 @dataclasses.dataclass(frozen=True)
 class Extension:
-    """A value of an extension type: the name of its function, as `ip`, and the text that this is called with."""
+    """A value of an extension type: the name of its function, like `ip`, and the text argument."""
 
     function: str
     text: str
 
 
 class Record(Dict[str, "Term"]):
-    """A record: a `dict` that does not change, so that a set may have it. That of an entity may have expressions."""
+    """A record: an immutable `dict`, so that it can be a member of a set. A record of an entity may contain
+    expressions.
+    """
 
     __slots__ = ("_hash",)
     _hash: int
@@ -93,7 +96,7 @@ class Record(Dict[str, "Term"]):
             return self._hash
 
     def _is_fixed(self, *_: Any, **__: Any) -> NoReturn:
-        raise TypeError("a record does not change")
+        raise TypeError("a record is immutable")
 
     __setitem__ = __delitem__ = __ior__ = _is_fixed  # type: ignore[assignment]
     clear = pop = popitem = setdefault = update = _is_fixed  # type: ignore[assignment]
@@ -103,12 +106,12 @@ class Record(Dict[str, "Term"]):
 
 
 Value = Union[bool, int, str, Extension, AbstractSet["Value"], Sequence["Value"], Mapping[str, "Value"]]
-# What an attribute or a tag has: a value, or an expression that is left over.
+# An attribute or a tag: a value or a residual expression.
 Term = Union[Value, Expr]
 
 
 class Node(NamedTuple):
-    """One node: its kind, how many stand below it, the part of the text that it has, and its number."""
+    """A node: its kind, the number of its operands, the span of its text, and its number."""
 
     kind: int
     len: int = 0
@@ -122,17 +125,17 @@ NODE_SIZE = _NODE.size
 
 
 def packed(nodes: Iterable[Node]) -> bytes:
-    """Nodes as they stand in memory."""
+    """Encodes nodes as they are in memory."""
     return b"".join([_NODE.pack(*node) for node in nodes])
 
 
 def unpacked(laid: bytes) -> List[Node]:
-    """Nodes from how they stand in memory."""
+    """Decodes nodes from their bytes in memory."""
     return [Node(*fields) for fields in _NODE.iter_unpack(laid)]
 
 
 class Draft:
-    """Terms as they are written: one text, in which each text stands once, and the nodes of all."""
+    """An encoder of terms: one text, in which each string occurs once, and the nodes of all terms."""
 
     def __init__(self, text: bytes = b"") -> None:
         self.text = bytearray(text)
@@ -140,7 +143,7 @@ class Draft:
         self._places: Dict[str, Tuple[int, int]] = {}
 
     def place(self, text: str) -> Tuple[int, int]:
-        """Where a text starts and ends."""
+        """Returns the start and the end of a string in the text. Adds the string if it is new."""
         found = self._places.get(text)
         if found is None:
             start = len(self.text)
@@ -154,17 +157,26 @@ class Draft:
         return first, len(self.nodes)
 
     def term(self, term: Term) -> Tuple[int, int]:
-        """Writes a value, or an expression that is left over: the places of its first node and behind its last."""
+        """Encodes a value or a residual expression. Returns the range of its nodes.
+
+        Raises:
+            TypeError: the term is not a value.
+            ValueError: a number does not fit into 64 bits.
+        """
         if isinstance(term, Expr):
             return self._add([Node(_LEFT_OVER, 1), *self._turned_expr(term)])
         return self._add(self._turned_value(term))
 
     def expr(self, expr: Expr) -> Tuple[int, int]:
-        """Writes an expression."""
+        """Encodes an expression. Returns the range of its nodes.
+
+        Raises:
+            ValueError: a number does not fit into 64 bits.
+        """
         return self._add(self._turned_expr(expr))
 
     def _turned_value(self, value: Value) -> List[Node]:
-        """The nodes of a value from the last to the first."""
+        """Returns the nodes of a value, from the last to the first."""
         turned: List[Node] = []
         pending: List[Any] = [value]
         while pending:
@@ -182,7 +194,7 @@ class Draft:
                 turned.append(Node(_SET, len(one)))
                 pending += one
             else:
-                raise TypeError(f"a {type(one).__name__} is no value")
+                raise TypeError(f"a {type(one).__name__} is not a value")
         return turned
 
     def _literal(self, one: Union[bool, int, str]) -> Node:
@@ -190,12 +202,12 @@ class Draft:
             return Node(_BOOL, number=int(one))
         if isinstance(one, int):
             if not -(1 << 63) <= one < 1 << 63:
-                raise ValueError("a number has 64 bits")
+                raise ValueError("a number must fit into 64 bits")
             return Node(_LONG, number=int(one))
         return Node(_UID if isinstance(one, EntityUid) else _TEXT, 0, *self.place(one))
 
     def _turned_expr(self, expr: Expr) -> List[Node]:
-        """The nodes of an expression from the last to the first."""
+        """Returns the nodes of an expression, from the last to the first."""
         turned: List[Node] = []
         pending: List[Expr] = [expr]
         while pending:
@@ -223,28 +235,38 @@ _JOINED: Dict[Type[Expr], int] = {Not: _NOT, And: _AND, Eq: _EQ, In: _IN}
 
 def _key(key: object) -> str:
     if not isinstance(key, str):
-        raise TypeError(f"a key is a str, and this is a {type(key).__name__}")
+        raise TypeError(f"expected a str as a key, got a {type(key).__name__}")
     return str(key)
 
 
 def to_nodes(term: Term) -> Tuple[bytes, List[Node]]:
-    """A value, or an expression that is left over, as a text and nodes over it."""
+    """Encodes a value or a residual expression as a text and nodes.
+
+    Raises:
+        TypeError: the term is not a value.
+        ValueError: a number does not fit into 64 bits.
+    """
     draft = Draft()
     draft.term(term)
     return bytes(draft.text), draft.nodes
 
 
 def expr_to_nodes(expr: Expr) -> Tuple[bytes, List[Node]]:
-    """An expression as a text and nodes over it."""
+    """Encodes an expression as a text and nodes.
+
+    Raises:
+        ValueError: a number does not fit into 64 bits.
+    """
     draft = Draft()
     draft.expr(expr)
     return bytes(draft.text), draft.nodes
 
 
 def from_nodes(text: bytes, nodes: Sequence[Node]) -> Term:
-    """The value that nodes over a text are, or the expression that is left over.
+    """Decodes a value or a residual expression from a text and nodes.
 
-    `ValueError` where they are neither, or where a set has two members that Python takes for one, as true and 1.
+    Raises:
+        ValueError: the nodes are invalid, or a set has two members that are equal in Python, like true and 1.
     """
     if nodes and nodes[-1].kind == _LEFT_OVER and nodes[-1].len == 1:
         return expr_from_nodes(text, nodes[:-1])
@@ -256,7 +278,12 @@ def from_nodes(text: bytes, nodes: Sequence[Node]) -> Term:
 
 
 def same(one: Value, other: Value) -> bool:
-    """Whether two values are one of the language's: neither true and 1 nor a uid and its text are."""
+    """Returns whether two values are equal in the Cedar language. True differs from 1, and a uid from its text.
+
+    Raises:
+        TypeError: an argument is not a value.
+        ValueError: a number does not fit into 64 bits.
+    """
     reader, draft = _Reader(b""), Draft()
     sections = [draft.term(one), draft.term(other)]
     reader.text = bytes(draft.text)
@@ -270,7 +297,7 @@ def same(one: Value, other: Value) -> bool:
 
 
 class _Reader:
-    """Values as they are read, each with a number that is another one's only where it is the same value."""
+    """A decoder of values. Two values have the same number exactly if they are equal."""
 
     def __init__(self, text: bytes) -> None:
         self.text = text
@@ -278,13 +305,13 @@ class _Reader:
         self._numbers: Dict[object, int] = {}
 
     def only(self) -> Tuple[Any, int]:
-        """The one value that was read."""
+        """Returns the decoded value and its number. Raises `ValueError` if there is not exactly one."""
         if len(self.stack) != 1:
-            raise ValueError("the nodes are not those of one value")
+            raise ValueError("the nodes do not encode exactly one value")
         return self.stack[0]
 
     def take(self, node: Node, makes: bool = True) -> None:
-        """Reads a node, over those below it. Without `makes` numbers alone are made."""
+        """Decodes a node from the values before it. Without `makes`, only numbers are computed, no values."""
         kind = node.kind
         value: Any = None
         says: object
@@ -294,7 +321,7 @@ class _Reader:
         elif kind == _CALL and node.len == 1:
             ((argument, _),) = self._below(1)
             if not isinstance(argument, str) or isinstance(argument, EntityUid):
-                raise ValueError("an extension is called with one text")
+                raise ValueError("an extension function takes one text")
             value = Extension(_part(self.text, node), argument)
             says = value.function, value.text
         elif kind == _SET:
@@ -303,7 +330,7 @@ class _Reader:
             if makes:
                 value = frozenset(found.values())
                 if len(value) < len(found):
-                    raise ValueError("a set has members that Python takes for one, as true and 1")
+                    raise ValueError("a set has members that are equal in Python, like true and 1")
         elif kind == _RECORD:
             fields = self._fields(node.len)
             says = frozenset((key, number) for key, (_, number) in fields.items())
@@ -311,13 +338,13 @@ class _Reader:
                 value = Record({key: member for key, (member, _) in fields.items()})
                 hash(value)
         else:
-            raise ValueError(f"a node of kind {kind} stands in no value")
+            raise ValueError(f"a value cannot contain a node of kind {kind}")
         self.stack.append((value, self._numbers.setdefault((kind, says), len(self._numbers))))
 
     def _below(self, count: int) -> List[Tuple[Any, int]]:
         first = len(self.stack) - count
         if first < 0:
-            raise ValueError("a node has too few below it")
+            raise ValueError("a node has too few operands before it")
         taken = self.stack[first:]
         del self.stack[first:]
         return taken
@@ -327,21 +354,21 @@ class _Reader:
         fields = {}
         for (key, _), one in zip(taken[::2], taken[1::2]):
             if not isinstance(key, str) or isinstance(key, EntityUid):
-                raise ValueError("the key of a record is a text")
+                raise ValueError("the key of a record must be a text")
             fields[key] = one
         return fields
 
 
 def _part(text: bytes, node: Node) -> str:
     if not node.start <= node.end <= len(text):
-        raise ValueError("a part is not within its text")
+        raise ValueError("a span is not within its text")
     return text[node.start : node.end].decode()
 
 
 def _literal_of(text: bytes, node: Node) -> Union[bool, int, str]:
     if node.kind == _BOOL:
         if node.number not in (0, 1):
-            raise ValueError("a truth is 0 or 1")
+            raise ValueError("a Boolean must be 0 or 1")
         return bool(node.number)
     if node.kind == _LONG:
         return node.number
@@ -350,17 +377,21 @@ def _literal_of(text: bytes, node: Node) -> Union[bool, int, str]:
 
 
 def expr_from_nodes(text: bytes, nodes: Iterable[Node]) -> Expr:
-    """The expression that nodes over a text are. `ValueError` where they are none."""
+    """Decodes an expression from a text and nodes.
+
+    Raises:
+        ValueError: the nodes are invalid.
+    """
     stack: List[Expr] = []
     for node in nodes:
         stack.append(_expr_of(text, node, stack))
     if len(stack) != 1:
-        raise ValueError("the nodes are not those of one expression")
+        raise ValueError("the nodes do not encode exactly one expression")
     return stack[0]
 
 
 def _expr_of(text: bytes, node: Node, stack: List[Expr]) -> Expr:
-    """The expression of a node, which takes what stands below it off a stack."""
+    """Decodes the expression of a node, and pops its operands from the stack."""
     kind = node.kind
     if kind <= _UID:
         return Lit(_literal_of(text, node))
@@ -376,7 +407,7 @@ def _expr_of(text: bytes, node: Node, stack: List[Expr]) -> Expr:
     if kind == _UNKNOWN and node.len == 1:
         (type,) = _popped(stack, 1)
         if not isinstance(type, Lit) or not isinstance(type.value, str):
-            raise ValueError("the type of an unknown is a text")
+            raise ValueError("the type of an unknown must be a text")
         return UnknownExpr(_part(text, node), type.value)
     if kind == _IS:
         (operand,) = _popped(stack, 1)
@@ -385,13 +416,13 @@ def _expr_of(text: bytes, node: Node, stack: List[Expr]) -> Expr:
         if kind == number:
             joined: Expr = made(*_popped(stack, 1 if made is Not else 2))
             return joined
-    raise ValueError(f"a node of kind {kind} stands in no expression")
+    raise ValueError(f"an expression cannot contain a node of kind {kind}")
 
 
 def _popped(stack: List[Expr], count: int) -> List[Expr]:
     first = len(stack) - count
     if first < 0:
-        raise ValueError("a node has too few below it")
+        raise ValueError("a node has too few operands before it")
     taken = stack[first:]
     del stack[first:]
     return taken

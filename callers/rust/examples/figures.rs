@@ -1,6 +1,6 @@
-//! What a tree of 100,000 entities costs through this crate, and what the same costs in plain hash maps of Rust and by
-//! the program of the library in one call. Prints the least of three runs, in seconds of the processor where Linux
-//! tells them, and else by the clock: `cargo run --release --example figures`.
+//! Measures a tree of 100,000 entities through this crate. Compares it with plain hash maps of Rust, and with the
+//! program of the library in one call. Prints the shortest of three runs. Times are in seconds of processor time on
+//! Linux, and in seconds of wall-clock time elsewhere. Run it with `cargo run --release --example figures`.
 use cedar_store_proved::ast::{Entity, EntityUID, Value};
 use cedar_store_proved::entities::{Entities, TCComputation::ComputeNow};
 use cedar_store_proved::{is_uid, run, UidNumber};
@@ -20,7 +20,7 @@ fn parent(place: usize) -> Option<usize> {
     (place > 0).then(|| (place - 1) / CHILDREN)
 }
 
-// Pairs to ask for: every other one is an entity and one above it.
+// Returns the pairs to query. In every second pair, the second uid is an ancestor of the first.
 fn pairs() -> Vec<(String, String)> {
     let one = |ask: usize| {
         let child = 1 + ask * 7919 % (SIZE - 1);
@@ -35,7 +35,7 @@ fn pairs() -> Vec<(String, String)> {
     (0..ASKED).map(one).collect()
 }
 
-// The seconds that this thread was on a processor, where Linux tells them.
+// Returns the processor time of this thread in seconds, if Linux reports it.
 fn on_processor() -> Option<f64> {
     let told = std::fs::read_to_string("/proc/thread-self/schedstat").ok()?;
     let nanoseconds: f64 = told.split(' ').next()?.parse().ok()?;
@@ -46,7 +46,7 @@ fn seconds_from(start: Instant) -> f64 {
     on_processor().unwrap_or_else(|| start.elapsed().as_secs_f64())
 }
 
-// The least time of three, and what was made last.
+// Returns the shortest time of three runs, and the result of the last one.
 fn least<T>(make: impl Fn() -> T) -> (f64, T) {
     let timed = || {
         let start = Instant::now();
@@ -98,18 +98,18 @@ fn through_the_crate(pairs: &[(String, String)]) -> usize {
     };
     let (seconds, same) = least(asks);
     assert_eq!(same, count);
-    print("the same by numbers of both uids", seconds);
+    print("is_descendant_of by numbers of both uids", seconds);
     let found = || {
         let is_below = |(child, other): &&(EntityUID, EntityUID)| {
             store.entity(child).unwrap().is_descendant_of(other)
         };
         asked.iter().filter(is_below).count()
     };
-    print("the same of entities that are looked up", least(found).0);
+    print("is_descendant_of after a lookup", least(found).0);
     let are_uids =
         |(child, other): &&(String, String)| is_uid(child).unwrap() && is_uid(other).unwrap();
     print(
-        "is_uid of both of its uids",
+        "is_uid of both uids",
         least(|| pairs.iter().filter(are_uids).count()).0,
     );
     let lists = || {
@@ -121,7 +121,7 @@ fn through_the_crate(pairs: &[(String, String)]) -> usize {
     count
 }
 
-// The same tree, each entity with two attributes.
+// Measures the same tree, in which each entity has two attributes.
 fn with_content(entities: Vec<Entity>, asked: &[(EntityUID, EntityUID)]) {
     let full = |entity: Entity| {
         let names = ["a", "b"].map(Value::from);
@@ -153,7 +153,7 @@ const USERS: usize = 40_000;
 const GROUPS: usize = 500;
 const MILLION: usize = 1_000_000;
 
-// Numbers that look drawn, each below a bound.
+// A generator of pseudorandom numbers below a bound.
 struct Drawn(u64);
 
 impl Drawn {
@@ -165,7 +165,7 @@ impl Drawn {
     }
 }
 
-// Users of two groups each, which are nested: what an authorizer asks, through this crate and of sets of Rust.
+// Measures queries of an authorizer, through this crate and in sets of Rust. Each user is in two of many nested groups.
 fn users_in_groups() {
     let mut drawn = Drawn(88_172_645_463_325_252);
     let named = |kind: &str, place: usize| read(&format!("{kind}::\"{place}\""));
@@ -225,7 +225,7 @@ fn users_in_groups() {
 
 type Above = HashMap<String, HashSet<String>>;
 
-// The ancestors of each entity, whose parents stand before it.
+// Returns the ancestors of each entity. A parent comes before its children.
 fn closed() -> Above {
     let mut above: Above = HashMap::new();
     for place in 0..SIZE {
@@ -262,7 +262,8 @@ fn in_hash_maps(pairs: &[(String, String)]) -> usize {
     count
 }
 
-// The program is run once where what it writes is no longer than its input: empty lines see to that.
+// Measures the program. The program is run only once if its output is not longer than its input, so the input has many
+// empty lines.
 fn by_the_program(pairs: &[(String, String)]) {
     let line = |place| match parent(place) {
         Some(parent) => format!("ent\t{}\t{}\n", uid(place), uid(parent)),
@@ -278,13 +279,13 @@ fn by_the_program(pairs: &[(String, String)]) {
     print("the same tree by the program in one call", timed(&build));
     let both = timed(&(build.clone() + &asks + &empty));
     print(
-        "ancestors by the program, beside that",
+        "ancestors by the program in one call",
         both - timed(&(build + &empty)),
     );
 }
 
 fn main() {
-    println!("a tree of {SIZE}, each with {CHILDREN} children; {ASKED} questions");
+    println!("a tree of {SIZE}, each with {CHILDREN} children; {ASKED} queries");
     let pairs = pairs();
     let count = through_the_crate(&pairs);
     assert_eq!(count, in_hash_maps(&pairs));

@@ -1,4 +1,4 @@
-//! Who may enter: a store of a few lines, and a template with a link.
+//! A small store, and a template with a link: who may enter?
 use cedar_store_proved::ast::{
     ActionConstraint, Annotations, Effect, Entity, EntityUID, Expr, PolicyID, PolicySet,
     PrincipalConstraint, ResourceConstraint, SlotEnv, SlotId, Template, Value, Var,

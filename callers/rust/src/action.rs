@@ -1,4 +1,4 @@
-//! What a policy asks of the action: anything, one uid, one of a list, or what its slot is bound to.
+//! Constraints on the action of a request: any action, one uid, a list of uids, or the action's slot.
 use crate::expr::Expr;
 use crate::invalid::{ActionTypesError, NonEmpty};
 use crate::name::Loc;
@@ -10,10 +10,10 @@ use std::hash::{Hash, Hasher};
 use std::slice;
 use std::sync::Arc;
 
-/// What the action of a request has to be.
+/// A constraint on the action of a request.
 ///
-/// The order is by kind, as the kinds are listed here, then by the uids item by item. No comparison looks at a
-/// location.
+/// Constraints are ordered by kind, in the order of the variants below. Constraints of one kind are ordered by their
+/// uids, item by item. Comparisons ignore locations.
 ///
 /// ```
 /// use cedar_store_proved::ast::{ActionConstraint, EntityUID};
@@ -27,45 +27,47 @@ use std::sync::Arc;
 /// ```
 #[derive(Clone, Debug)]
 pub enum ActionConstraint {
-    /// Anything.
+    /// Any action.
     Any,
-    /// In one of these uids.
+    /// An action that is in one of these uids.
     In(Vec<Arc<EntityUID>>),
-    /// Equal to this uid.
+    /// The action with this uid.
     Eq(Arc<EntityUID>),
-    /// In what the action's slot is bound to, and where that slot stands, if that is known.
+    /// An action that is in the uid bound to the action's slot. The location of the slot, if it is known.
     InSlot(Option<Loc>),
-    /// Equal to what the action's slot is bound to, and where that slot stands, if that is known.
+    /// The action with the uid bound to the action's slot. The location of the slot, if it is known.
     EqSlot(Option<Loc>),
 }
 
 impl ActionConstraint {
-    /// Anything.
+    /// Creates a constraint that allows any action.
     pub fn any() -> ActionConstraint {
         ActionConstraint::Any
     }
 
-    /// In one of these uids, in this order, which it comes to share.
+    /// Creates a constraint that requires the action to be in one of these uids. Keeps their order.
     pub fn is_in(euids: impl IntoIterator<Item = EntityUID>) -> ActionConstraint {
         ActionConstraint::In(euids.into_iter().map(Arc::new).collect())
     }
 
-    /// Equal to this uid, which it comes to share.
+    /// Creates a constraint that requires the action to be equal to this uid.
     pub fn is_eq(euid: EntityUID) -> ActionConstraint {
         ActionConstraint::Eq(Arc::new(euid))
     }
 
-    /// In what the action's slot is bound to. The slot has no location.
+    /// Creates a constraint that requires the action to be in the uid bound to its slot. The slot has no location.
     pub fn is_in_slot() -> ActionConstraint {
         ActionConstraint::InSlot(None)
     }
 
-    /// Equal to what the action's slot is bound to. The slot has no location.
+    /// Creates a constraint that requires the action to be equal to the uid bound to its slot. The slot has no
+    /// location.
     pub fn is_eq_slot() -> ActionConstraint {
         ActionConstraint::EqSlot(None)
     }
 
-    /// The constraint with this uid in place of the slot: in the list of that one uid, or equal to it. Any other stays.
+    /// Replaces the slot by this uid. `InSlot` becomes a list with only this uid, and `EqSlot` becomes equality with
+    /// it. Any other constraint is returned unchanged.
     pub fn with_filled_slot(self, euid: Arc<EntityUID>) -> ActionConstraint {
         match self {
             ActionConstraint::InSlot(_) => ActionConstraint::In(vec![euid]),
@@ -74,8 +76,8 @@ impl ActionConstraint {
         }
     }
 
-    /// The expression of the constraint: `true`, `action in` the set of the uids in their order, `action ==` the uid,
-    /// or `action in` or `==` its slot, which stands where the constraint has it.
+    /// Returns the constraint as an expression: `true`, `action in` a set of the uids in their order, `action ==` the
+    /// uid, or `action in` or `action ==` the slot. The slot node has the location that the constraint stores.
     pub fn as_expr(&self) -> Expr {
         let action = || Expr::var(Var::Action);
         let slot =
@@ -91,7 +93,7 @@ impl ActionConstraint {
         }
     }
 
-    // The uids of the constraint, in their order.
+    // Returns the uids of the constraint, in their order.
     pub(crate) fn uids(&self) -> &[Arc<EntityUID>] {
         match self {
             ActionConstraint::In(euids) => euids,
@@ -102,7 +104,7 @@ impl ActionConstraint {
         }
     }
 
-    /// Where the slot stands, if it is referred to.
+    /// Returns the location of the slot, if the constraint refers to the slot.
     pub(crate) fn slot(&self) -> Option<&Option<Loc>> {
         match self {
             ActionConstraint::InSlot(loc) | ActionConstraint::EqSlot(loc) => Some(loc),
@@ -110,7 +112,8 @@ impl ActionConstraint {
         }
     }
 
-    /// The uids of the constraint: of a list from the back, repeats kept; of the slot none.
+    /// Iterates over the uids of the constraint. A list is iterated from its end, with its duplicates. A constraint on
+    /// the slot has no uids.
     pub fn iter_euids(&self) -> EntityIterator<'_> {
         match (self, self.uids()) {
             (ActionConstraint::Eq(one), _) => EntityIterator::One(one),
@@ -119,14 +122,19 @@ impl ActionConstraint {
         }
     }
 
-    /// The types of the uids that [`ActionConstraint::iter_euids`] gives, in its order.
+    /// Iterates over the types of the uids, in the order of [`ActionConstraint::iter_euids`].
     pub fn iter_entity_type_names(&self) -> ActionTypeNames<'_> {
         let euids = self.iter_euids();
         ActionTypeNames { euids }
     }
 
-    /// Whether each uid is an action: whether the last part of its type is `Action`. The slot passes. Refused by
-    /// `NotActions`, which has exactly the others, in the order of the list, repeats kept.
+    /// Checks whether each uid is an action, which means that the last part of its type is `Action`. A constraint on
+    /// the slot is valid.
+    ///
+    /// # Errors
+    ///
+    /// - `NotActions`: at least one uid is not an action. The error contains exactly the uids that are not actions, in
+    ///   the order of the list, with duplicates.
     pub fn check_action_types(&self) -> Result<(), ActionTypesError> {
         let mut others = self.uids().iter().filter(|euid| !euid.is_action()).cloned();
         match others.next() {
@@ -138,13 +146,17 @@ impl ActionConstraint {
         }
     }
 
-    /// The constraint itself where each uid is an action. Refused as [`ActionConstraint::check_action_types`] is.
+    /// Returns the constraint itself if each uid is an action.
+    ///
+    /// # Errors
+    ///
+    /// - `NotActions`: at least one uid is not an action; see [`ActionConstraint::check_action_types`].
     pub fn contains_only_action_types(self) -> Result<ActionConstraint, ActionTypesError> {
         self.check_action_types()?;
         Ok(self)
     }
 
-    // By what two are compared: the place of the kind among all, and the uids.
+    // Returns the comparison key: the position of the kind among all kinds, and the uids.
     fn key(&self) -> (u8, &[Arc<EntityUID>]) {
         let kind = match self {
             ActionConstraint::Any => 0,
@@ -198,14 +210,14 @@ impl fmt::Display for ActionConstraint {
     }
 }
 
-/// The uids of a constraint of an action.
+/// An iterator over the uids of an action constraint.
 #[derive(Clone, Debug)]
 pub enum EntityIterator<'a> {
     /// No uid.
     None,
     /// This uid, once.
     One(&'a EntityUID),
-    /// The uids of this list, from the back.
+    /// The uids of this list, from its end.
     Bunch(Vec<&'a EntityUID>),
 }
 
@@ -225,7 +237,7 @@ impl<'a> Iterator for EntityIterator<'a> {
     }
 }
 
-/// The types of the uids of a constraint of an action, in the order of its iterator of uids.
+/// An iterator over the types of the uids of an action constraint, in the order of [`EntityIterator`].
 #[derive(Clone, Debug)]
 pub struct ActionTypeNames<'a> {
     euids: EntityIterator<'a>,

@@ -1,21 +1,21 @@
-//! Annotations of policies and templates: keys and texts that no decision depends on.
+//! Annotations of policies and templates: keys with texts that do not affect any decision.
 use crate::name::{escaped, AnyId, Loc};
 use std::cmp::Ordering;
 use std::collections::{btree_map, BTreeMap};
 use std::fmt;
 use std::hash::{Hash, Hasher};
 
-/// The value of an annotation: a text, and where it stands, which no comparison looks at.
+/// The value of an annotation: a text and an optional location. Comparisons ignore the location.
 #[derive(Clone, Debug, Default)]
 pub struct Annotation {
     /// The text.
     pub val: String,
-    /// Where it stands, if that is known.
+    /// The location, if it is known.
     pub loc: Option<Loc>,
 }
 
 impl Annotation {
-    /// The annotation with a text, or with the empty one.
+    /// Creates an annotation with this text. Without a text, its text is empty.
     pub fn with_optional_value(val: Option<String>, loc: Option<Loc>) -> Annotation {
         let val = val.unwrap_or_default();
         Annotation { val, loc }
@@ -60,7 +60,7 @@ impl fmt::Display for Annotation {
     }
 }
 
-/// The annotations of a policy or a template, in the order of their keys.
+/// The annotations of a policy or a template, in ascending order of their keys.
 ///
 /// ```
 /// use cedar_store_proved::ast::{Annotation, Annotations, AnyId};
@@ -75,34 +75,35 @@ pub struct Annotations {
     pairs: BTreeMap<AnyId, Annotation>,
 }
 
-/// Annotations with their keys, lent.
+/// An iterator over references to keys and annotations.
 pub type Iter<'a> = btree_map::Iter<'a, AnyId, Annotation>;
 
-/// Annotations with their keys, handed over.
+/// An iterator over keys and annotations, by value.
 pub type IntoIter = btree_map::IntoIter<AnyId, Annotation>;
 
 impl Annotations {
-    /// No annotation.
+    /// Creates an empty collection of annotations.
     pub fn new() -> Annotations {
         Annotations::default()
     }
 
-    /// Those of some pairs, of which the last with a key counts.
+    /// Collects pairs of keys and annotations. If several pairs have the same key, the last one is used. This function
+    /// never fails.
     pub fn try_from_iter(pairs: impl IntoIterator<Item = (AnyId, Annotation)>) -> Annotations {
         pairs.into_iter().collect()
     }
 
-    /// The annotation at a key.
+    /// Returns the annotation with this key, if there is one.
     pub fn get(&self, key: &AnyId) -> Option<&Annotation> {
         self.pairs.get(key)
     }
 
-    /// All of them, with their keys, in the order of these.
+    /// Iterates over the annotations with their keys, in ascending order of the keys.
     pub fn iter(&self) -> Iter<'_> {
         self.pairs.iter()
     }
 
-    /// Whether there is none.
+    /// Returns whether there are no annotations.
     pub fn is_empty(&self) -> bool {
         self.pairs.is_empty()
     }

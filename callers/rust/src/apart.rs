@@ -1,4 +1,4 @@
-//! What shares nothing with that of which it was made, so that it may go to another thread.
+//! Deep copies of stores and policy sets, which share nothing with their originals and can be sent to other threads.
 use crate::errors::PolicySetError;
 use crate::ffi::{Apart, Sets, Stores};
 use crate::policies_read::Renaming;
@@ -7,8 +7,9 @@ use crate::policy_set::PolicySet;
 use crate::refusal::Refusal;
 use crate::stored::Entities;
 
-/// A store that shares nothing with another, as [`Entities::copy_apart`] and [`Entities::slice_apart`] make it. It may go
-/// to another thread, and there it becomes the store of that thread. Until then nothing is asked of it.
+/// A deep copy of a store, which shares nothing with any other store. [`Entities::copy_apart`] and
+/// [`Entities::slice_apart`] create it. It can be sent to another thread, which unwraps it with
+/// [`ApartEntities::into_inner`]. Until then it cannot be queried.
 ///
 /// ```
 /// use cedar_store_proved::ast::{Entity, EntityUID};
@@ -22,7 +23,7 @@ use crate::stored::Entities;
 /// assert!(other.join().unwrap());
 /// ```
 ///
-/// It is of one thread at a time: not `Sync`.
+/// Only one thread can use it at a time: it is not `Sync`.
 ///
 /// ```compile_fail
 /// fn shares<T: Sync>(_: T) {}
@@ -37,14 +38,14 @@ impl ApartEntities {
         ApartEntities { held }
     }
 
-    /// The store, now of this thread.
+    /// Returns the store, which from now on belongs to the current thread.
     pub fn into_inner(self) -> Entities {
         Entities::of_held(self.held.into_held())
     }
 }
 
-/// A policy set that shares nothing with another, as [`PolicySet::copy_apart`] makes it. It may go to another thread, and
-/// there it becomes the set of that thread.
+/// A deep copy of a policy set, which shares nothing with any other set. [`PolicySet::copy_apart`] creates it. It can
+/// be sent to another thread, which unwraps it with [`ApartPolicySet::into_inner`].
 ///
 /// ```
 /// use cedar_store_proved::ast::{Effect, PolicySet};
@@ -55,7 +56,7 @@ impl ApartEntities {
 /// assert_eq!(other.join().unwrap(), set.to_string());
 /// ```
 ///
-/// It is of one thread at a time: not `Sync`.
+/// Only one thread can use it at a time: it is not `Sync`.
 ///
 /// ```compile_fail
 /// fn shares<T: Sync>(_: T) {}
@@ -70,8 +71,14 @@ impl ApartPolicySet {
         ApartPolicySet { held }
     }
 
-    /// What another set binds joins this one, as by [`PolicySet::merge_policyset`], but by a copy that shares nothing with
-    /// the other. Refused as that is.
+    /// Merges a deep copy of the policies and templates of another set into this one. Otherwise works like
+    /// [`PolicySet::merge_policyset`]. Returns the renamed ids.
+    ///
+    /// # Errors
+    ///
+    /// - `Occupied`: `rename` is false, and both sets bind the id to different items. The error names the first such
+    ///   id.
+    /// - `Refused`: an allocation failed.
     ///
     /// ```
     /// use cedar_store_proved::ast::{Effect, PolicySet};
@@ -96,7 +103,7 @@ impl ApartPolicySet {
         ))
     }
 
-    /// The set, now of this thread.
+    /// Returns the set, which from now on belongs to the current thread.
     pub fn into_inner(self) -> PolicySet {
         PolicySet::of_held(self.held.into_held())
     }

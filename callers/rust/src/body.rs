@@ -1,4 +1,4 @@
-//! Bodies of policies and templates: an id, annotations, an effect, three constraints and a clause.
+//! Bodies of policies and templates: an id, annotations, an effect, three scope constraints and a clause.
 use crate::action::ActionConstraint;
 use crate::annotation::{Annotation, Annotations, Iter};
 use crate::expr::Expr;
@@ -9,8 +9,8 @@ use std::fmt;
 use std::hash::{Hash, Hasher};
 use std::sync::Arc;
 
-/// What a body holds: its id, its annotations, its effect, its three constraints, its clause if it has one, and a
-/// location if it has one. No comparison looks at a location.
+/// The parts of a body: id, annotations, effect, three scope constraints, an optional clause and an optional location.
+/// Comparisons ignore locations.
 #[derive(Clone, Debug)]
 pub struct TemplateBodyImpl {
     id: PolicyID,
@@ -23,7 +23,7 @@ pub struct TemplateBodyImpl {
     non_scope_constraints: Option<Arc<Expr>>,
 }
 
-// The constraints of the principal, the action and the resource.
+// The constraints on the principal, the action and the resource.
 type Scope<'a> = (
     &'a PrincipalConstraint,
     &'a ActionConstraint,
@@ -39,7 +39,7 @@ impl TemplateBodyImpl {
         )
     }
 
-    // By what two are compared.
+    // Returns the comparison key.
     fn key(&self) -> (&PolicyID, &Annotations, Effect, Scope<'_>, Option<&Expr>) {
         let clause = self.non_scope_constraints.as_deref();
         (
@@ -66,10 +66,10 @@ impl Hash for TemplateBodyImpl {
     }
 }
 
-/// The body of a policy or a template: a static policy's has no slots.
+/// The body of a policy or a template. The body of a static policy has no slots.
 ///
-/// Equality and hash are those of the parts and look at no location. It is written with its annotations, its effect,
-/// its constraints and its clause, as a set writes it.
+/// Equality and hash use the parts and ignore locations. `Display` writes the annotations, the effect, the constraints
+/// and the clause, as a policy set does.
 ///
 /// ```
 /// use cedar_store_proved::ast::*;
@@ -89,12 +89,12 @@ impl Hash for TemplateBodyImpl {
 /// ```
 #[derive(Clone, Debug, PartialEq, Eq, Hash)]
 pub enum TemplateBody {
-    /// The body that holds this.
+    /// A body with these parts.
     TemplateBody(TemplateBodyImpl),
 }
 
 impl TemplateBody {
-    /// The body of these parts.
+    /// Creates a body from its parts.
     pub fn new(
         id: PolicyID,
         loc: Option<Loc>,
@@ -117,7 +117,7 @@ impl TemplateBody {
         )
     }
 
-    /// The body of these parts, of which annotations and clause are shared already.
+    /// Creates a body from its parts, with annotations and a clause that are already shared.
     pub fn new_shared(
         id: PolicyID,
         loc: Option<Loc>,
@@ -145,85 +145,85 @@ impl TemplateBody {
         parts
     }
 
-    /// The id.
+    /// Returns the id.
     pub fn id(&self) -> &PolicyID {
         &self.parts().id
     }
 
-    /// The location of the whole policy, if it is known. It does not cross: what a set gives back has none.
+    /// Returns the location of the whole policy, if it is known. The C library does not store locations, so a body that
+    /// is read from a set has none.
     pub fn loc(&self) -> Option<&Loc> {
         self.parts().loc.as_ref()
     }
 
-    /// A copy under another id, its location kept.
+    /// Copies the body, with another id. Keeps the location.
     pub fn new_id(&self, id: PolicyID) -> TemplateBody {
         let parts = self.parts().clone();
         TemplateBody::TemplateBody(TemplateBodyImpl { id, ..parts })
     }
 
-    /// The effect.
+    /// Returns the effect.
     pub fn effect(&self) -> Effect {
         self.parts().effect
     }
 
-    /// The annotation at a key.
+    /// Returns the annotation with this key, if there is one.
     pub fn annotation(&self, key: &AnyId) -> Option<&Annotation> {
         self.parts().annotations.get(key)
     }
 
-    /// All annotations with their keys, in the order of these.
+    /// Iterates over the annotations with their keys, in ascending order of the keys.
     pub fn annotations(&self) -> Iter<'_> {
         self.parts().annotations.iter()
     }
 
-    /// The annotations, shared.
+    /// Returns the shared annotations.
     pub fn annotations_arc(&self) -> &Arc<Annotations> {
         &self.parts().annotations
     }
 
-    /// What the principal has to be.
+    /// Returns the constraint on the principal.
     pub fn principal_constraint(&self) -> &PrincipalConstraint {
         &self.parts().principal_constraint
     }
 
-    /// The expression of that, as [`PrincipalConstraint::as_expr`] makes it.
+    /// Returns the constraint on the principal as an expression; see [`PrincipalConstraint::as_expr`].
     pub fn principal_constraint_expr(&self) -> Expr {
         self.principal_constraint().as_expr()
     }
 
-    /// What the action has to be.
+    /// Returns the constraint on the action.
     pub fn action_constraint(&self) -> &ActionConstraint {
         &self.parts().action_constraint
     }
 
-    /// The expression of that, as [`ActionConstraint::as_expr`] makes it.
+    /// Returns the constraint on the action as an expression; see [`ActionConstraint::as_expr`].
     pub fn action_constraint_expr(&self) -> Expr {
         self.action_constraint().as_expr()
     }
 
-    /// What the resource has to be.
+    /// Returns the constraint on the resource.
     pub fn resource_constraint(&self) -> &ResourceConstraint {
         &self.parts().resource_constraint
     }
 
-    /// The expression of that, as [`ResourceConstraint::as_expr`] makes it.
+    /// Returns the constraint on the resource as an expression; see [`ResourceConstraint::as_expr`].
     pub fn resource_constraint_expr(&self) -> Expr {
         self.resource_constraint().as_expr()
     }
 
-    /// The clause, if there is one.
+    /// Returns the clause, if there is one.
     pub fn non_scope_constraints(&self) -> Option<&Expr> {
         self.non_scope_constraints_arc().map(Arc::as_ref)
     }
 
-    /// The clause, shared, if there is one.
+    /// Returns the shared clause, if there is one.
     pub fn non_scope_constraints_arc(&self) -> Option<&Arc<Expr>> {
         self.parts().non_scope_constraints.as_ref()
     }
 
-    /// The condition: that the principal's constraint holds and (the action's and (the resource's and the clause)),
-    /// where a clause that is not there counts as `true`. The three nodes that it makes for this have the body's
-    /// location.
+    /// Returns the condition: `principal constraint && (action constraint && (resource constraint && clause))`. A
+    /// missing clause counts as `true`. The three `&&` nodes have the location of the body.
     pub fn condition(&self) -> Expr {
         let both =
             |left, right| Expr::and(left, right).with_maybe_source_loc(self.parts().loc.clone());

@@ -1,5 +1,5 @@
-//! Bodies of policies as they cross: one text, and the parts of it that constraints, annotations and a clause are; and
-//! constraints as they come back.
+//! Policy bodies and constraints in the format of the C library. A body is one text, with the spans of the texts of its
+//! constraints, its annotations and its clause.
 use crate::action::ActionConstraint;
 use crate::annotation::Annotation;
 use crate::body::TemplateBody;
@@ -10,7 +10,8 @@ use crate::scope::{EntityReference, PrincipalOrResourceConstraint};
 use crate::uid::{EntityType, EntityUID};
 use std::sync::Arc;
 
-/// What is asked of the principal, the action or the resource, by a kind, with the parts that the kind has.
+/// A constraint on the principal, the action or the resource: its kind, and the spans of its uid and its type, if the
+/// kind has them.
 #[repr(C)]
 #[derive(Clone, Copy, Default)]
 pub(crate) struct Scope {
@@ -19,7 +20,7 @@ pub(crate) struct Scope {
     ty: Span,
 }
 
-/// Where the key and the value of an annotation stand.
+/// The spans of the key and the value of an annotation.
 #[repr(C)]
 #[derive(Clone, Copy)]
 pub(crate) struct Annotated {
@@ -27,7 +28,7 @@ pub(crate) struct Annotated {
     value: Span,
 }
 
-/// The effect, and what is asked of the three.
+/// The effect and the three scope constraints.
 #[repr(C)]
 pub(crate) struct Head {
     effect: u32,
@@ -36,8 +37,8 @@ pub(crate) struct Head {
     resource: Scope,
 }
 
-/// A body: its head, its annotations and the nodes of its clause, over one text; the uids are those of a list that the
-/// action has to be in.
+/// An encoded body: its head, its annotations and the nodes of its clause, over one text. The uids of `lists` are the
+/// uids of an action constraint with a list.
 pub(crate) struct BodyLists {
     pub(crate) lists: Lists,
     pub(crate) head: Head,
@@ -54,12 +55,12 @@ const IS: u32 = 5;
 const IS_IN: u32 = 6;
 const IS_IN_SLOT: u32 = 7;
 
-/// Whether what is asked by a kind has texts.
+/// Returns whether constraints of this kind contain texts.
 pub(crate) fn has_texts(kind: u32) -> bool {
     !matches!(kind, ANY | EQ_SLOT | IN_SLOT)
 }
 
-// The kind with a uid, or that with the slot, as the reference is, with its parts.
+// Encodes a reference. `kinds` has the kind for a uid and the kind for the slot.
 fn referring(lists: &mut Lists, reference: &EntityReference, kinds: (u32, u32)) -> Scope {
     let (with_uid, with_slot) = kinds;
     let (kind, uid) = match reference {
@@ -89,7 +90,7 @@ fn scope(lists: &mut Lists, asked: &PrincipalOrResourceConstraint) -> Scope {
     }
 }
 
-// What is asked of the action. The uids of a list become those of the lists.
+// Encodes the constraint on the action. The uids of a list are added to `lists`.
 fn action(lists: &mut Lists, asked: &ActionConstraint) -> Scope {
     let mut uid = Span::default();
     let kind = match asked {
@@ -112,7 +113,7 @@ fn action(lists: &mut Lists, asked: &ActionConstraint) -> Scope {
 }
 
 impl BodyLists {
-    /// A body, but for its id.
+    /// Encodes a body, without its id.
     pub(crate) fn of(body: &TemplateBody) -> BodyLists {
         let mut lists = Lists::default();
         let head = Head {
@@ -145,8 +146,8 @@ fn read_uid(text: &str) -> Arc<EntityUID> {
     Arc::new(EntityUID::written(text))
 }
 
-/// What is asked of a principal or a resource, of a kind and its texts, or nothing where they are none. The library
-/// tells no such.
+/// Decodes a constraint on the principal or the resource from its kind and its texts. Returns `None` if they do not
+/// form a constraint, which the library never returns.
 pub(crate) fn read_scope(kind: u32, texts: &[String]) -> Option<PrincipalOrResourceConstraint> {
     use PrincipalOrResourceConstraint as Asked;
     let named = |ty: &str| Arc::new(EntityType::from(Name::written(ty)));
@@ -163,7 +164,8 @@ pub(crate) fn read_scope(kind: u32, texts: &[String]) -> Option<PrincipalOrResou
     })
 }
 
-/// What is asked of the action, in the same way.
+/// Decodes a constraint on the action from its kind and its texts. Returns `None` if they do not form a constraint,
+/// which the library never returns.
 pub(crate) fn read_action(kind: u32, texts: &[String]) -> Option<ActionConstraint> {
     Some(match (kind, texts) {
         (ANY, []) => ActionConstraint::any(),

@@ -1,4 +1,4 @@
-//! Entities: what is handed to a store, and what is read of one.
+//! Entities, as they are passed to a store and read from a store.
 use crate::errors::EntitiesError;
 use crate::slots::{StaticType, StaticallyTyped};
 use crate::stored::{Entities, TCComputation};
@@ -9,11 +9,11 @@ use std::fmt;
 use std::hash::{Hash, Hasher};
 use std::iter::Chain;
 
-/// An entity: its uid, its attributes and tags, its parents, and the indirect ancestors that it has.
+/// An entity: a uid with attributes, tags, parents and indirect ancestors.
 ///
-/// `==` and the hash look at the uid alone; [`Entity::deep_eq`] looks at the rest too. It is plain data until a store
-/// is made of it: but for [`Entity::validate`] nothing here calls the library. What is said to be a parent and an
-/// indirect ancestor crosses as a parent alone.
+/// `==` and the hash use only the uid. [`Entity::deep_eq`] also compares the attributes, the tags and the ancestors, but
+/// not which ancestors are parents. An entity is plain data until it is added to a store: only [`Entity::validate`]
+/// calls the library. A uid that is both a parent and an indirect ancestor is passed to the library only as a parent.
 ///
 /// ```
 /// use cedar_store_proved::ast::{Entity, EntityUID, PartialValue, Value};
@@ -35,8 +35,8 @@ pub struct Entity {
 }
 
 impl Entity {
-    /// An entity with these attributes and tags, indirect ancestors and parents. Of several pairs with one key the last
-    /// counts. Whether parents and indirect ancestors are apart is not looked at.
+    /// Creates an entity with these attributes, tags, indirect ancestors and parents. If several pairs have the same
+    /// key, the last one is used. Does not check whether parents and indirect ancestors are disjoint.
     pub fn new_with_attr_partial_value(
         uid: EntityUID,
         attrs: impl IntoIterator<Item = (String, PartialValue)>,
@@ -53,7 +53,7 @@ impl Entity {
         }
     }
 
-    /// An entity with a uid and nothing else.
+    /// Creates an entity with this uid and no other content.
     pub fn with_uid(uid: EntityUID) -> Entity {
         Entity {
             uid,
@@ -64,111 +64,112 @@ impl Entity {
         }
     }
 
-    /// The entity with one more parent.
+    /// Returns the entity with an additional parent.
     pub fn with_parent(mut self, parent: EntityUID) -> Entity {
         self.add_parent(parent);
         self
     }
 
-    /// The entity with these parents too.
+    /// Returns the entity with additional parents.
     pub fn with_parents(mut self, parents: impl IntoIterator<Item = EntityUID>) -> Entity {
         self.extend(parents);
         self
     }
 
-    /// The entity with this attribute at a key, in the place of any that it has there.
+    /// Returns the entity with this attribute. Replaces an existing attribute with the same key.
     pub fn with_attr(mut self, key: impl Into<String>, value: impl Into<PartialValue>) -> Entity {
         self.attrs.insert(key.into(), value.into());
         self
     }
 
-    /// The entity with this tag at a key, in the place of any that it has there.
+    /// Returns the entity with this tag. Replaces an existing tag with the same key.
     pub fn with_tag(mut self, key: impl Into<String>, value: impl Into<PartialValue>) -> Entity {
         self.tags.insert(key.into(), value.into());
         self
     }
 
-    /// The uid.
+    /// Returns the uid.
     pub fn uid(&self) -> &EntityUID {
         &self.uid
     }
 
-    /// The attribute at a key.
+    /// Returns the attribute with this key, if there is one.
     pub fn get(&self, key: &str) -> Option<&PartialValue> {
         self.attrs.get(key)
     }
 
-    /// The tag at a key.
+    /// Returns the tag with this key, if there is one.
     pub fn get_tag(&self, key: &str) -> Option<&PartialValue> {
         self.tags.get(key)
     }
 
-    /// How many attributes there are.
+    /// Returns the number of attributes.
     pub fn attrs_len(&self) -> usize {
         self.attrs.len()
     }
 
-    /// How many tags there are.
+    /// Returns the number of tags.
     pub fn tags_len(&self) -> usize {
         self.tags.len()
     }
 
-    /// Whether a uid is a parent.
+    /// Returns whether a uid is a parent.
     pub fn is_child_of(&self, other: &EntityUID) -> bool {
         self.parents.contains(other)
     }
 
-    /// Whether a uid is an indirect ancestor.
+    /// Returns whether a uid is an indirect ancestor.
     pub fn is_indirect_descendant_of(&self, other: &EntityUID) -> bool {
         self.indirect_ancestors.contains(other)
     }
 
-    /// Whether a uid is a parent or an indirect ancestor.
+    /// Returns whether a uid is a parent or an indirect ancestor.
     pub fn is_descendant_of(&self, other: &EntityUID) -> bool {
         self.is_child_of(other) || self.is_indirect_descendant_of(other)
     }
 
-    /// The keys of the attributes, in byte order.
+    /// Iterates over the keys of the attributes, in byte order.
     pub fn keys(&self) -> Keys<'_> {
         Keys(self.attrs.keys())
     }
 
-    /// The keys of the tags, in byte order.
+    /// Iterates over the keys of the tags, in byte order.
     pub fn tag_keys(&self) -> Keys<'_> {
         Keys(self.tags.keys())
     }
 
-    /// The attributes with their keys, in byte order of the keys.
+    /// Iterates over the attributes with their keys, in byte order of the keys.
     pub fn attrs(&self) -> Pairs<'_> {
         Pairs(self.attrs.iter())
     }
 
-    /// The tags with their keys, in byte order of the keys.
+    /// Iterates over the tags with their keys, in byte order of the keys.
     pub fn tags(&self) -> Pairs<'_> {
         Pairs(self.tags.iter())
     }
 
-    /// The parents, each once, in the order of uids.
+    /// Iterates over the parents, each once, in ascending order of uid.
     pub fn parents(&self) -> Uids<'_> {
         self.parents.iter()
     }
 
-    /// The indirect ancestors, each once, in the order of uids.
+    /// Iterates over the indirect ancestors, each once, in ascending order of uid.
     pub fn indirect_ancestors(&self) -> Uids<'_> {
         self.indirect_ancestors.iter()
     }
 
-    /// The parents, and then the indirect ancestors, each in the order of uids.
+    /// Iterates over the parents and then over the indirect ancestors, each in ascending order of uid.
     pub fn ancestors(&self) -> Ancestors<'_> {
         self.parents.iter().chain(&self.indirect_ancestors)
     }
 
-    /// The ancestors, each once, in the order of uids.
+    /// Iterates over the ancestors, each once, in ascending order of uid.
     pub fn ancestors_in_order(&self) -> Union<'_> {
         self.parents.union(&self.indirect_ancestors)
     }
 
-    /// Whether both have the same uid, attributes, tags and ancestors, whichever of these are parents.
+    /// Returns whether both have the same uid, attributes, tags and ancestors. Does not compare which of the ancestors
+    /// are parents.
     ///
     /// ```
     /// use cedar_store_proved::ast::{Entity, EntityUID, Value};
@@ -183,7 +184,7 @@ impl Entity {
             && self.ancestors_in_order().eq(other.ancestors_in_order())
     }
 
-    /// The uid, the attributes, the indirect ancestors, the parents and the tags.
+    /// Returns the uid, the attributes, the indirect ancestors, the parents and the tags.
     #[allow(clippy::type_complexity)]
     pub fn into_inner(
         self,
@@ -199,37 +200,50 @@ impl Entity {
         (self.uid, self.attrs, indirect_ancestors, parents, self.tags)
     }
 
-    /// One more indirect ancestor, unless it is a parent.
+    /// Adds an indirect ancestor, unless the uid is a parent.
     pub fn add_indirect_ancestor(&mut self, uid: EntityUID) {
         if !self.parents.contains(&uid) {
             self.indirect_ancestors.insert(uid);
         }
     }
 
-    /// One more parent, which is no indirect ancestor then.
+    /// Adds a parent. If the uid was an indirect ancestor, it is no longer one.
     pub fn add_parent(&mut self, uid: EntityUID) {
         self.indirect_ancestors.remove(&uid);
         self.parents.insert(uid);
     }
 
-    /// A uid is no indirect ancestor then.
+    /// Removes an indirect ancestor, if it is present.
     pub fn remove_indirect_ancestor(&mut self, uid: &EntityUID) {
         self.indirect_ancestors.remove(uid);
     }
 
-    /// A uid is no parent then.
+    /// Removes a parent, if it is present.
     pub fn remove_parent(&mut self, uid: &EntityUID) {
         self.parents.remove(uid);
     }
 
-    /// There is no indirect ancestor then.
+    /// Removes all indirect ancestors.
     pub fn remove_all_indirect_ancestors(&mut self) {
         self.indirect_ancestors.clear();
     }
 
-    /// Looks for what is wrong with the entity by itself. Refused by the first of `SelfAncestor`, `DuplicateAncestor`,
-    /// `ActionParentIsNotAction` and `ReservedKey` that there is, the last two as a store of it alone tells them; and
-    /// by `Refused` for want of memory and for a value or an expression of more than 1,000 levels.
+    /// Checks whether the entity is valid by itself.
+    ///
+    /// # Errors
+    ///
+    /// The checks are made in this order, and the first fault is reported:
+    ///
+    /// - `SelfAncestor`: the entity is its own ancestor.
+    /// - `DuplicateAncestor`: an ancestor is both a parent and an indirect ancestor.
+    /// - `ActionParentIsNotAction`: the entity is an action and has an ancestor that is not an action.
+    /// - `ReservedKey`: a key of a record is reserved.
+    ///
+    /// The last two are checked by the library, in a store of only this entity. It can also return:
+    ///
+    /// - `Refused` with [`Reason::Memory`](crate::Reason::Memory): an allocation failed.
+    /// - `Refused` with [`Reason::TooDeep`](crate::Reason::TooDeep): a value or an expression has more than 1,000
+    ///   levels.
     ///
     /// ```
     /// use cedar_store_proved::ast::{Entity, EntityUID};
@@ -250,25 +264,29 @@ impl Entity {
         Ok(alone.validate()?)
     }
 
-    /// Whether [`Entity::validate`] finds nothing.
+    /// Returns whether [`Entity::validate`] succeeds.
     pub fn is_valid(&self) -> bool {
         self.validate().is_ok()
     }
 
-    /// The entity, unless [`Entity::validate`] finds something.
+    /// Returns the entity itself if it is valid.
+    ///
+    /// # Errors
+    ///
+    /// The errors of [`Entity::validate`].
     pub fn try_validate(self) -> Result<Entity, EntitiesError> {
         self.validate()?;
         Ok(self)
     }
 
-    // Whether it has more than parents.
+    // Returns whether the entity has attributes, tags or indirect ancestors.
     pub(crate) fn has_content(&self) -> bool {
         !(self.attrs.is_empty() && self.tags.is_empty() && self.indirect_ancestors.is_empty())
     }
 }
 
 impl Extend<EntityUID> for Entity {
-    /// These parents too.
+    /// Adds parents.
     fn extend<I: IntoIterator<Item = EntityUID>>(&mut self, parents: I) {
         parents
             .into_iter()
@@ -277,7 +295,7 @@ impl Extend<EntityUID> for Entity {
 }
 
 impl PartialEq for Entity {
-    /// Whether both have the same uid.
+    /// Returns whether both have the same uid.
     fn eq(&self, other: &Entity) -> bool {
         self.uid == other.uid
     }
@@ -291,7 +309,7 @@ impl Hash for Entity {
     }
 }
 
-// Writes things with marks between them.
+// Writes items with a separator between them.
 fn write_joined<T: fmt::Display>(
     things: impl Iterator<Item = T>,
     mark: &str,
@@ -307,7 +325,7 @@ fn write_joined<T: fmt::Display>(
 }
 
 impl fmt::Display for Entity {
-    /// Writes lines for the uid, the attributes and the ancestors, as a store does. Tags are not written.
+    /// Writes lines with the uid, the attributes and the ancestors, as a store does. Does not write tags.
     fn fmt(&self, f: &mut fmt::Formatter<'_>) -> fmt::Result {
         write!(f, "{}:\n  attrs:", self.uid)?;
         let pair = |(key, value): (&str, &PartialValue)| format!("{key}: {value}");
@@ -318,22 +336,22 @@ impl fmt::Display for Entity {
 }
 
 impl StaticallyTyped for Entity {
-    /// The type of the uid.
+    /// Returns the type of the uid.
     fn type_of(&self) -> StaticType {
         self.uid.type_of()
     }
 }
 
-/// Uids, in their order.
+/// An iterator over uids, in ascending order.
 pub type Uids<'a> = btree_set::Iter<'a, EntityUID>;
 
-/// Ancestors, the parents first.
+/// An iterator over ancestors, parents first.
 pub type Ancestors<'a> = Chain<Uids<'a>, Uids<'a>>;
 
-/// Ancestors, in the order of uids.
+/// An iterator over ancestors, in ascending order of uid.
 pub type Union<'a> = btree_set::Union<'a, EntityUID>;
 
-/// Keys, in byte order.
+/// An iterator over keys, in byte order.
 #[derive(Clone, Debug)]
 pub struct Keys<'a>(btree_map::Keys<'a, String, PartialValue>);
 
@@ -349,7 +367,7 @@ impl<'a> Iterator for Keys<'a> {
     }
 }
 
-/// Keys with what stands at them, in byte order of the keys.
+/// An iterator over keys with their values, in byte order of the keys.
 #[derive(Clone, Debug)]
 pub struct Pairs<'a>(btree_map::Iter<'a, String, PartialValue>);
 

@@ -1,5 +1,5 @@
-//! Why calls are refused, by the names that the crate in Rust has: a type for each kind of call. Each has one variant
-//! more, `Refused`, for what that crate does not refuse.
+//! Errors, with one type for each kind of call. The types and variants have the names of the package `cedar-store`.
+//! Each type has an additional variant `Refused` for failures that `cedar-store` does not report.
 use crate::ffi;
 use crate::policy::PolicyID;
 use crate::refusal::{Reason, Refusal};
@@ -9,20 +9,20 @@ use std::error::Error;
 use std::fmt;
 use std::fmt::{Debug, Display};
 
-/// Why a text was not read.
+/// An error in a text of a uid, a name or an identifier.
 #[derive(Clone, Debug, PartialEq, Eq)]
 pub enum ParseErrors {
-    /// The text is no uid's, though what stands before its first `::"` is a name, if anything does.
+    /// The text is not a uid. The part before its first `::"`, if there is one, is a name.
     NotNormalized,
-    /// The text is no identifier, or no name, as the call asked for; of a uid, what stands before the first `::"` is no
-    /// name.
+    /// The text is not an identifier or not a name, whichever the call expects. For a uid: the part before the first
+    /// `::"` is not a name.
     InvalidName,
-    /// Memory was refused.
+    /// An allocation failed.
     Refused(Refusal),
 }
 
 impl ParseErrors {
-    /// Why a text is no uid's.
+    /// Returns the error for a text that is not a uid.
     pub(crate) fn of_uid(text: &str) -> ParseErrors {
         let is_name = |ty: &str| !matches!(ffi::make_uid(ty, ""), Err(27));
         match text.split_once("::\"") {
@@ -32,51 +32,51 @@ impl ParseErrors {
     }
 }
 
-/// Three keys that show that ancestors are not closed: `child` has an edge to `parent` and `parent` has one to
-/// `grandparent`, but `child` has none to `grandparent`.
+/// Three keys which show that ancestors are not closed: `child` has an edge to `parent` and `parent` has an edge to
+/// `grandparent`, but `child` has no edge to `grandparent`.
 #[derive(Clone, Debug, PartialEq, Eq)]
 pub struct MissingTcEdge<K> {
-    /// The key that lacks an edge.
+    /// The key without the expected edge.
     pub child: K,
-    /// The key that `child` has an edge to.
+    /// A key to which `child` has an edge.
     pub parent: K,
-    /// The key that `parent` has an edge to and `child` has not.
+    /// A key to which `parent` has an edge and `child` does not.
     pub grandparent: K,
 }
 
-/// A key that lies on a cycle.
+/// A key that is part of a cycle.
 #[derive(Clone, Debug, PartialEq, Eq)]
 pub struct HasCycle<K> {
     vertex: K,
 }
 
 impl<K> HasCycle<K> {
-    /// The fault that names this key.
+    /// Creates an error with this key.
     pub fn new(vertex: K) -> HasCycle<K> {
         HasCycle { vertex }
     }
 
-    /// The key that lies on a cycle.
+    /// Returns the key that is part of a cycle.
     pub fn vertex_with_loop(&self) -> &K {
         &self.vertex
     }
 
-    /// The key, by value.
+    /// Returns the key, by value.
     pub fn into_vertex(self) -> K {
         self.vertex
     }
 }
 
-/// Why ancestors were not closed, or are not.
+/// An error of the transitive closure of ancestors.
 #[derive(Clone, Debug, PartialEq, Eq)]
 pub enum TcError<K: Debug + Display> {
-    /// An edge that leads over another key is missing.
+    /// The ancestors are not closed: an edge is missing.
     MissingTcEdge(MissingTcEdge<K>),
-    /// There is a cycle.
+    /// The ancestors have a cycle.
     HasCycle(HasCycle<K>),
 }
 
-/// Why a call on a store is refused, or what is wrong with a store.
+/// An error of a call on a store, or a fault that a check of a store reports.
 ///
 /// ```
 /// use cedar_store_proved::ast::{Entity, EntityUID};
@@ -93,121 +93,122 @@ pub enum TcError<K: Debug + Display> {
 /// ```
 #[derive(Clone, Debug, PartialEq, Eq)]
 pub enum EntitiesError {
-    /// Two versions of an entity differ.
+    /// Two entities have the same uid, but are not deeply equal.
     Duplicate(EntityUID),
-    /// There is a cycle, or an ancestor of an ancestor is missing.
+    /// The ancestors have a cycle, or an ancestor of an ancestor is missing.
     TransitiveClosureError(TcError<EntityUID>),
-    /// An entity is among its own ancestors. Ancestors are looked at first, so a store tells it as a cycle.
+    /// An entity is its own ancestor. A check of a store reports this as a cycle instead, because it checks the closure
+    /// first.
     SelfAncestor {
-        /// Its uid.
+        /// The uid of the entity.
         uid: EntityUID,
     },
-    /// An ancestor is a parent and an indirect ancestor.
+    /// An ancestor is both a parent and an indirect ancestor.
     DuplicateAncestor {
-        /// The entity.
+        /// The uid of the entity.
         uid: EntityUID,
-        /// The ancestor.
+        /// The uid of the ancestor.
         ancestor: EntityUID,
     },
-    /// An action has an ancestor that is none.
+    /// An action has an ancestor that is not an action.
     ActionParentIsNotAction {
-        /// The action.
+        /// The uid of the action.
         uid: EntityUID,
-        /// The ancestor.
+        /// The uid of the ancestor.
         parent: EntityUID,
     },
     /// A key of a record is reserved.
     ReservedKey(String),
-    /// Memory was refused (`Reason::Memory`), or a value or an expression has more than 1,000 levels
+    /// An allocation failed (`Reason::Memory`), or a value or an expression has more than 1,000 levels
     /// (`Reason::TooDeep`).
     Refused(Refusal),
 }
 
-/// Why a policy or a template does not join a set.
+/// An error of a call that adds policies or templates to a set.
 #[derive(Clone, Debug, PartialEq, Eq)]
 pub enum PolicySetError {
-    /// The id is bound already.
+    /// The id is already bound.
     Occupied {
         /// The id.
         id: PolicyID,
     },
-    /// Memory was refused (`Reason::Memory`), a clause has more than 1,000 levels (`Reason::TooDeep`), or a slot stands
-    /// in what came as a static policy (`Reason::NotStatic`).
+    /// An allocation failed (`Reason::Memory`), a clause has more than 1,000 levels (`Reason::TooDeep`), or a static
+    /// policy contains a slot (`Reason::NotStatic`).
     Refused(Refusal),
 }
 
-/// Why a template is not linked.
+/// An error of a call that links a template.
 #[derive(Clone, Debug, PartialEq, Eq)]
 pub enum LinkingError {
     /// The bound ids are not the ids of the template's slots.
     ArityError {
         /// The slots of the template that are not bound.
         unbound_values: Vec<SlotId>,
-        /// The bound ids that are no slots of the template, in their order.
+        /// The bound ids that are not slots of the template, in ascending order.
         extra_values: Vec<SlotId>,
     },
-    /// The action's slot is bound to a uid that is no action.
+    /// The action's slot is bound to a uid that is not an action.
     NotAnAction {
         /// The uid.
         uid: EntityUID,
     },
-    /// There is no template of this id.
+    /// No template has this id.
     NoSuchTemplate {
-        /// The id that was looked for.
+        /// The requested id.
         id: PolicyID,
     },
-    /// The id that the link was to have is bound already.
+    /// The id of the new link is already bound.
     PolicyIdConflict {
         /// The id.
         id: PolicyID,
     },
-    /// Memory was refused.
+    /// An allocation failed.
     Refused(Refusal),
 }
 
-/// Why a link is not taken out.
+/// An error of a call that removes a link.
 #[derive(Clone, Debug, PartialEq, Eq)]
 pub enum PolicySetUnlinkError {
-    /// Nothing is bound to this id.
+    /// The id is not bound.
     UnlinkingError(PolicyID),
-    /// This id is a static policy's or a template's.
+    /// The id belongs to a static policy or a template.
     NotLinkError(PolicyID),
-    /// Memory was refused.
+    /// An allocation failed.
     Refused(Refusal),
 }
 
-/// Why a static policy is not taken out.
+/// An error of a call that removes a static policy.
 #[derive(Clone, Debug, PartialEq, Eq)]
 pub enum PolicySetPolicyRemovalError {
     /// No policy has this id.
     RemovePolicyNoLinkError(PolicyID),
-    /// This id is a link's.
+    /// The id belongs to a link.
     RemovePolicyNoTemplateError(PolicyID),
-    /// Memory was refused.
+    /// An allocation failed.
     Refused(Refusal),
 }
 
-/// Why a template is not taken out.
+/// An error of a call that removes a template.
 #[derive(Clone, Debug, PartialEq, Eq)]
 pub enum PolicySetTemplateRemovalError {
-    /// Nothing is bound to this id.
+    /// The id is not bound.
     RemovePolicyNoTemplateError(PolicyID),
-    /// The template of this id has links.
+    /// The template with this id has links.
     RemoveTemplateWithLinksError(PolicyID),
-    /// This id is a static policy's or a link's.
+    /// The id belongs to a static policy or a link.
     NotTemplateError(PolicyID),
-    /// Memory was refused.
+    /// An allocation failed.
     Refused(Refusal),
 }
 
-/// Why the policies on a body are not listed.
+/// An error of a call that lists the policies of a template.
 #[derive(Clone, Debug, PartialEq, Eq)]
 pub enum PolicySetGetLinksError {
-    /// There is no body of this id.
+    /// No template or static policy has this id.
     MissingTemplate(PolicyID),
 }
 
-// ---- from what the library says
+// ---- conversions from `Refusal`
 
 fn three(uids: Vec<EntityUID>) -> Option<[EntityUID; 3]> {
     uids.try_into().ok()
@@ -254,7 +255,7 @@ impl From<Refusal> for PolicySetError {
     }
 }
 
-// The slots of a list, as it is written.
+// Parses a comma-separated list of slots.
 fn listed(text: &str) -> Vec<SlotId> {
     let slots = text.split(',');
     let slot = |word: &str| SlotId::ALL.into_iter().find(|id| id.to_string() == word);
@@ -320,7 +321,7 @@ impl From<Refusal> for PolicySetTemplateRemovalError {
     }
 }
 
-// ---- and back, where one type of refusal is wanted
+// ---- conversions into `Refusal`
 
 impl From<ParseErrors> for Refusal {
     fn from(error: ParseErrors) -> Refusal {
@@ -428,7 +429,7 @@ impl From<PolicySetGetLinksError> for Refusal {
     }
 }
 
-// ---- how they are written: as the crate in Rust writes them
+// ---- messages, which are the messages of `cedar-store`
 
 impl fmt::Display for ParseErrors {
     fn fmt(&self, f: &mut fmt::Formatter<'_>) -> fmt::Result {

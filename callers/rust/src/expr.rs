@@ -1,4 +1,4 @@
-//! Expressions: their eleven kinds of node, and how each is made.
+//! Expressions: the eleven kinds of node, and their constructors.
 use crate::invalid::ExprValidationError;
 use crate::name::{Loc, Name};
 use crate::slots::{Slot, SlotId, Unknown, Var};
@@ -8,13 +8,13 @@ use std::fmt;
 use std::hash::{Hash, Hasher};
 use std::sync::Arc;
 
-/// An expression: a tree of nodes of eleven kinds.
+/// An expression: a tree of nodes of eleven kinds. Each node has an optional location.
 ///
-/// Equality and hash look at that tree alone, so never at a location. It is written with its operands bare where they
-/// are literals, variables, slots, unknowns, sets or calls, and in parentheses otherwise: `(!(2 == 1)) && true`.
+/// Equality and hash use only the tree and ignore locations. `Display` writes an operand without parentheses if it is a
+/// literal, variable, slot, unknown, set or call. It writes every other operand in parentheses: `(!(2 == 1)) && true`.
 ///
-/// It may be of any depth, and nothing here recurses: comparing, hashing, writing and letting go of it walk over lists
-/// of what is left to do. A store takes 1,000 levels (`Reason::TooDeep`). A copy shares what it holds.
+/// An expression can have any depth: comparing, hashing, writing and dropping it do not recurse. A store accepts at
+/// most 1,000 levels and returns `Reason::TooDeep` for more. `clone` shares the parts of the expression.
 ///
 /// ```
 /// use cedar_store_proved::ast::{EntityType, EntityUID, Expr, Var};
@@ -30,12 +30,12 @@ use std::sync::Arc;
 #[derive(Clone)]
 pub struct Expr {
     pub(crate) head: Head,
-    // What stands below the node, if anything can.
+    // The operands, if the kind has any.
     below: Option<Arc<Vec<Expr>>>,
     loc: Option<Loc>,
 }
 
-// What a node says itself.
+// The kind of a node, with its own data.
 #[derive(Clone, PartialEq, Eq, Hash)]
 pub(crate) enum Head {
     Val(Literal),
@@ -51,7 +51,7 @@ pub(crate) enum Head {
     Is(EntityType),
 }
 
-/// The node of an expression, with what it holds and what stands below it lent.
+/// The node of an expression, with references to its data and its operands.
 #[derive(Debug)]
 pub enum ExprNode<'a> {
     /// A literal.
@@ -60,26 +60,26 @@ pub enum ExprNode<'a> {
     Var(Var),
     /// A slot.
     Slot(SlotId),
-    /// A value that is not known yet.
+    /// An unknown value.
     Unknown(&'a Unknown),
-    /// A set of expressions, in the order given.
+    /// A set of expressions, in the order in which they were passed.
     Set(&'a [Expr]),
-    /// The call of an extension function on some arguments.
+    /// A call of an extension function with its arguments.
     Call(&'a Name, &'a [Expr]),
-    /// That an expression does not hold.
+    /// The negation of an expression.
     Not(&'a Expr),
-    /// That both expressions hold.
+    /// The conjunction of two expressions.
     And(&'a Expr, &'a Expr),
-    /// That two expressions are equal.
+    /// The equality of two expressions.
     Eq(&'a Expr, &'a Expr),
-    /// That the first expression is in the second.
+    /// A test whether the first expression is `in` the second.
     In(&'a Expr, &'a Expr),
-    /// That an expression is of an entity type.
+    /// A test whether an expression has an entity type.
     Is(&'a Expr, &'a EntityType),
 }
 
 impl Expr {
-    // A node with nothing below it.
+    // Creates a node without operands.
     fn leaf(head: Head) -> Expr {
         Expr {
             head,
@@ -88,7 +88,7 @@ impl Expr {
         }
     }
 
-    /// A node over some others, as many as its kind has.
+    /// Creates a node with operands. The caller must pass as many as the kind has.
     pub(crate) fn over(head: Head, below: Vec<Expr>) -> Expr {
         Expr {
             head,
@@ -97,85 +97,89 @@ impl Expr {
         }
     }
 
-    /// What stands below the node.
+    /// Returns the operands.
     pub(crate) fn below(&self) -> &[Expr] {
         self.below.as_deref().map_or(&[], Vec::as_slice)
     }
 
-    /// The expression of a literal. A new node has no location.
+    /// Creates the expression of a literal. A new node has no location.
     pub fn val(literal: impl Into<Literal>) -> Expr {
         Expr::leaf(Head::Val(literal.into()))
     }
 
-    /// The expression of a uid, which it shares.
+    /// Creates the expression of a shared uid.
     pub(crate) fn shared_uid(euid: &Arc<EntityUID>) -> Expr {
         Expr::val(Literal::EntityUID(euid.clone()))
     }
 
-    /// The expression of a variable.
+    /// Creates the expression of a variable.
     pub fn var(var: Var) -> Expr {
         Expr::leaf(Head::Var(var))
     }
 
-    /// The expression of a slot.
+    /// Creates the expression of a slot.
     pub fn slot(id: SlotId) -> Expr {
         Expr::leaf(Head::Slot(id))
     }
 
-    /// The expression of an unknown.
+    /// Creates the expression of an unknown.
     pub fn unknown(unknown: Unknown) -> Expr {
         Expr::leaf(Head::Unknown(Arc::new(unknown)))
     }
 
-    /// The set of some expressions, in the order given.
+    /// Creates a set of expressions. Keeps their order.
     pub fn set(exprs: impl IntoIterator<Item = Expr>) -> Expr {
         Expr::over(Head::Set, exprs.into_iter().collect())
     }
 
-    /// The call of an extension function on some arguments.
+    /// Creates a call of an extension function with these arguments.
     pub fn call(name: Name, args: Vec<Expr>) -> Expr {
         Expr::over(Head::Call(name), args)
     }
 
-    /// That an expression does not hold.
-    // The name is that of the crate in Rust.
+    /// Creates the negation of an expression.
+    // The function has the same name in `cedar-store`.
     #[allow(clippy::should_implement_trait)]
     pub fn not(operand: Expr) -> Expr {
         Expr::over(Head::Not, vec![operand])
     }
 
-    /// That both expressions hold.
+    /// Creates the conjunction of two expressions.
     pub fn and(left: Expr, right: Expr) -> Expr {
         Expr::over(Head::And, vec![left, right])
     }
 
-    /// That two expressions are equal.
+    /// Creates the equality of two expressions.
     pub fn is_eq(left: Expr, right: Expr) -> Expr {
         Expr::over(Head::Eq, vec![left, right])
     }
 
-    /// That the first expression is in the second.
+    /// Creates a test whether the first expression is `in` the second.
     pub fn is_in(left: Expr, right: Expr) -> Expr {
         Expr::over(Head::In, vec![left, right])
     }
 
-    /// That an expression is of an entity type.
+    /// Creates a test whether an expression has this entity type.
     pub fn is_entity_type(operand: Expr, ty: EntityType) -> Expr {
         Expr::over(Head::Is(ty), vec![operand])
     }
 
-    /// The expression with its own node at this location.
+    /// Returns the expression with this location for its root node.
     pub fn with_maybe_source_loc(mut self, loc: Option<Loc>) -> Expr {
         self.loc = loc;
         self
     }
 
-    /// The location of its own node, if that is known.
+    /// Returns the location of the root node, if it is known.
     pub fn source_loc(&self) -> Option<&Loc> {
         self.loc.as_ref()
     }
 
-    /// What the node of the expression is. It costs the same for every expression.
+    /// Returns the root node of the expression.
+    ///
+    /// # Complexity
+    ///
+    /// O(1).
     ///
     /// ```
     /// use cedar_store_proved::ast::{Expr, ExprNode, SlotId};
@@ -199,8 +203,8 @@ impl Expr {
         }
     }
 
-    /// All expressions in it, itself first, each before what stands below it, and that from the right: what a later
-    /// operand holds comes before what an earlier one holds.
+    /// Returns all subexpressions in preorder, the expression itself first. The operands of a node are visited from
+    /// right to left.
     pub fn subexpressions(&self) -> Vec<&Expr> {
         let (mut pending, mut met) = (vec![self], Vec::new());
         while let Some(expr) = pending.pop() {
@@ -210,7 +214,7 @@ impl Expr {
         met
     }
 
-    /// The slots in it, in the order of [`Expr::subexpressions`], each as often as it stands there.
+    /// Returns all occurrences of slots, in the order of [`Expr::subexpressions`].
     pub fn slots(&self) -> Vec<Slot> {
         let slot = |expr: &Expr| match &expr.head {
             Head::Slot(id) => Some(Slot {
@@ -222,7 +226,7 @@ impl Expr {
         self.subexpressions().into_iter().filter_map(slot).collect()
     }
 
-    /// The unknowns in it, in the order of [`Expr::subexpressions`], each as often as it stands there.
+    /// Returns all occurrences of unknowns, in the order of [`Expr::subexpressions`].
     pub fn unknowns(&self) -> Vec<&Unknown> {
         let all = self.subexpressions().into_iter();
         all.filter_map(|expr| match &expr.head {
@@ -232,8 +236,12 @@ impl Expr {
         .collect()
     }
 
-    /// Whether each function that it calls is known: `ip`, `decimal`, `datetime` or `duration`. Refused by
-    /// `UnknownFunction`, which names the first other one in the order of [`Expr::subexpressions`].
+    /// Checks whether each called function is one of `ip`, `decimal`, `datetime` and `duration`.
+    ///
+    /// # Errors
+    ///
+    /// - `UnknownFunction`: another function is called. The error names the first such function in the order of
+    ///   [`Expr::subexpressions`].
     pub fn try_validate(&self) -> Result<(), ExprValidationError> {
         let known = ["ip", "decimal", "datetime", "duration"];
         for expr in self.subexpressions() {
@@ -247,7 +255,7 @@ impl Expr {
         Ok(())
     }
 
-    // Whether it stands without parentheses as an operand.
+    // Returns whether the expression is written without parentheses as an operand.
     fn stands_bare(&self) -> bool {
         !matches!(
             self.head,
@@ -256,7 +264,8 @@ impl Expr {
     }
 }
 
-// Puts what stands below an expression onto a list, and leaves nothing below it. What is shared stays with the others.
+// Moves the operands of an expression onto a list. Shared operands are only released, because other expressions use
+// them.
 fn take_below(expr: &mut Expr, pending: &mut Vec<Expr>) {
     if let Some(below) = expr.below.take() {
         pending.extend(Arc::into_inner(below).unwrap_or_default());
@@ -264,7 +273,7 @@ fn take_below(expr: &mut Expr, pending: &mut Vec<Expr>) {
 }
 
 impl Drop for Expr {
-    /// Lets go of all below it without recursion.
+    /// Drops the tree without recursion.
     fn drop(&mut self) {
         let mut pending = Vec::new();
         take_below(self, &mut pending);
@@ -303,14 +312,14 @@ impl Hash for Expr {
     }
 }
 
-// What is left to write.
+// A part of an expression that is still to be written.
 enum Piece<'a> {
     Mark(&'static str),
     Type(&'a EntityType),
     Expr(&'a Expr),
 }
 
-// Puts an operand onto a list, in parentheses unless it stands without.
+// Pushes an operand, in parentheses if it needs them.
 fn push_operand<'a>(expr: &'a Expr, pieces: &mut Vec<Piece<'a>>) {
     match expr.stands_bare() {
         true => pieces.push(Piece::Expr(expr)),
@@ -318,7 +327,7 @@ fn push_operand<'a>(expr: &'a Expr, pieces: &mut Vec<Piece<'a>>) {
     }
 }
 
-// Puts expressions onto a list, with marks before, between and behind them.
+// Pushes expressions, with a separator between them and the two marks around them.
 fn push_all<'a>(
     exprs: &'a [Expr],
     open: &'static str,
@@ -335,7 +344,8 @@ fn push_all<'a>(
     pieces.push(Piece::Mark(close));
 }
 
-// Writes what a node says itself, and puts what is left of it onto a list whose end comes first.
+// Writes the part of a node before its operands, or pushes its parts in reverse order, so that the first part is popped
+// first.
 fn show_node<'a>(
     expr: &'a Expr,
     pending: &mut Vec<Piece<'a>>,
@@ -388,7 +398,7 @@ impl fmt::Display for Expr {
 }
 
 impl fmt::Debug for Expr {
-    /// Writes it as `Display` does.
+    /// Writes `Expr(..)` around the output of `Display`.
     fn fmt(&self, f: &mut fmt::Formatter<'_>) -> fmt::Result {
         write!(f, "Expr({self})")
     }

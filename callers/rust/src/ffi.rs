@@ -1,15 +1,16 @@
-//! The functions of `cedar.h`, as they stand there, and handles over them whose calls are safe. What is unsafe in this
-//! crate stands here and in `ffi/apart.rs` alone, and keeps the rules of that header so:
+//! The declarations of the functions of `cedar.h`, and handles with safe calls. All unsafe code of this crate is in
+//! this file and in `ffi/apart.rs`. It keeps the rules of the header as follows:
 //!
-//! - A handle starts as zeroes, its bytes are written by the library alone, and it is neither copied nor, for the
-//!   pointer in it, sent to another thread or shared with one, but in an [`Apart`]. The library keeps no address of a
-//!   handle, so a handle may be moved.
-//! - Pointers and lengths are those of slices, whose pointers are never null and whose lengths are below 2^63. What is
-//!   written overlaps nothing that is read: the one is borrowed alone, and the other is shared.
-//! - A call runs nothing of its caller's, so no two calls on one handle are made at a time, and a shared borrow may
-//!   make one.
-//! - Two handles of one call are two: one is new, or is borrowed where the other is borrowed alone, or they are
-//!   compared first.
+//! - A handle starts as zeroes, and only the library writes its bytes. It is not copied. Because it contains a pointer,
+//!   it is neither sent to another thread nor shared with one, except in an [`Apart`]. The library does not store the
+//!   address of a handle, so a handle may be moved.
+//! - Pointers and lengths are pointers and lengths of slices. The pointer of a slice is never null and its length is
+//!   below 2^63. Memory that a call writes does not overlap memory that it reads: the first is borrowed mutably, and
+//!   the second is borrowed as shared.
+//! - A call runs no code of its caller. So a handle is never used by two calls at the same time, even if both have only
+//!   shared borrows.
+//! - Two handles of one call are different. Either one of them is new, or one is borrowed mutably, or their addresses
+//!   are compared first.
 mod apart;
 mod numbers;
 
@@ -23,14 +24,14 @@ use std::os::raw::c_void;
 
 pub(crate) use apart::Apart;
 
-/// What the library has of a store or a set. Zeroes are a closed one.
+/// The library's handle of a store or a set. All zeroes are a closed handle.
 #[repr(C)]
 struct Handle {
     at: *mut c_void,
     is_open: bool,
 }
 
-// Functions of the library that take the same, and the type of what points to one of them.
+// Declares functions of the library with the same parameters, and a pointer type for them.
 macro_rules! declared {
     ($kind:ident $args:tt -> $answer:ty: $($name:ident)+) => {
         type $kind = unsafe extern "C" fn $args -> $answer;
@@ -130,25 +131,25 @@ declared!((
 ) -> u32: cedar_uid_parts);
 declared!((status: u32, out: *mut u8, room: usize) -> usize: cedar_status_text);
 
-/// Whether a text is a uid's, as a status.
+/// Checks whether a text is a uid. Returns the status.
 pub(crate) fn check_uid(text: &str) -> u32 {
-    // SAFETY: the pointer and the length are those of a text.
+    // SAFETY: the pointer and the length come from one `str`.
     unsafe { cedar_uid_check(text.as_ptr(), text.len()) }
 }
 
-// Bytes that the library wrote, all of which stand in UTF-8.
+// Converts bytes from the library, which are always UTF-8, to a string.
 fn written(bytes: Vec<u8>) -> String {
     String::from_utf8(bytes).expect("the library writes UTF-8")
 }
 
-/// The text of the uid with a type and an id, or the status of the call.
+/// Returns the text of the uid with this type and this id, or the status of the failed call.
 pub(crate) fn make_uid(ty: &str, id: &str) -> Result<String, u32> {
     let mut out = vec![0; ty.len() + 2 * id.len() + 16];
     loop {
         let (mut told, room) = (0, out.len());
         let (ty_at, id_at) = (ty.as_ptr(), id.as_ptr());
-        // SAFETY: the pointers and the lengths are those of two texts and of room that is borrowed alone, and of a
-        // number.
+        // SAFETY: the pointers and the lengths come from two `str`s and a mutably borrowed buffer. The last pointer
+        // comes from a mutable reference.
         let status = unsafe {
             cedar_uid_make(
                 ty_at,
@@ -170,12 +171,13 @@ pub(crate) fn make_uid(ty: &str, id: &str) -> Result<String, u32> {
     }
 }
 
-/// The type and the id of a uid, or the status of the call.
+/// Returns the type and the id of a uid, or the status of the failed call.
 pub(crate) fn uid_parts(uid: &str) -> Result<(String, String), u32> {
     let mut out = vec![0; uid.len()];
     let (mut ty_len, mut told) = (0, 0);
     let room = out.len();
-    // SAFETY: the pointers and the lengths are those of a text and of room that is borrowed alone, and of two numbers.
+    // SAFETY: the pointers and the lengths come from a `str` and a mutably borrowed buffer. The last two pointers come
+    // from mutable references.
     let status = unsafe {
         cedar_uid_parts(
             uid.as_ptr(),
@@ -189,27 +191,28 @@ pub(crate) fn uid_parts(uid: &str) -> Result<(String, String), u32> {
     if status != 0 {
         return Err(status);
     }
-    // Both are shorter than the text of the uid.
+    // Together they are shorter than the text of the uid.
     out.truncate(told);
     let id = out.split_off(ty_len);
     Ok((written(out), written(id)))
 }
 
-/// The words for a status.
+/// Returns the message of a status.
 pub(crate) fn words_for(status: u32) -> String {
-    // SAFETY: the pointer and the length are those of room that is borrowed alone.
+    // SAFETY: the pointer and the length come from a mutably borrowed buffer.
     written(copied(0, |out| unsafe {
         cedar_status_text(status, out.as_mut_ptr(), out.len())
     }))
 }
 
-/// The program on an input, into some room: the length of all that it writes and the status of its run, or the status
-/// of the call.
+/// Runs the program on an input and writes its output to `out`. Returns the length of the whole output and the exit
+/// status of the program, or the status of the failed call.
 pub(crate) fn run(input: &[u8], key: Key, out: &mut [u8]) -> Result<(usize, u32), u32> {
     let (mut told, mut ended) = (0, 0);
     let (input_at, out_at) = (input.as_ptr(), out.as_mut_ptr());
     let Key { seed, key } = key;
-    // SAFETY: the pointers and the lengths are those of bytes and of room that is borrowed alone, and of two numbers.
+    // SAFETY: the pointers and the lengths come from a slice and a mutably borrowed buffer. The last two pointers come
+    // from mutable references.
     let status = unsafe {
         cedar_run(
             input_at,
@@ -246,7 +249,7 @@ pub(crate) trait Kind {
     const CALLS: Calls;
 }
 
-/// Handles of stores.
+/// The kind of store handles.
 pub(crate) struct Stores;
 
 impl Kind for Stores {
@@ -263,7 +266,7 @@ impl Kind for Stores {
     };
 }
 
-/// Handles of policy sets.
+/// The kind of set handles.
 pub(crate) struct Sets;
 
 impl Kind for Sets {
@@ -280,16 +283,17 @@ impl Kind for Sets {
     };
 }
 
-/// A handle of a kind. It is freed when it goes. Its calls answer statuses, and what they write where that is 0.
+/// An owned handle, which is freed when it is dropped. Its calls return statuses. The output of a call is valid only if
+/// its status is 0.
 pub(crate) struct Held<K: Kind> {
     handle: UnsafeCell<Handle>,
     kind: PhantomData<K>,
 }
 
-// As much is copied out by one call.
+// The initial size of the buffer for an output.
 const ROOM: usize = 32;
 
-// Makes room for what a call copies out, and has it copied: once more where the first room does not do.
+// Copies an output of the library. Calls the library a second time if the first buffer is too small.
 fn copied<T: Clone>(nothing: T, call: impl Fn(&mut [T]) -> usize) -> Vec<T> {
     let mut out = vec![nothing.clone(); ROOM];
     let told = call(&mut out);
@@ -301,7 +305,7 @@ fn copied<T: Clone>(nothing: T, call: impl Fn(&mut [T]) -> usize) -> Vec<T> {
 }
 
 impl<K: Kind> Held<K> {
-    // A closed one.
+    // Creates a closed handle.
     fn closed() -> Held<K> {
         let at = std::ptr::null_mut();
         Held {
@@ -314,7 +318,7 @@ impl<K: Kind> Held<K> {
         self.handle.get()
     }
 
-    // A new one, which a call opens.
+    // Creates a handle that a call opens.
     fn made(call: impl FnOnce(*mut Handle) -> u32) -> Result<Held<K>, u32> {
         let made = Held::closed();
         match call(made.at()) {
@@ -323,37 +327,37 @@ impl<K: Kind> Held<K> {
         }
     }
 
-    /// One without entities, or without policies.
+    /// Creates a handle of an empty store or set.
     pub(crate) fn new(key: Key) -> Result<Held<K>, u32> {
         // SAFETY: the handle is new.
         Held::made(|to| unsafe { (K::CALLS.new)(to, key.seed, key.key) })
     }
 
-    /// A copy.
+    /// Copies the store or set. Shares its content.
     pub(crate) fn copy(&self) -> Result<Held<K>, u32> {
         // SAFETY: one handle is borrowed, and the other is new.
         Held::made(|to| unsafe { (K::CALLS.copy)(self.at(), to) })
     }
 
-    /// Whether both hold the same. One is the same as itself.
+    /// Returns whether both have the same content. A handle is equal to itself.
     pub(crate) fn is_equal(&self, other: &Held<K>) -> bool {
         let mut answer = std::ptr::eq(self, other);
         if !answer {
-            // SAFETY: both handles are borrowed, and they are two.
+            // SAFETY: both handles are borrowed, and they are different.
             unsafe { (K::CALLS.equal)(self.at(), other.at(), &mut answer) };
         }
         answer
     }
 
-    /// The texts of the last answer, one behind the other.
+    /// Returns the texts of the last answer, concatenated.
     pub(crate) fn answer_text(&self) -> String {
-        // SAFETY: the handle is borrowed; the pointer and the length are those of room that is borrowed alone.
+        // SAFETY: the handle is borrowed. The pointer and the length come from a mutably borrowed buffer.
         written(copied(0, |out| unsafe {
             (K::CALLS.answer)(self.at(), 0, out.as_mut_ptr(), out.len())
         }))
     }
 
-    /// What is made of each text of the last answer.
+    /// Converts each text of the last answer.
     pub(crate) fn answer<T>(&self, made: impl Fn(&str) -> T) -> Vec<T> {
         let text = self.answer_text();
         // SAFETY: as in `answer_text`.
@@ -366,7 +370,7 @@ impl<K: Kind> Held<K> {
             .collect()
     }
 
-    /// The nodes of the last value, or of the last expression of a set.
+    /// Returns the nodes of the last value, or of the last expression of a set.
     pub(crate) fn nodes(&self) -> Vec<Node> {
         // SAFETY: as in `answer_text`.
         copied(Node::default(), |out| unsafe {
@@ -374,7 +378,7 @@ impl<K: Kind> Held<K> {
         })
     }
 
-    /// The text of the last refusal.
+    /// Returns the message of the last error.
     pub(crate) fn words(&self) -> Vec<u8> {
         // SAFETY: as in `answer_text`.
         copied(0, |out| unsafe {
@@ -382,27 +386,27 @@ impl<K: Kind> Held<K> {
         })
     }
 
-    // In the five below a function is one of the handle's kind: who names it sees to that.
+    // The caller of the next five functions must pass a library function for this kind of handles.
     fn plain(&self, call: Plain) -> u32 {
-        // SAFETY: the handle is borrowed, and is of the kind that the function takes.
+        // SAFETY: the handle is borrowed, and has the kind that the function takes.
         unsafe { call(self.at()) }
     }
 
     fn by_text(&self, call: ByText, text: &str) -> u32 {
-        // SAFETY: as in `plain`; the pointer and the length are those of a text.
+        // SAFETY: as in `plain`. The pointer and the length come from one `str`.
         unsafe { call(self.at(), text.as_ptr(), text.len()) }
     }
 
     fn number(&self, call: Numbers, text: &str) -> (u32, u32) {
         let mut number = 0;
-        // SAFETY: as in `by_text`, and the pointer to a number that is borrowed alone.
+        // SAFETY: as in `by_text`. The last pointer comes from a mutable reference.
         let status = unsafe { call(self.at(), text.as_ptr(), text.len(), &mut number) };
         (status, number)
     }
 
     fn asked(&self, call: Asks, text: &str) -> (u32, bool) {
         let mut answer = false;
-        // SAFETY: as in `by_text`, and the pointer to a truth that is borrowed alone.
+        // SAFETY: as in `by_text`. The last pointer comes from a mutable reference.
         let status = unsafe { call(self.at(), text.as_ptr(), text.len(), &mut answer) };
         (status, answer)
     }
@@ -410,7 +414,7 @@ impl<K: Kind> Held<K> {
     fn judged(&self, call: Judges, one: &str, other: &str) -> (u32, bool) {
         let mut answer = false;
         let (at, other_at) = (one.as_ptr(), other.as_ptr());
-        // SAFETY: as in `by_text`, with two texts, and the pointer to a truth that is borrowed alone.
+        // SAFETY: as in `by_text`, with two `str`s. The last pointer comes from a mutable reference.
         let status = unsafe { call(self.at(), at, one.len(), other_at, other.len(), &mut answer) };
         (status, answer)
     }
@@ -418,12 +422,12 @@ impl<K: Kind> Held<K> {
 
 impl<K: Kind> Drop for Held<K> {
     fn drop(&mut self) {
-        // SAFETY: the handle is borrowed alone, and nothing is called on it behind this.
+        // SAFETY: the handle is borrowed mutably, and is not used after this call.
         unsafe { (K::CALLS.free)(self.at()) }
     }
 }
 
-// Calls on a kind of handles that take texts alone, each by one of the handle's ways to call.
+// Defines calls on a kind of handles that take only texts. Each names the method that calls the library.
 macro_rules! calls {
     ($kind:ident: $($(#[$says:meta])* $name:ident($($text:ident),+) -> $answer:ty: $how:ident $call:ident;)+) => {
         impl Held<$kind> {
@@ -438,75 +442,75 @@ macro_rules! calls {
 }
 
 calls!(Stores:
-    /// Whether there is an entity with a uid.
+    /// Returns whether the store has an entity with this uid.
     has(uid) -> (u32, bool): asked cedar_store_has;
-    /// Whether an entity is a descendant of a uid.
+    /// Returns whether an entity is a descendant of a uid.
     is_descendant_of(child, ancestor) -> (u32, bool): judged cedar_store_is_descendant_of;
-    /// Whether a uid is a parent of an entity.
+    /// Returns whether a uid is a parent of an entity.
     is_child_of(child, parent) -> (u32, bool): judged cedar_store_is_child_of;
-    /// Whether a uid is an indirect ancestor of an entity.
+    /// Returns whether a uid is an indirect ancestor of an entity.
     is_indirect_descendant_of(child, ancestor) -> (u32, bool): judged cedar_store_is_indirect_descendant_of;
-    /// Whether an entity has an attribute at a key. Its nodes are told then.
+    /// Returns whether an entity has an attribute with this key. If so, its nodes can be read.
     get(uid, key) -> (u32, bool): judged cedar_store_get;
-    /// Whether an entity has a tag at a key. Its nodes are told then.
+    /// Returns whether an entity has a tag with this key. If so, its nodes can be read.
     get_tag(uid, key) -> (u32, bool): judged cedar_store_get_tag;
-    /// What the store has with a uid: 2 for an entity, 1 where that is not known, 0 for nothing.
+    /// Looks up a uid: 2 for an entity, 1 for an unknown entity of a partial store, 0 for no entity.
     entity(uid) -> (u32, u32): number cedar_store_entity;
-    /// The ancestors of an entity become the answer.
+    /// Stores the ancestors of an entity as the last answer.
     ancestors(uid) -> u32: by_text cedar_store_ancestors;
-    /// The parents of an entity become the answer.
+    /// Stores the parents of an entity as the last answer.
     parents(uid) -> u32: by_text cedar_store_parents;
-    /// The indirect ancestors of an entity become the answer.
+    /// Stores the indirect ancestors of an entity as the last answer.
     indirect_ancestors(uid) -> u32: by_text cedar_store_indirect_ancestors;
-    /// The keys of an entity's attributes become the answer.
+    /// Stores the keys of the attributes of an entity as the last answer.
     keys(uid) -> u32: by_text cedar_store_keys;
-    /// The keys of an entity's tags become the answer.
+    /// Stores the keys of the tags of an entity as the last answer.
     tag_keys(uid) -> u32: by_text cedar_store_tag_keys;
-    /// The text of an entity becomes the answer.
+    /// Stores the text of an entity as the last answer.
     entity_text(uid) -> u32: by_text cedar_store_entity_text;
-    /// How many attributes an entity has.
+    /// Returns the number of attributes of an entity.
     attrs_len(uid) -> (u32, usize): counted cedar_store_attrs_len;
-    /// How many tags an entity has.
+    /// Returns the number of tags of an entity.
     tags_len(uid) -> (u32, usize): counted cedar_store_tags_len;
 );
 
 calls!(Sets:
-    /// What an id is bound to: 1 for a static policy, 2 for a link, 3 for a template, 0 for nothing.
+    /// Looks up an id: 1 for a static policy, 2 for a link, 3 for a template, 0 if it is not bound.
     get(id) -> (u32, u32): number cedar_policies_get;
-    /// The effect of what an id is bound to: 0 permits.
+    /// Returns the effect of the policy or template with this id. 0 is `permit`.
     effect(id) -> (u32, u32): number cedar_policies_effect;
-    /// The slots of a body, as a sum.
+    /// Returns the slots of a body, as a bit sum.
     slots(id) -> (u32, u32): number cedar_policies_slots;
-    /// Whether there is an annotation at a key. It becomes the answer then.
+    /// Returns whether there is an annotation with this key. If so, stores it as the last answer.
     annotation(id, key) -> (u32, bool): judged cedar_policies_annotation;
-    /// The annotations become the answer, each key with its value behind it.
+    /// Stores the annotations as the last answer. Each key is followed by its value.
     annotations(id) -> u32: by_text cedar_policies_annotations;
-    /// Whether there is a clause. Its nodes and their text are told then.
+    /// Returns whether there is a clause. If so, its nodes and their text can be read.
     clause(id) -> (u32, bool): asked cedar_policies_clause;
-    /// The nodes of the condition and their text are told.
+    /// Makes the nodes of the condition and their text readable.
     condition(id) -> u32: by_text cedar_policies_condition;
-    /// What the three slots are bound to becomes the answer.
+    /// Stores the uids that are bound to the three slots as the last answer.
     env(id) -> u32: by_text cedar_policies_env;
-    /// The id of a policy's body becomes the answer.
+    /// Stores the id of the template of a policy as the last answer.
     template_id(id) -> u32: by_text cedar_policies_template_id;
-    /// The ids of the policies on a body become the answer.
+    /// Stores the ids of the policies of a template as the last answer.
     linked(id) -> u32: by_text cedar_policies_linked;
-    /// The uids that unknowns of a policy's condition name become the answer.
+    /// Stores the uids of the unknown entities in the condition of a policy as the last answer.
     unknown_entities(id) -> u32: by_text cedar_policies_unknown_entities;
-    /// The text of a policy becomes the answer.
+    /// Stores the text of a policy as the last answer.
     policy_text(id) -> u32: by_text cedar_policies_policy_text;
-    /// The text of a body becomes the answer.
+    /// Stores the text of a body as the last answer.
     template_text(id) -> u32: by_text cedar_policies_template_text;
 );
 
-/// Which change of a store is made of entities.
+/// A change of a store by a list of entities.
 #[derive(Clone, Copy)]
 pub(crate) enum Change {
-    /// They become the store.
+    /// Replaces the content of the store by the entities.
     Build,
-    /// They are added.
+    /// Adds the entities.
     Add,
-    /// They are put over the store.
+    /// Overwrites entities.
     Upsert,
 }
 
@@ -529,7 +533,7 @@ impl Change {
 }
 
 impl Held<Stores> {
-    /// A change of the store, by entities that have parents alone.
+    /// Changes the store by entities that have only parents.
     pub(crate) fn change(&mut self, change: Change, lists: &Lists, mode: u32) -> u32 {
         let Lists {
             text,
@@ -539,7 +543,7 @@ impl Held<Stores> {
         } = lists;
         let (text_at, uids_at, edges_at) = (text.as_ptr(), uids.as_ptr(), edges.as_ptr());
         let (text_len, uids_len, edges_len) = (text.len(), uids.len(), edges.len());
-        // SAFETY: the handle is borrowed alone; the pointers and the lengths are those of slices that are borrowed.
+        // SAFETY: the handle is borrowed mutably. The pointers and the lengths come from borrowed slices.
         unsafe {
             change.plain()(
                 self.at(),
@@ -555,7 +559,7 @@ impl Held<Stores> {
         }
     }
 
-    /// A change of the store, by entities with all that they have.
+    /// Changes the store by entities with all of their content.
     pub(crate) fn change_with(&mut self, change: Change, content: &Content, mode: u32) -> u32 {
         let Content {
             lists,
@@ -593,7 +597,7 @@ impl Held<Stores> {
         }
     }
 
-    /// The entities with some uids go.
+    /// Removes the entities with these uids.
     pub(crate) fn remove(&mut self, lists: &Lists, mode: u32) -> u32 {
         let Lists { text, uids, .. } = lists;
         let (text_at, uids_at) = (text.as_ptr(), uids.as_ptr());
@@ -601,18 +605,17 @@ impl Held<Stores> {
         unsafe { cedar_store_remove(self.at(), text_at, text.len(), uids_at, uids.len(), mode) }
     }
 
-    /// The slice at some uids.
+    /// Returns a slice of the store at these uids.
     pub(crate) fn slice(&self, lists: &Lists) -> Result<Held<Stores>, u32> {
         let Lists { text, uids, .. } = lists;
         let (text_at, uids_at) = (text.as_ptr(), uids.as_ptr());
-        // SAFETY: one handle is borrowed, and the other is new; the pointers and the lengths are those of slices that
-        // are borrowed.
+        // SAFETY: one handle is borrowed, and the other is new. The pointers and the lengths come from borrowed slices.
         Held::made(|to| unsafe {
             cedar_store_slice(self.at(), to, text_at, text.len(), uids_at, uids.len())
         })
     }
 
-    /// How many entities there are.
+    /// Returns the number of entities.
     pub(crate) fn len(&self) -> usize {
         // SAFETY: the handle is borrowed.
         unsafe { cedar_store_len(self.at()) }
@@ -620,63 +623,63 @@ impl Held<Stores> {
 
     fn counted(&self, call: Counts, uid: &str) -> (u32, usize) {
         let mut count = 0;
-        // SAFETY: the handle is borrowed; the pointer and the length are those of a text, and a number is borrowed
-        // alone.
+        // SAFETY: the handle is borrowed. The pointer and the length come from one `str`. The last pointer comes from a
+        // mutable reference.
         let status = unsafe { call(self.at(), uid.as_ptr(), uid.len(), &mut count) };
         (status, count)
     }
 
-    /// Whether this store and another one have equal entities with a uid. A store has the same as itself, if it has
-    /// one.
+    /// Returns whether the entities with a uid in this store and in another store have the same attributes, tags and
+    /// ancestors. If both are the same store, returns true with the status of a lookup of the uid.
     pub(crate) fn has_equal(&self, uid: &str, other: &Held<Stores>) -> (u32, bool) {
         if std::ptr::eq(self, other) {
             return (self.attrs_len(uid).0, true);
         }
         let mut answer = false;
         let (at, other_at) = (uid.as_ptr(), other.at());
-        // SAFETY: both handles are borrowed, and they are two; the rest is as in `asked`.
+        // SAFETY: both handles are borrowed, and they are different. Otherwise as in `asked`.
         let status =
             unsafe { cedar_store_entity_equal(self.at(), at, uid.len(), other_at, &mut answer) };
         (status, answer)
     }
 
-    /// The uids of all entities become the answer.
+    /// Stores the uids of all entities as the last answer.
     pub(crate) fn uids(&self) -> u32 {
         self.plain(cedar_store_uids)
     }
 
-    /// The text of the store becomes the answer.
+    /// Stores the text of the store as the last answer.
     pub(crate) fn text(&self) -> u32 {
         self.plain(cedar_store_text)
     }
 
-    /// The store becomes partial.
+    /// Makes the store partial.
     pub(crate) fn partial(&mut self) {
         self.plain(cedar_store_partial);
     }
 
-    /// The status of the first fault.
+    /// Validates the store. Returns the status of the first fault.
     pub(crate) fn validate(&self) -> u32 {
         self.plain(cedar_store_validate)
     }
 
-    /// Whether the store is partial.
+    /// Returns whether the store is partial.
     pub(crate) fn is_partial(&self) -> bool {
         let mut answer = false;
-        // SAFETY: the handle is borrowed, and a truth is borrowed alone.
+        // SAFETY: the handle is borrowed. The last pointer comes from a mutable reference.
         unsafe { cedar_store_is_partial(self.at(), &mut answer) };
         answer
     }
 }
 
 impl Held<Sets> {
-    /// A static policy joins.
+    /// Adds a static policy with this effect.
     pub(crate) fn add_static(&mut self, id: &str, effect: u32) -> u32 {
-        // SAFETY: the handle is borrowed alone; the pointer and the length are those of a text.
+        // SAFETY: the handle is borrowed mutably. The pointer and the length come from one `str`.
         unsafe { cedar_policies_add_static(self.at(), id.as_ptr(), id.len(), effect) }
     }
 
-    /// A template joins.
+    /// Adds a template with this effect and these slots.
     pub(crate) fn add_template(&mut self, id: &str, effect: u32, slots: u32) -> u32 {
         // SAFETY: as in `add_static`.
         unsafe { cedar_policies_add_template(self.at(), id.as_ptr(), id.len(), effect, slots) }
@@ -692,7 +695,7 @@ impl Held<Sets> {
         let Lists { text, uids, .. } = lists;
         let (id_at, text_at, uids_at) = (id.as_ptr(), text.as_ptr(), uids.as_ptr());
         let (annotations_at, nodes_at) = (annotations.as_ptr(), nodes.as_ptr());
-        // SAFETY: as in `add_static`, with slices and a head that are borrowed. Both functions are those of sets.
+        // SAFETY: as in `add_static`, with borrowed slices and a borrowed head. Both functions take handles of sets.
         unsafe {
             call(
                 self.at(),
@@ -711,22 +714,22 @@ impl Held<Sets> {
         }
     }
 
-    /// A static policy with a body joins.
+    /// Adds a static policy with this body.
     pub(crate) fn add_static_with(&mut self, id: &str, body: &BodyLists) -> u32 {
         self.add_with(cedar_policies_add_static_with, id, body)
     }
 
-    /// A template with a body joins.
+    /// Adds a template with this body.
     pub(crate) fn add_template_with(&mut self, id: &str, body: &BodyLists) -> u32 {
         self.add_with(cedar_policies_add_template_with, id, body)
     }
 
-    /// A link joins, with what three texts bind, each empty where it binds nothing.
+    /// Adds a link. `values` has a text for each of the three slots, which is empty for a slot without a binding.
     pub(crate) fn link(&mut self, template: &str, id: &str, values: &Lists) -> u32 {
         let Lists { text, uids, .. } = values;
         let (template_at, id_at) = (template.as_ptr(), id.as_ptr());
         let (text_at, uids_at) = (text.as_ptr(), uids.as_ptr());
-        // SAFETY: as in `add_static`, with slices that are borrowed.
+        // SAFETY: as in `add_static`, with borrowed slices.
         unsafe {
             cedar_policies_link(
                 self.at(),
@@ -742,50 +745,50 @@ impl Held<Sets> {
         }
     }
 
-    /// A link goes.
+    /// Removes a link.
     pub(crate) fn unlink(&mut self, id: &str) -> u32 {
         self.by_text(cedar_policies_unlink, id)
     }
 
-    /// A static policy goes.
+    /// Removes a static policy.
     pub(crate) fn remove_static(&mut self, id: &str) -> u32 {
         self.by_text(cedar_policies_remove_static, id)
     }
 
-    /// A template goes.
+    /// Removes a template.
     pub(crate) fn remove_template(&mut self, id: &str) -> u32 {
         self.by_text(cedar_policies_remove_template, id)
     }
 
-    /// What another set binds joins, and the renaming becomes the answer.
+    /// Merges another set into this one. Stores the renamed ids as the last answer.
     pub(crate) fn merge(&mut self, other: &Held<Sets>, rename: bool) -> u32 {
-        // SAFETY: one handle is borrowed alone, so the other is another one.
+        // SAFETY: one handle is borrowed mutably, so the other one is a different handle.
         unsafe { cedar_policies_merge(self.at(), other.at(), rename) }
     }
 
-    /// The ids of a kind become the answer.
+    /// Stores the ids of this kind as the last answer.
     pub(crate) fn ids(&self, kind: u32) -> u32 {
         // SAFETY: the handle is borrowed.
         unsafe { cedar_policies_ids(self.at(), kind) }
     }
 
-    /// The kind of what the principal, for 0, the action, for 1, or the resource, for 2, has to be. Its texts become
-    /// the answer.
+    /// Returns the kind of the scope constraint on the principal (0), the action (1) or the resource (2). Stores its
+    /// texts as the last answer.
     pub(crate) fn scope(&self, id: &str, which: u32) -> (u32, u32) {
         let mut kind = 0;
-        // SAFETY: the handle is borrowed; the pointer and the length are those of a text, and a number is borrowed
-        // alone.
+        // SAFETY: the handle is borrowed. The pointer and the length come from one `str`. The last pointer comes from a
+        // mutable reference.
         let status =
             unsafe { cedar_policies_scope(self.at(), id.as_ptr(), id.len(), which, &mut kind) };
         (status, kind)
     }
 
-    /// The text of the set becomes the answer.
+    /// Stores the text of the set as the last answer.
     pub(crate) fn text(&self) -> u32 {
         self.plain(cedar_policies_text)
     }
 
-    /// The status of the first fault.
+    /// Validates the set. Returns the status of the first fault.
     pub(crate) fn validate(&self) -> u32 {
         self.plain(cedar_policies_validate)
     }

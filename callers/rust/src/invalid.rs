@@ -1,4 +1,4 @@
-//! Why a body is no static policy, and why a constraint, an expression, a template or a set is not valid.
+//! Errors of validation: of static policies, action constraints, expressions, templates and sets.
 use crate::name::Name;
 use crate::policy::PolicyID;
 use crate::slots::Slot;
@@ -7,68 +7,68 @@ use std::error::Error;
 use std::fmt;
 use std::sync::Arc;
 
-/// A list with at least one element: a first one, and those that follow it in order.
+/// A list with at least one element: the first one, and the others in order.
 #[derive(Clone, Debug, PartialEq, Eq)]
 pub struct NonEmpty<T> {
     /// The first element.
     pub head: T,
-    /// The elements after it.
+    /// The other elements.
     pub tail: Vec<T>,
 }
 
-/// Why a body is no static policy. Two refusals are equal where they name the same slot, wherever it stands.
+/// An error of a body that is used as a static policy. Equality ignores the location of the slot.
 #[derive(Clone, Debug, PartialEq, Eq)]
 pub enum UnexpectedSlotError {
-    /// It has this slot: the first one of its condition.
+    /// The body contains a slot: the first slot of its condition.
     FoundSlot(Slot),
 }
 
-/// Why the uids of an action's constraint are refused.
+/// An error of the uids of an action constraint.
 #[derive(Clone, Debug, PartialEq, Eq)]
 pub enum ActionTypesError {
-    /// These uids, in the order of the list, are not actions.
+    /// These uids are not actions. They are in the order of the list.
     NotActions(NonEmpty<Arc<EntityUID>>),
 }
 
-/// Why an expression is not valid.
+/// An error of an expression.
 #[derive(Clone, Debug, PartialEq, Eq)]
 pub enum ExprValidationError {
-    /// It calls a function that is none of `ip`, `decimal`, `datetime` and `duration`.
+    /// It calls a function other than `ip`, `decimal`, `datetime` and `duration`.
     UnknownFunction {
         /// The name of the function.
         name: Name,
     },
 }
 
-/// Why a template is not valid.
+/// An error of a template.
 #[derive(Clone, Debug, PartialEq, Eq)]
 pub enum TemplateValidationError {
-    /// This slot stands in the clause: it is the first one there.
+    /// The clause contains a slot: this one is the first.
     SlotsInConditionClause(Slot),
-    /// These uids of the action's constraint, in the order of its list, are not actions.
+    /// These uids of the action constraint are not actions. They are in the order of the list.
     InvalidActionType(NonEmpty<Arc<EntityUID>>),
-    /// The slots that a template keeps are not those of its condition. It is never answered, since no such template
-    /// can be made.
+    /// The stored slots of the template differ from the slots of its condition. No call returns this error, because
+    /// such a template cannot be created.
     SlotCacheMismatch,
-    /// The clause is not valid: it calls a function that is not known.
+    /// The clause is not valid: it calls an unknown function.
     InvalidExpression(ExprValidationError),
 }
 
-/// Why a set is not valid.
+/// An error of a policy set.
 #[derive(Clone, Debug, PartialEq, Eq)]
 pub enum PolicySetValidationError {
-    /// A body is not valid: the first one in the order of bodies.
+    /// A body is not valid. This is the first invalid one, in the order of bodies.
     InvalidTemplate {
-        /// Its id.
+        /// The id of the body.
         id: PolicyID,
-        /// Its first fault.
+        /// The first fault of the body.
         error: TemplateValidationError,
     },
-    /// A link is one of a template without slots: the first one in the order of policies.
+    /// A link belongs to a template without slots. This is the first such link, in the order of policies.
     LinkToSlotlessTemplate {
         /// The id of the link.
         link_id: PolicyID,
-        /// The id of its template.
+        /// The id of the template.
         template_id: PolicyID,
     },
 }
@@ -86,7 +86,7 @@ impl From<ExprValidationError> for TemplateValidationError {
     }
 }
 
-// ---- how they are written: as the crate in Rust writes them
+// ---- messages, which are the messages of `cedar-store`
 
 impl fmt::Display for UnexpectedSlotError {
     fn fmt(&self, f: &mut fmt::Formatter<'_>) -> fmt::Result {

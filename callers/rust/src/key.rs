@@ -1,10 +1,10 @@
-//! The key by which the maps of a store or a set hash.
+//! The key of the hash maps in a store or a set.
 use std::collections::hash_map::RandomState;
 use std::hash::BuildHasher;
 
-/// The key by which the maps of a store or a set hash: two numbers that whoever picks ids does not know. No answer
-/// depends on it but which of several cycles or of several missing ancestors a refusal names; it keeps strangers from
-/// picking ids that collide.
+/// The key of the hash maps in a store or a set. A key that is unknown to an attacker prevents an attack with colliding
+/// ids. If there are several cycles or several missing ancestors, the key determines which of them an error names. It
+/// also determines the order in which a store lists its entities. It affects no other result.
 ///
 /// ```
 /// use cedar_store_proved::{Entities, Key};
@@ -14,14 +14,14 @@ use std::hash::BuildHasher;
 /// ```
 #[derive(Clone, Copy)]
 pub struct Key {
-    /// Where each hash begins.
+    /// The initial value of each hash.
     pub seed: u64,
-    /// What it is multiplied by.
+    /// The factor by which a hash is multiplied.
     pub key: u64,
 }
 
 impl Key {
-    /// A key from the random numbers that the standard library's maps are keyed by. Takes no memory.
+    /// Returns a random key, from the source that the standard library uses for its hash maps. Does not allocate.
     pub fn drawn() -> Key {
         let state = RandomState::new();
         Key {

@@ -1,10 +1,10 @@
 //! Stores of entities and policy sets of the Cedar authorization language.
 //!
-//! The calls are those of a static library whose functions are proved, up to the boundary that `cedar.h` describes;
-//! this crate lays lists out for it, copies answers out of it, and lets go of what it holds. It is tested, not proved.
+//! The functions call a static library whose functions are proved correct, up to the boundary that `cedar.h` describes.
+//! This crate encodes the arguments, copies the results and frees the handles. The crate itself is tested, not proved.
 //!
-//! What it shares with the package `cedar-store` it has under the same names and paths, with the same arguments and
-//! answers: a program over that scope changes the crate's name alone. The crate's page lists what is not shared.
+//! All items that the package `cedar-store` also has have the same names, paths, arguments and results. A program that
+//! uses only these items can switch packages by changing the crate name. The README lists the differences.
 //!
 //! ```
 //! use cedar_store_proved::ast::{Entity, EntityUID};
@@ -92,12 +92,12 @@ pub mod ast {
     pub use crate::uid::{Eid, EntityType, EntityUID, ACTION_ENTITY_TYPE};
     pub use crate::value::{ExtensionValue, Literal, PartialValue, Value, ValueKind};
 
-    /// Annotations, and their iterators.
+    /// Annotations and their iterators.
     pub mod annotation {
         pub use crate::annotation::{Annotation, Annotations, IntoIter, Iter};
     }
 
-    /// Entities and what names them.
+    /// Entities, uids, entity types and ids of entities.
     pub mod entity {
         pub use super::{Eid, Entity, EntityType, EntityUID, ACTION_ENTITY_TYPE};
     }
@@ -115,13 +115,13 @@ pub mod entities {
     pub use crate::stored::{Entities, TCComputation};
     pub use crate::stored_entity::{Dereference, IntoIter, Iter, StoredEntity};
 
-    /// Why a call on a store is refused.
+    /// Errors of calls on stores.
     pub mod err {
         pub use crate::errors::EntitiesError;
     }
 }
 
-/// The iterators that calls answer, by name.
+/// The types of the iterators that functions return.
 pub mod iters {
     pub use crate::action::{ActionTypeNames, EntityIterator};
     pub use crate::entity::{Ancestors, Keys, Pairs, Uids, Union};
@@ -132,28 +132,31 @@ pub mod iters {
     pub use crate::template::Slots;
 }
 
-/// Where a thing was read, and why a text is refused.
+/// Source locations and parse errors.
 pub mod parser {
     pub use crate::name::Loc;
 
-    /// Why a text is refused.
+    /// Errors of texts of uids, names and identifiers.
     pub mod err {
         pub use crate::errors::ParseErrors;
     }
 }
 
-/// What is wrong with ancestors.
+/// Errors of the transitive closure.
 pub mod transitive_closure {
     pub use crate::errors::{HasCycle, MissingTcEdge, TcError};
 }
 
-// The program of the page is tried too.
+// The program in the README is a documentation test.
 #[cfg(doctest)]
 #[doc = include_str!("../README.md")]
 struct Page;
 
-/// The slice of a store at some uids: the entities with these, and those that it has among their ancestors. Ends the
-/// program where memory is refused; [`Entities::slice`] does not.
+/// Returns a slice of a store at these uids: the entities with these uids, and their ancestors that the store contains.
+///
+/// # Panics
+///
+/// Panics if an allocation fails. [`Entities::slice`] returns an error instead.
 ///
 /// ```
 /// use cedar_store_proved::ast::{Entity, EntityUID};
@@ -165,10 +168,14 @@ struct Page;
 /// assert_eq!(cedar_store_proved::slice(&store, &[a]).len(), 2);
 /// ```
 pub fn slice(store: &Entities, uids: &[EntityUID]) -> Entities {
-    store.slice(uids).expect("memory for a slice")
+    store.slice(uids).expect("cannot allocate a slice")
 }
 
-/// Whether a text is a uid's. Refused by `Memory`.
+/// Returns whether a text is a uid.
+///
+/// # Errors
+///
+/// - `Memory`: an allocation failed.
 ///
 /// ```
 /// assert!(cedar_store_proved::is_uid("A::\"a\"").unwrap());
@@ -182,8 +189,12 @@ pub fn is_uid(text: &str) -> Result<bool, Refusal> {
     }
 }
 
-/// What the program writes for all lines of an input, and the status of its run, 0 or 2, with a key that is drawn.
-/// Refused by `Memory`.
+/// Runs the program on the lines of an input, with a random key. Returns its output and its exit status, which is 0 or
+/// 2.
+///
+/// # Errors
+///
+/// - `Memory`: an allocation failed.
 ///
 /// ```
 /// let (out, status) = cedar_store_proved::run(b"ent\tA::\"a\"\nbuild\n").unwrap();
@@ -193,7 +204,12 @@ pub fn run(input: &[u8]) -> Result<(Vec<u8>, u32), Refusal> {
     run_with_key(input, Key::drawn())
 }
 
-/// The same with this key. Where the first room for what is written does not do, the program is run once more.
+/// Runs the program on the lines of an input, with this key. Otherwise works like [`run`]. Runs the program a second
+/// time if the first buffer for the output is too small.
+///
+/// # Errors
+///
+/// - `Memory`: an allocation failed.
 pub fn run_with_key(input: &[u8], key: Key) -> Result<(Vec<u8>, u32), Refusal> {
     let mut out = vec![0; input.len().max(4096)];
     loop {

@@ -1,12 +1,12 @@
-//! Lists as the library takes them: one text, the part of it that is each uid, edges to parents, and what else entities
-//! have.
+//! Lists of entities in the format of the C library: one text, the spans of the uids in it, edges to parents, and the
+//! other content of the entities.
 use crate::entity::Entity;
 use crate::nodes::{Draft, Node, Term};
 use crate::uid::EntityUID;
 use std::borrow::Borrow;
 use std::collections::HashMap;
 
-/// A part of a text.
+/// A span of a text.
 #[repr(C)]
 #[derive(Clone, Copy, Default)]
 pub(crate) struct Span {
@@ -14,7 +14,7 @@ pub(crate) struct Span {
     pub(crate) end: usize,
 }
 
-/// An edge from an entity of a list to a parent.
+/// An edge from an entity of a list to one of its parents.
 #[repr(C)]
 #[derive(Clone, Copy)]
 pub(crate) struct Edge {
@@ -22,7 +22,7 @@ pub(crate) struct Edge {
     pub(crate) to: usize,
 }
 
-/// Uids and edges. The first `count` uids are those of entities.
+/// Uids and edges. The first `count` uids are the uids of the entities.
 #[derive(Default)]
 pub(crate) struct Lists {
     pub(crate) text: String,
@@ -31,7 +31,7 @@ pub(crate) struct Lists {
     pub(crate) edges: Vec<Edge>,
 }
 
-/// Uids and edges, and beside them edges to indirect ancestors, attributes and tags.
+/// Uids and edges, with edges to indirect ancestors, attributes and tags.
 pub(crate) struct Content {
     pub(crate) lists: Lists,
     pub(crate) above: Vec<Edge>,
@@ -39,11 +39,11 @@ pub(crate) struct Content {
     pub(crate) nodes: Vec<Node>,
 }
 
-// Where each uid stands in lists.
+// The index of each uid.
 type Places<'a> = HashMap<&'a str, usize>;
 
 impl Lists {
-    /// Puts a text behind what there is, as no uid. Where it stands is answered.
+    /// Appends a text, without adding a uid. Returns its span.
     pub(crate) fn part(&mut self, text: &str) -> Span {
         let start = self.text.len();
         self.text.push_str(text);
@@ -53,14 +53,14 @@ impl Lists {
         }
     }
 
-    /// Puts a uid behind the others. Its place among them is answered.
+    /// Appends a uid. Returns its index.
     pub(crate) fn put(&mut self, uid: &str) -> usize {
         let at = self.part(uid);
         self.uids.push(at);
         self.uids.len() - 1
     }
 
-    /// Texts, one behind the other.
+    /// Encodes texts, in order.
     pub(crate) fn of_texts<U: AsRef<str>>(texts: impl IntoIterator<Item = U>) -> Lists {
         let mut lists = Lists::default();
         for text in texts {
@@ -69,7 +69,7 @@ impl Lists {
         lists
     }
 
-    // The uids of entities, and where each stands first.
+    // Encodes the uids of entities. Also returns the first index of each.
     fn of_uids<'a>(entities: &[&'a Entity]) -> (Lists, Places<'a>) {
         let uids = || entities.iter().map(|entity| entity.uid().as_str());
         let mut lists = Lists::of_texts(uids());
@@ -81,14 +81,14 @@ impl Lists {
         (lists, places)
     }
 
-    // The place of a uid. One that comes often is written once.
+    // Returns the index of a uid. Appends the uid if it is new.
     fn place<'a>(&mut self, places: &mut Places<'a>, uid: &'a EntityUID) -> usize {
         *places
             .entry(uid.as_str())
             .or_insert_with(|| self.put(uid.as_str()))
     }
 
-    /// Entities, and behind them those of their parents that are none of them.
+    /// Encodes entities with their parents. The parents that are not among the entities follow the entities.
     pub(crate) fn of_entities(entities: &[impl Borrow<Entity>]) -> Lists {
         let entities: Vec<&Entity> = entities.iter().map(Borrow::borrow).collect();
         let (mut lists, mut places) = Lists::of_uids(&entities);
@@ -103,7 +103,7 @@ impl Lists {
 }
 
 impl Content {
-    /// Entities with all that they have, and behind them those of their ancestors that are none of them.
+    /// Encodes entities with all of their content. The ancestors that are not among the entities follow the entities.
     pub(crate) fn of_entities(entities: &[impl Borrow<Entity>]) -> Content {
         let entities: Vec<&Entity> = entities.iter().map(Borrow::borrow).collect();
         let (mut lists, mut places) = Lists::of_uids(&entities);

@@ -1,4 +1,4 @@
-//! Names, identifiers, and where a thing stands in a text.
+//! Names, identifiers, and source locations.
 use crate::errors::ParseErrors;
 use crate::ffi;
 use crate::refusal::Refusal;
@@ -6,46 +6,50 @@ use std::cmp::Ordering;
 use std::fmt;
 use std::sync::Arc;
 
-/// Where a thing stands in a text. No comparison looks at it, and it does not cross: what a store gives back has none.
+/// A location in a source text. No comparison uses it. The C library does not store locations, so an item that is read
+/// from a store has none.
 #[derive(Clone, Debug, PartialEq, Eq)]
 pub struct Loc {
-    /// Where it starts.
+    /// The start of the range.
     pub start: usize,
-    /// Where it ends.
+    /// The end of the range.
     pub end: usize,
-    /// The text.
+    /// The source text.
     pub src: Arc<str>,
 }
 
 impl Loc {
-    /// The place from `start` up to, and without, `end` in a text.
+    /// Creates the location of the range from `start` to `end`, without `end`, in a source text.
     pub fn new(start: usize, end: usize, src: Arc<str>) -> Loc {
         Loc { start, end, src }
     }
 }
 
-/// A text as the library escapes it: that between the quotes of a uid, and of a string that is written.
+/// Returns a text as the library escapes it: as it is written between the quotes of a uid or of a string.
 ///
-/// One call of the library where there is something to escape. Ends the program where memory is refused, as std's own
-/// texts do.
+/// Calls the library once if there is anything to escape. Panics if an allocation fails.
 pub(crate) fn escaped(text: &str) -> String {
     let is_plain = |b: &u8| (0x20..0x7f).contains(b) && !matches!(b, b'\'' | b'"' | b'\\');
     if text.as_bytes().iter().all(is_plain) {
         return text.to_owned();
     }
-    let uid = ffi::make_uid("A", text).expect("memory for a text");
+    let uid = ffi::make_uid("A", text).expect("cannot allocate a text");
     uid[4..uid.len() - 1].to_owned()
 }
 
-/// An identifier that is no reserved word, as each part of a name is.
+/// An identifier that is not a reserved word. Each part of a name is one.
 #[derive(Clone, Debug, PartialEq, Eq, PartialOrd, Ord, Hash)]
 pub struct Id {
     text: Arc<str>,
 }
 
 impl Id {
-    /// The identifier that a text is: one call of the library. Refused by `InvalidName`, and by `Refused` for want of
-    /// memory.
+    /// Parses an identifier. Calls the library once.
+    ///
+    /// # Errors
+    ///
+    /// - `InvalidName`: the text is not an identifier, or it is a reserved word.
+    /// - `Refused`: an allocation failed.
     ///
     /// ```
     /// use cedar_store_proved::ast::Id;
@@ -57,15 +61,18 @@ impl Id {
     }
 }
 
-/// An identifier, which may be a reserved word: the key of an annotation.
+/// An identifier, which may be a reserved word. It is the key of an annotation.
 #[derive(Clone, Debug, PartialEq, Eq, PartialOrd, Ord, Hash)]
 pub struct AnyId {
     text: Arc<str>,
 }
 
 impl AnyId {
-    /// The identifier that a text is: a letter or `_`, and letters, digits and `_`, all of ASCII. Refused by
-    /// `InvalidName`.
+    /// Parses an identifier: ASCII letters, digits and `_`. The first character is not a digit.
+    ///
+    /// # Errors
+    ///
+    /// - `InvalidName`: the text is not an identifier.
     ///
     /// ```
     /// use cedar_store_proved::ast::AnyId;
@@ -82,15 +89,15 @@ impl AnyId {
         }
     }
 
-    /// An identifier that the library wrote.
+    /// Creates an identifier from a text that the library wrote.
     pub(crate) fn written(text: &str) -> AnyId {
         AnyId { text: text.into() }
     }
 }
 
-/// A name: identifiers joined by `::`, as `User` or `A::B`. That of an entity type or of a function.
+/// A name of an entity type or a function: identifiers joined by `::`, for example `User` or `A::B`.
 ///
-/// Its order is that of the last identifiers, and then of those before it.
+/// Names are ordered by their last identifier, and then by the identifiers before it.
 #[derive(Clone, PartialEq, Eq, Hash)]
 pub struct Name {
     text: Arc<str>,
@@ -98,7 +105,12 @@ pub struct Name {
 }
 
 impl Name {
-    /// The name that a text is: one call of the library. Refused by `InvalidName`, and by `Refused` for want of memory.
+    /// Parses a name. Calls the library once.
+    ///
+    /// # Errors
+    ///
+    /// - `InvalidName`: the text is not a name.
+    /// - `Refused`: an allocation failed.
     ///
     /// ```
     /// use cedar_store_proved::ast::Name;
@@ -114,7 +126,12 @@ impl Name {
         }
     }
 
-    /// The name that a text is, of one identifier. Refused as [`Name::from_normalized_str`] is.
+    /// Parses a name that consists of one identifier.
+    ///
+    /// # Errors
+    ///
+    /// - `InvalidName`: the text is not a name, or it has several identifiers.
+    /// - `Refused`: an allocation failed.
     pub fn parse_unqualified_name(text: &str) -> Result<Name, ParseErrors> {
         match text.contains("::") {
             true => Err(ParseErrors::InvalidName),
@@ -122,7 +139,7 @@ impl Name {
         }
     }
 
-    /// A text that is known to be a name.
+    /// Creates a name from a text that is known to be one.
     pub(crate) fn written(text: &str) -> Name {
         let last = text.rsplit("::").next().unwrap_or(text);
         Name {
@@ -131,17 +148,18 @@ impl Name {
         }
     }
 
-    /// The last identifier.
+    /// Returns the last identifier.
     pub fn basename(&self) -> &Id {
         &self.basename
     }
 
-    /// Whether it is one identifier.
+    /// Returns whether the name consists of one identifier.
     pub fn is_unqualified(&self) -> bool {
         self.text.len() == self.basename.text.len()
     }
 
-    /// The name in a namespace. One that has a path stays, and so does each without a namespace.
+    /// Returns the name in a namespace. A name that already has a path is returned unchanged, and so is any name if
+    /// `namespace` is `None`.
     ///
     /// ```
     /// use cedar_store_proved::ast::Name;
@@ -160,7 +178,7 @@ impl Name {
     }
 }
 
-/// How the names that two texts are stand in the order of names.
+/// Compares the names with these texts, in the order of names.
 pub(crate) fn compare_names(one: &str, other: &str) -> Ordering {
     if one == other {
         return Ordering::Equal;
@@ -202,7 +220,7 @@ impl fmt::Display for Name {
     }
 }
 
-// What the two kinds of identifiers have of a text's traits.
+// Implements the traits of texts for both kinds of identifiers.
 macro_rules! texts {
     ($($kind:ident)*) => {$(
         impl fmt::Display for $kind {

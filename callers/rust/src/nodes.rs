@@ -1,5 +1,5 @@
-//! Values and expressions as nodes over a text, as they cross: each node behind all that stands below it. Neither
-//! writing nor reading recurses.
+//! Values and expressions in the format of the C library: nodes over a text, each after its operands. Encoding and
+//! decoding do not recurse.
 use crate::expr::{Expr, Head};
 use crate::lists::{Lists, Span};
 use crate::name::Name;
@@ -9,7 +9,7 @@ use crate::value::{ExtensionValue, Literal, PartialValue, Value, ValueKind};
 use std::collections::HashMap;
 use std::sync::Arc;
 
-/// One node: its kind, how many stand below it, the part of the text that it has, and its number.
+/// A node: its kind, the number of its operands, the span of its text, and its number.
 #[repr(C)]
 #[derive(Clone, Copy, Default)]
 pub(crate) struct Node {
@@ -19,7 +19,8 @@ pub(crate) struct Node {
     number: i64,
 }
 
-/// An attribute, part 0, or a tag, part 1, of the entity at a place: its key, and which nodes are its value.
+/// An attribute (part 0) or a tag (part 1) of the entity with the index `of`: its key, and the range of the nodes of
+/// its value.
 #[repr(C)]
 #[derive(Clone, Copy)]
 pub(crate) struct Term {
@@ -65,14 +66,14 @@ impl Node {
     }
 }
 
-/// Partial values as they are written, over a text that goes on, in which each key stands once.
+/// An encoder of partial values. It appends to a text, in which each key is written once.
 pub(crate) struct Draft<'a, 'b> {
     text: &'b mut String,
     nodes: Vec<Node>,
     keys: HashMap<&'a str, Span>,
 }
 
-// What is left to write of a value: its nodes come from the last to the first.
+// A part of a value that is still to be encoded. The nodes of a value are produced from the last to the first.
 enum Piece<'a> {
     Kind(&'a ValueKind),
     Key(&'a str),
@@ -80,7 +81,7 @@ enum Piece<'a> {
 }
 
 impl<'a, 'b> Draft<'a, 'b> {
-    /// Nothing yet, over the text of some lists.
+    /// Creates an encoder without nodes, over the text of `lists`.
     pub(crate) fn over(lists: &'b mut Lists) -> Draft<'a, 'b> {
         Draft {
             text: &mut lists.text,
@@ -89,7 +90,7 @@ impl<'a, 'b> Draft<'a, 'b> {
         }
     }
 
-    /// The nodes of all that was written.
+    /// Returns all encoded nodes.
     pub(crate) fn into_nodes(self) -> Vec<Node> {
         self.nodes
     }
@@ -103,7 +104,7 @@ impl<'a, 'b> Draft<'a, 'b> {
         }
     }
 
-    /// Where a key stands.
+    /// Returns the span of a key.
     pub(crate) fn key(&mut self, key: &'a str) -> Span {
         if let Some(at) = self.keys.get(key) {
             return *at;
@@ -121,7 +122,7 @@ impl<'a, 'b> Draft<'a, 'b> {
         }
     }
 
-    /// Writes a partial value: the places of its first node and behind its last.
+    /// Encodes a partial value. Returns the index of its first node and the index after its last node.
     pub(crate) fn term(&mut self, term: &'a PartialValue) -> (usize, usize) {
         let from = self.nodes.len();
         match term {
@@ -135,7 +136,7 @@ impl<'a, 'b> Draft<'a, 'b> {
         (from, self.nodes.len())
     }
 
-    /// Writes an expression.
+    /// Encodes an expression.
     pub(crate) fn clause(&mut self, clause: &Expr) {
         let from = self.nodes.len();
         self.expr(clause);
@@ -218,7 +219,7 @@ impl<'a, 'b> Draft<'a, 'b> {
     }
 }
 
-/// The partial value that nodes over a text are, or nothing where they are none. The library tells no such.
+/// Decodes a partial value. Returns `None` if the nodes do not form one, which the library never returns.
 pub(crate) fn read(text: &str, nodes: &[Node]) -> Option<PartialValue> {
     match nodes.split_last() {
         Some((last, below)) if last.kind == LEFT_OVER => {
@@ -228,12 +229,12 @@ pub(crate) fn read(text: &str, nodes: &[Node]) -> Option<PartialValue> {
     }
 }
 
-/// The expression that nodes over a text are, or nothing where they are none. The library tells no such.
+/// Decodes an expression. Returns `None` if the nodes do not form one, which the library never returns.
 pub(crate) fn read_clause(text: &str, nodes: &[Node]) -> Option<Expr> {
     read_all(text, nodes, read_expr)
 }
 
-// Reads node by node, each over a stack of what was read before, and takes the one that is left.
+// Decodes the nodes in order, with a stack of decoded operands, and returns the only item that is left on it.
 fn read_all<T>(
     text: &str,
     nodes: &[Node],
@@ -248,7 +249,7 @@ fn read_all<T>(
     stack.is_empty().then_some(only)
 }
 
-// Takes the last so many from a stack.
+// Pops `count` items from a stack. Returns them in the order in which they were pushed.
 fn taken<T>(stack: &mut Vec<T>, count: usize) -> Option<Vec<T>> {
     let first = stack.len().checked_sub(count)?;
     Some(stack.split_off(first))
@@ -264,7 +265,7 @@ fn read_literal(text: &str, node: &Node) -> Option<Literal> {
     }
 }
 
-// The text of a value that is one.
+// Returns the text of a string value.
 fn text_of(value: &Value) -> Option<&str> {
     match &value.value {
         ValueKind::Lit(Literal::String(text)) => Some(text),

@@ -1,24 +1,24 @@
-//! Numbers of uids, for who asks about some uids again and again.
+//! Numbers of uids, for programs that query the same uids many times.
 use crate::refusal::{Reason, Refusal};
 use crate::stored::Entities;
 use crate::uid::EntityUID;
 use std::sync::atomic::{AtomicU64, Ordering};
 
-// Which store of this program one is.
+// The identity of a store in this process.
 #[derive(Clone, Copy, Debug, PartialEq, Eq, Hash)]
 pub(crate) struct StoreId(u64);
 
 impl StoreId {
-    // That of no store before.
+    // Returns an id that no store had before.
     pub(crate) fn fresh() -> StoreId {
         static NEXT: AtomicU64 = AtomicU64::new(0);
         StoreId(NEXT.fetch_add(1, Ordering::Relaxed))
     }
 }
 
-/// The number of a uid in a store, which [`Entities::number`] gives. A call that takes it reads no text.
+/// The number of a uid in a store, from [`Entities::number`]. A call with a number reads no text.
 ///
-/// It is of that store alone, whatever becomes of it: a copy and a slice give numbers of their own.
+/// A number belongs to one store, and stays valid when the store changes. A copy or a slice has its own numbers.
 #[derive(Clone, Copy, Debug, PartialEq, Eq, Hash)]
 pub struct UidNumber {
     store: StoreId,
@@ -26,9 +26,13 @@ pub struct UidNumber {
 }
 
 impl Entities {
-    /// The number of a uid, the same each time. It says nothing about whether the store has an entity with the uid, and
-    /// stays good however the store changes. The store keeps each uid that has a number. Refused by `NotAUid` and
-    /// `Memory`.
+    /// Returns the number of a uid. The same uid always gets the same number, whether or not the store has an entity
+    /// with it. The number stays valid when the store changes. The store never frees a uid that has a number.
+    ///
+    /// # Errors
+    ///
+    /// - `NotAUid`: the text is not a uid.
+    /// - `Memory`: an allocation failed.
     ///
     /// ```
     /// use cedar_store_proved::ast::{Entity, EntityUID};
@@ -49,7 +53,7 @@ impl Entities {
         })
     }
 
-    // What the library knows a number by.
+    // Returns the library's number.
     fn own(&self, number: UidNumber) -> Result<usize, Refusal> {
         if number.store == self.id {
             return Ok(number.number);
@@ -57,20 +61,33 @@ impl Entities {
         Err(Refusal::plain(Reason::BadArgument))
     }
 
-    /// The uid of a number. Refused by `BadArgument` where the number is another store's, and by `Memory`.
+    /// Returns the uid of a number.
+    ///
+    /// # Errors
+    ///
+    /// - `BadArgument`: the number belongs to another store.
+    /// - `Memory`: an allocation failed.
     pub fn uid_of_number(&self, number: UidNumber) -> Result<EntityUID, Refusal> {
         self.judged(self.held.number_uid(self.own(number)?))?;
         Ok(EntityUID::written(&self.held.answer_text()))
     }
 
-    /// Whether there is an entity with the uid of a number. Refused by `BadArgument` where it is another store's.
+    /// Returns whether the store has an entity with the uid of this number.
+    ///
+    /// # Errors
+    ///
+    /// - `BadArgument`: the number belongs to another store.
     pub fn contains_number(&self, number: UidNumber) -> Result<bool, Refusal> {
         self.answered(self.held.has_number(self.own(number)?))
     }
 
-    /// Whether an entity is a descendant of a uid, as [`Entities::is_descendant_of`] says, by the numbers of both.
-    /// Refused by `NoEntity` where the store has no entity with the first uid, by `BadArgument` where a number is
-    /// another store's. Takes no memory.
+    /// Returns whether an entity is a descendant of a uid, as [`Entities::is_descendant_of`] does, for the numbers of
+    /// both. Does not allocate.
+    ///
+    /// # Errors
+    ///
+    /// - `BadArgument`: a number belongs to another store.
+    /// - `NoEntity`: the store has no entity with the first uid.
     pub fn is_descendant_of_numbers(
         &self,
         child: UidNumber,

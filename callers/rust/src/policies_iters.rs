@@ -1,4 +1,4 @@
-//! What a policy set lends one after another, in the order in which it joined.
+//! Iterators over the policies, bodies and links of a set, in insertion order.
 use crate::policies_read::Ids;
 use crate::policy::{Policy, PolicyID};
 use crate::policy_set::PolicySet;
@@ -6,7 +6,8 @@ use crate::template::Template;
 use std::slice;
 use std::vec;
 
-/// The policies of a set, static policies and links, in the order in which they joined. Each is read once it comes.
+/// An iterator over the static policies and links of a set, in insertion order. Each policy is read when the iterator
+/// reaches it.
 #[derive(Clone, Debug)]
 pub struct Policies<'a> {
     pub(crate) set: &'a PolicySet,
@@ -21,7 +22,7 @@ impl<'a> Iterator for Policies<'a> {
     }
 }
 
-/// The static policies of a set, in the order in which they joined.
+/// An iterator over the static policies of a set, in insertion order.
 #[derive(Clone, Debug)]
 pub struct StaticPolicies<'a>(pub(crate) Policies<'a>);
 
@@ -33,7 +34,7 @@ impl<'a> Iterator for StaticPolicies<'a> {
     }
 }
 
-/// The policies of a set that was taken apart, in the order in which they joined.
+/// An iterator over the policies of a consumed set, in insertion order.
 #[derive(Clone, Debug)]
 pub struct IntoPolicies(pub(crate) vec::IntoIter<Policy>);
 
@@ -49,8 +50,8 @@ impl Iterator for IntoPolicies {
     }
 }
 
-/// The bodies of a set, of static policies and of templates, in the order in which they joined. Each is read once it
-/// comes.
+/// An iterator over the bodies of all static policies and templates of a set, in insertion order. Each body is read
+/// when the iterator reaches it.
 #[derive(Clone, Debug)]
 pub struct AllTemplates<'a> {
     pub(crate) set: &'a PolicySet,
@@ -65,7 +66,7 @@ impl<'a> Iterator for AllTemplates<'a> {
     }
 }
 
-/// The bodies of a set that have slots, in the order in which they joined.
+/// An iterator over the templates of a set that have slots, in insertion order.
 #[derive(Clone, Debug)]
 pub struct Templates<'a>(pub(crate) AllTemplates<'a>);
 
@@ -77,7 +78,7 @@ impl<'a> Iterator for Templates<'a> {
     }
 }
 
-/// The ids of the policies on a body, in the order in which they joined.
+/// An iterator over the ids of the policies of a template, in insertion order.
 #[derive(Clone, Debug)]
 pub struct LinkedIds<'a>(pub(crate) slice::Iter<'a, PolicyID>);
 

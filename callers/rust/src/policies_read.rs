@@ -1,5 +1,5 @@
-//! What was read of a set, and is lent until the set changes: ids in their order, and policies and templates once they
-//! are asked for.
+//! A cache of what was read from a set, from which references are returned until the set changes: ids in their order,
+//! and the policies and templates that were requested.
 use crate::policy::{Policy, PolicyID};
 use crate::refusal::Refusal;
 use crate::template::Template;
@@ -9,7 +9,7 @@ use std::iter::Flatten;
 use std::slice;
 use std::sync::Arc;
 
-/// What a cell has, which is read where it has nothing yet.
+/// Returns the value of a cell. Reads it with `told` if the cell is empty.
 pub(crate) fn kept<T>(
     cell: &OnceCell<T>,
     told: impl FnOnce() -> Result<T, Refusal>,
@@ -23,22 +23,22 @@ pub(crate) fn kept<T>(
     }
 }
 
-/// Things that stand under ids, in the order in which they joined, each read once it is asked for.
+/// Items under ids, in insertion order. Each item is read when it is first requested.
 pub(crate) struct Listed<T> {
-    // Nothing where one left: there are never more of these than ids, and a few.
+    // `None` is the gap of a removed item. The number of gaps is at most the number of ids and `FEW`.
     ids: Vec<Option<PolicyID>>,
     things: Vec<OnceCell<T>>,
     places: HashMap<PolicyID, usize>,
 }
 
-/// Ids, lent.
+/// An iterator over references to ids.
 pub(crate) type Ids<'a> = Flatten<slice::Iter<'a, Option<PolicyID>>>;
 
-// As many gaps do not matter.
+// The number of gaps that are always accepted.
 const FEW: usize = 32;
 
 impl<T> Listed<T> {
-    /// Nothing read yet under some ids.
+    /// Creates a list with these ids, of which no item was read.
     pub(crate) fn of(ids: Vec<String>) -> Listed<T> {
         let mut listed = Listed {
             places: HashMap::with_capacity(ids.len()),
@@ -51,14 +51,14 @@ impl<T> Listed<T> {
         listed
     }
 
-    /// One more, the last.
+    /// Appends an item.
     pub(crate) fn push(&mut self, id: PolicyID, thing: OnceCell<T>) {
         self.places.insert(id.clone(), self.ids.len());
         self.ids.push(Some(id));
         self.things.push(thing);
     }
 
-    /// What has an id leaves, if there is such a thing.
+    /// Removes the item with this id, if there is one. Closes the gaps if there are too many of them.
     pub(crate) fn remove(&mut self, id: &PolicyID) {
         let Some(place) = self.places.remove(id) else {
             return;
@@ -76,22 +76,22 @@ impl<T> Listed<T> {
         }
     }
 
-    /// The ids.
+    /// Iterates over the ids.
     pub(crate) fn ids(&self) -> Ids<'_> {
         self.ids.iter().flatten()
     }
 
-    /// Whether there is none.
+    /// Returns whether the list is empty.
     pub(crate) fn is_empty(&self) -> bool {
         self.places.is_empty()
     }
 
-    /// Where what has an id is kept, if there is such a thing.
+    /// Returns the cell of the item with this id, if there is one.
     pub(crate) fn at(&self, id: &PolicyID) -> Option<&OnceCell<T>> {
         self.places.get(id).map(|place| &self.things[*place])
     }
 
-    // What was read of what has an id is forgotten.
+    // Clears the cell of the item with this id.
     fn forget(&mut self, id: &PolicyID) {
         if let Some(place) = self.places.get(id) {
             self.things[*place] = OnceCell::new();
@@ -99,7 +99,7 @@ impl<T> Listed<T> {
     }
 }
 
-/// What was read of a set.
+/// The cache of a set.
 pub(crate) struct Read {
     pub(crate) bodies: Listed<Arc<Template>>,
     pub(crate) policies: Listed<Policy>,
@@ -107,7 +107,7 @@ pub(crate) struct Read {
 }
 
 impl Read {
-    /// Nothing read yet under the ids of bodies and those of policies.
+    /// Creates a cache with the ids of bodies and the ids of policies, of which no item was read.
     pub(crate) fn of(bodies: Vec<String>, policies: Vec<String>) -> Read {
         Read {
             links: Listed::of(bodies.clone()),
@@ -116,19 +116,19 @@ impl Read {
         }
     }
 
-    /// A body joined.
+    /// Records a new body.
     pub(crate) fn push_body(&mut self, id: PolicyID) {
         self.links.push(id.clone(), OnceCell::new());
         self.bodies.push(id, OnceCell::new());
     }
 
-    /// A link joined.
+    /// Records a new link.
     pub(crate) fn push_link(&mut self, id: PolicyID, link: Policy) {
         self.links.forget(link.template().id());
         self.policies.push(id, OnceCell::from(link));
     }
 
-    /// A policy left, and its body if it was a static one's.
+    /// Records that a policy was removed. The body of a static policy is removed with it.
     pub(crate) fn remove_policy(&mut self, policy: &Policy) {
         self.policies.remove(policy.id());
         match policy.is_static() {
@@ -137,21 +137,21 @@ impl Read {
         }
     }
 
-    /// A body left.
+    /// Records that a body was removed.
     pub(crate) fn remove_body(&mut self, id: &PolicyID) {
         self.bodies.remove(id);
         self.links.remove(id);
     }
 }
 
-/// The ids that a merge renamed, each with its new one, in the order in which they were given.
+/// The ids that a merge renamed, each with its new id, in the insertion order of the other set.
 #[derive(Clone, Debug, Default, PartialEq, Eq)]
 pub struct Renaming {
     pairs: Vec<(PolicyID, PolicyID)>,
 }
 
 impl Renaming {
-    /// Ids, each with its new one behind it.
+    /// Creates a renaming from a list in which each old id is followed by its new id.
     pub(crate) fn of(ids: Vec<PolicyID>) -> Renaming {
         let mut ids = ids.into_iter();
         let mut pairs = Vec::new();
@@ -161,34 +161,38 @@ impl Renaming {
         Renaming { pairs }
     }
 
-    /// How many there are.
+    /// Returns the number of renamed ids.
     pub fn len(&self) -> usize {
         self.pairs.len()
     }
 
-    /// Whether there is none.
+    /// Returns whether no id was renamed.
     pub fn is_empty(&self) -> bool {
         self.pairs.is_empty()
     }
 
-    /// The new id of an id that was renamed. It looks through all of them.
+    /// Returns the new id of a renamed id.
+    ///
+    /// # Complexity
+    ///
+    /// O(n), where n is the number of renamed ids.
     pub fn get(&self, id: &PolicyID) -> Option<&PolicyID> {
         let mut pairs = self.pairs.iter();
         pairs.find(|(old, _)| old == id).map(|(_, new)| new)
     }
 
-    /// All of them: the id, and its new one.
+    /// Iterates over the pairs of an old and a new id.
     pub fn iter(&self) -> impl ExactSizeIterator<Item = (&PolicyID, &PolicyID)> {
         self.pairs.iter().map(|(old, new)| (old, new))
     }
 
-    /// The ids that were renamed.
+    /// Iterates over the old ids.
     pub fn keys(&self) -> impl ExactSizeIterator<Item = &PolicyID> {
         self.pairs.iter().map(|(old, _)| old)
     }
 }
 
-// A pair, both lent.
+// Returns references to both parts of a pair.
 fn lent(pair: &(PolicyID, PolicyID)) -> (&PolicyID, &PolicyID) {
     (&pair.0, &pair.1)
 }

@@ -1,4 +1,4 @@
-//! What a policy set tells of an id, by one call of the library each.
+//! Queries of a policy set by id. Each is one call of the library.
 use crate::action::ActionConstraint;
 use crate::annotation::{Annotation, Annotations};
 use crate::body_lists;
@@ -13,7 +13,7 @@ use crate::slots::{SlotEnv, SlotId};
 use crate::template::Template;
 use crate::uid::EntityUID;
 
-/// What an id of a set is bound to.
+/// The kind of item to which an id of a set is bound.
 #[derive(Clone, Copy, Debug, PartialEq, Eq, Hash)]
 pub enum Bound {
     /// A static policy.
@@ -25,7 +25,7 @@ pub enum Bound {
 }
 
 impl PolicySet {
-    // The texts of the answer that a call made.
+    // Returns the texts of the last answer.
     fn told(&self, status: u32) -> Result<Vec<String>, Refusal> {
         self.judged(status)?;
         Ok(self.held.answer(str::to_owned))
@@ -41,17 +41,29 @@ impl PolicySet {
         Ok(number)
     }
 
-    /// The ids of static policies and templates, in the order in which they joined. Refused by `Memory` alone.
+    /// Returns the ids of static policies and templates, in insertion order.
+    ///
+    /// # Errors
+    ///
+    /// - `Memory`: an allocation failed.
     pub fn body_ids(&self) -> Result<Vec<String>, Refusal> {
         self.told(self.held.ids(0))
     }
 
-    /// The ids of static policies and links, in the order in which they joined. Refused by `Memory` alone.
+    /// Returns the ids of static policies and links, in insertion order.
+    ///
+    /// # Errors
+    ///
+    /// - `Memory`: an allocation failed.
     pub fn policy_ids(&self) -> Result<Vec<String>, Refusal> {
         self.told(self.held.ids(1))
     }
 
-    /// What an id is bound to, if it is. Refused by `Memory` alone.
+    /// Returns the kind of item to which an id is bound, if it is bound.
+    ///
+    /// # Errors
+    ///
+    /// - `Memory`: an allocation failed.
     ///
     /// ```
     /// use cedar_store_proved::{Bound, Effect, PolicySet, Reason};
@@ -70,8 +82,12 @@ impl PolicySet {
         })
     }
 
-    /// The effect of what an id is bound to; a link has that of its template. Refused by `NoBody` where the id is bound
-    /// to nothing, and by `Memory`.
+    /// Returns the effect of the policy or template with this id. A link has the effect of its template.
+    ///
+    /// # Errors
+    ///
+    /// - `NoBody`: the id is not bound.
+    /// - `Memory`: an allocation failed.
     pub fn effect(&self, id: impl AsRef<str>) -> Result<Effect, Refusal> {
         match self.number(self.held.effect(id.as_ref()))? {
             0 => Ok(Effect::Permit),
@@ -79,22 +95,37 @@ impl PolicySet {
         }
     }
 
-    /// The slots of the template with an id; a static policy has none. Refused by `NoBody` where the id is no
-    /// template's and no static policy's, and by `Memory`.
+    /// Returns the slots of the template with this id. A static policy has no slots.
+    ///
+    /// # Errors
+    ///
+    /// - `NoBody`: no template or static policy has this id.
+    /// - `Memory`: an allocation failed.
     pub fn slots(&self, id: impl AsRef<str>) -> Result<Slots, Refusal> {
         Ok(Slots::of(self.number(self.held.slots(id.as_ref()))?))
     }
 
-    /// The annotation at a key, of what an id is bound to, if it has one; a link has those of its template. Refused by
-    /// `NotAName` where the key is no identifier, by `NoBody` where the id is bound to nothing, and by `Memory`.
+    /// Returns the annotation with this key of a policy or template, if it has one. A link has the annotations of its
+    /// template.
+    ///
+    /// # Errors
+    ///
+    /// - `NotAName`: the key is not an identifier.
+    /// - `NoBody`: the id is not bound.
+    /// - `Memory`: an allocation failed.
     pub fn annotation(&self, id: impl AsRef<str>, key: &str) -> Result<Option<String>, Refusal> {
         let (status, has) = self.held.annotation(id.as_ref(), key);
         let text = self.text(status)?;
         Ok(has.then_some(text))
     }
 
-    /// The annotations of what an id is bound to, each key with its value, in the order of the keys. Refused by
-    /// `NoBody` where the id is bound to nothing, and by `Memory`.
+    /// Returns the annotations of a policy or template with their keys, in ascending order of the keys. A link has the
+    /// annotations of its template.
+    ///
+    /// # Errors
+    ///
+    /// - `NoBody`: the id is not bound.
+    /// - `Memory`: an allocation failed.
     pub fn annotations(&self, id: impl AsRef<str>) -> Result<Vec<(String, String)>, Refusal> {
         let mut texts = self.told(self.held.annotations(id.as_ref()))?.into_iter();
         let mut pairs = Vec::new();
@@ -104,8 +135,12 @@ impl PolicySet {
         Ok(pairs)
     }
 
-    /// What the slots of the link with an id are bound to; a static policy binds nothing. Refused by `NoBody` where the
-    /// id is no link's and no static policy's, and by `Memory`.
+    /// Returns the bindings of the link with this id. A static policy has no bindings.
+    ///
+    /// # Errors
+    ///
+    /// - `NoBody`: no link or static policy has this id.
+    /// - `Memory`: an allocation failed.
     pub fn env(&self, id: impl AsRef<str>) -> Result<SlotEnv, Refusal> {
         let texts = self.told(self.held.env(id.as_ref()))?;
         let bound = SlotId::ALL
@@ -117,29 +152,48 @@ impl PolicySet {
             .collect())
     }
 
-    /// The id of the template of the link with an id; of a static policy its own. Refused as [`PolicySet::env`] is.
+    /// Returns the id of the template of the link with this id. For a static policy, returns its own id.
+    ///
+    /// # Errors
+    ///
+    /// - `NoBody`: no link or static policy has this id.
+    /// - `Memory`: an allocation failed.
     pub fn template_id(&self, id: impl AsRef<str>) -> Result<String, Refusal> {
         self.text(self.held.template_id(id.as_ref()))
     }
 
-    /// The ids of the links of the template with an id, in the order in which they joined; of a static policy its own.
-    /// Refused as [`PolicySet::slots`] is.
+    /// Returns the ids of the links of the template with this id, in insertion order. For a static policy, returns only
+    /// its own id.
+    ///
+    /// # Errors
+    ///
+    /// - `NoBody`: no template or static policy has this id.
+    /// - `Memory`: an allocation failed.
     pub fn linked(&self, id: impl AsRef<str>) -> Result<Vec<String>, Refusal> {
         self.told(self.held.linked(id.as_ref()))
     }
 
-    /// The text of the static policy or the link with an id, for people to read. Refused as [`PolicySet::env`] is.
+    /// Returns a readable text of the static policy or the link with this id.
+    ///
+    /// # Errors
+    ///
+    /// - `NoBody`: no link or static policy has this id.
+    /// - `Memory`: an allocation failed.
     pub fn policy_text(&self, id: impl AsRef<str>) -> Result<String, Refusal> {
         self.text(self.held.policy_text(id.as_ref()))
     }
 
-    /// The text of the template or the static policy with an id, for people to read. Refused as [`PolicySet::slots`]
-    /// is.
+    /// Returns a readable text of the template or the static policy with this id.
+    ///
+    /// # Errors
+    ///
+    /// - `NoBody`: no template or static policy has this id.
+    /// - `Memory`: an allocation failed.
     pub fn template_text(&self, id: impl AsRef<str>) -> Result<String, Refusal> {
         self.text(self.held.template_text(id.as_ref()))
     }
 
-    // The kind of a constraint, and its texts.
+    // Returns the kind of a constraint, and its texts.
     fn scope(&self, id: &str, which: u32) -> Result<(u32, Vec<String>), Refusal> {
         let kind = self.number(self.held.scope(id, which))?;
         let texts = match body_lists::has_texts(kind) {
@@ -149,14 +203,19 @@ impl PolicySet {
         Ok((kind, texts))
     }
 
-    // The same, of the principal or the resource.
+    // Returns the constraint on the principal (0) or the resource (2).
     fn asked(&self, id: &str, which: u32) -> Result<PrincipalOrResourceConstraint, Refusal> {
         let (kind, texts) = self.scope(id, which)?;
-        Ok(body_lists::read_scope(kind, &texts).expect("the library tells constraints"))
+        Ok(body_lists::read_scope(kind, &texts).expect("the library returns a constraint"))
     }
 
-    /// What the principal has to be by what an id is bound to, with the bound uid in place of the slot of a link.
-    /// Refused by `NoBody` where the id is bound to nothing, and by `Memory`.
+    /// Returns the constraint on the principal of the policy or template with this id. A link has the constraint of its
+    /// template, with the bound uid in place of the slot.
+    ///
+    /// # Errors
+    ///
+    /// - `NoBody`: the id is not bound.
+    /// - `Memory`: an allocation failed.
     ///
     /// ```
     /// use cedar_store_proved::{EntityUID, Effect, PolicySet, SlotEnv, SlotId, Slots};
@@ -175,40 +234,67 @@ impl PolicySet {
         self.asked(id.as_ref(), 0).map(PrincipalConstraint::new)
     }
 
-    /// What the action has to be, in the same way.
+    /// Returns the constraint on the action of the policy or template with this id. A link has the constraint of its
+    /// template, with the bound uid in place of the slot.
+    ///
+    /// # Errors
+    ///
+    /// - `NoBody`: the id is not bound.
+    /// - `Memory`: an allocation failed.
     pub fn action_constraint(&self, id: impl AsRef<str>) -> Result<ActionConstraint, Refusal> {
         let (kind, texts) = self.scope(id.as_ref(), 1)?;
-        Ok(body_lists::read_action(kind, &texts).expect("the library tells constraints"))
+        Ok(body_lists::read_action(kind, &texts).expect("the library returns a constraint"))
     }
 
-    /// What the resource has to be, in the same way.
+    /// Returns the constraint on the resource of the policy or template with this id. A link has the constraint of its
+    /// template, with the bound uid in place of the slot.
+    ///
+    /// # Errors
+    ///
+    /// - `NoBody`: the id is not bound.
+    /// - `Memory`: an allocation failed.
     pub fn resource_constraint(&self, id: impl AsRef<str>) -> Result<ResourceConstraint, Refusal> {
         self.asked(id.as_ref(), 2).map(ResourceConstraint::new)
     }
 
-    // The expression that was told last.
+    // Returns the last expression that the library wrote.
     fn expr(&self) -> Expr {
         let (text, nodes) = (self.held.answer_text(), self.held.nodes());
-        read_clause(&text, &nodes).expect("the library tells expressions")
+        read_clause(&text, &nodes).expect("the library returns an expression")
     }
 
-    /// The clause of what an id is bound to, if it has one; a link has that of its template, with its slots. Refused as
-    /// [`PolicySet::principal_constraint`] is.
+    /// Returns the clause of the policy or template with this id, if it has one. A link has the clause of its template,
+    /// with unfilled slots.
+    ///
+    /// # Errors
+    ///
+    /// - `NoBody`: the id is not bound.
+    /// - `Memory`: an allocation failed.
     pub fn non_scope_constraints(&self, id: impl AsRef<str>) -> Result<Option<Expr>, Refusal> {
         let (status, has) = self.held.clause(id.as_ref());
         self.judged(status)?;
         Ok(has.then(|| self.expr()))
     }
 
-    /// The condition of what an id is bound to; a link has that of its template, with its slots. Refused as
-    /// [`PolicySet::principal_constraint`] is.
+    /// Returns the condition of the policy or template with this id. A link has the condition of its template, with
+    /// unfilled slots.
+    ///
+    /// # Errors
+    ///
+    /// - `NoBody`: the id is not bound.
+    /// - `Memory`: an allocation failed.
     pub fn condition(&self, id: impl AsRef<str>) -> Result<Expr, Refusal> {
         self.judged(self.held.condition(id.as_ref()))?;
         Ok(self.expr())
     }
 
-    /// The uids that unknowns of the condition of the link or the static policy with an id name, ascending, each once:
-    /// of the unknowns with an entity type whose name is the text of a uid. Refused as [`PolicySet::env`] is.
+    /// Returns the uids of the unknown entities in the condition of the link or static policy with this id. The uids
+    /// are in ascending order, each once. An unknown counts if it has an entity type and its name is the text of a uid.
+    ///
+    /// # Errors
+    ///
+    /// - `NoBody`: no link or static policy has this id.
+    /// - `Memory`: an allocation failed.
     ///
     /// ```
     /// use cedar_store_proved::{Effect, PolicySet};
@@ -221,7 +307,7 @@ impl PolicySet {
         Ok(self.held.answer(EntityUID::written))
     }
 
-    /// A body that the set has, read as a whole.
+    /// Reads a body of the set.
     pub(crate) fn told_body(&self, id: &PolicyID) -> Result<Template, Refusal> {
         let annotation =
             |(key, val): (String, String)| (AnyId::written(&key), Annotation { val, loc: None });

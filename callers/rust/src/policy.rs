@@ -14,12 +14,12 @@ use std::fmt;
 use std::hash::BuildHasher;
 use std::sync::Arc;
 
-/// Whether a policy permits or forbids.
+/// The effect of a policy.
 #[derive(Clone, Copy, Debug, PartialEq, Eq, PartialOrd, Ord, Hash)]
 pub enum Effect {
-    /// It permits.
+    /// The policy permits.
     Permit,
-    /// It forbids.
+    /// The policy forbids.
     Forbid,
 }
 
@@ -32,7 +32,7 @@ impl fmt::Display for Effect {
     }
 }
 
-/// The id of a policy or a template: any text.
+/// The id of a policy or a template. It can be any text.
 ///
 /// ```
 /// use cedar_store_proved::ast::PolicyID;
@@ -44,17 +44,17 @@ pub struct PolicyID {
 }
 
 impl PolicyID {
-    /// The id that is a text.
+    /// Creates an id from a text.
     pub fn from_string(text: impl AsRef<str>) -> PolicyID {
         PolicyID::from_smolstr(text.as_ref())
     }
 
-    /// The id that is a text, which may be handed over.
+    /// Creates an id from a text, which is not copied if it is passed by value.
     pub fn from_smolstr(id: impl Into<String>) -> PolicyID {
         PolicyID { text: id.into() }
     }
 
-    /// The text.
+    /// Returns the text.
     pub fn into_smolstr(self) -> String {
         self.text
     }
@@ -72,10 +72,10 @@ impl fmt::Display for PolicyID {
     }
 }
 
-/// A static policy, or a link of a template: a template, which it shares, the id of a link, and what the slots are
-/// bound to. Equality looks at no location. What a set told of stays as it was told, whatever becomes of the set.
+/// A static policy, or a link of a template: a shared template, the id of a link, and the bindings of the slots.
+/// Equality ignores locations. A policy that was read from a set does not change when the set changes.
 ///
-/// It is written as its body, or as a link by the id of its template and its bindings.
+/// `Display` writes a static policy as its body. It writes a link as the id of its template and its bindings.
 ///
 /// ```
 /// use cedar_store_proved::ast::{Effect, Expr, Policy, PolicyID, PolicySet};
@@ -88,13 +88,13 @@ impl fmt::Display for PolicyID {
 #[derive(Clone, Debug, PartialEq, Eq)]
 pub struct Policy {
     template: Arc<Template>,
-    // The id, of a link alone.
+    // The id of a link. `None` for a static policy.
     link: Option<PolicyID>,
     values: SlotEnv,
 }
 
 impl Policy {
-    /// The policy of these parts, which fit.
+    /// Creates a policy from its parts. The caller must ensure that they match.
     pub(crate) fn of(template: Arc<Template>, link: Option<PolicyID>, values: SlotEnv) -> Policy {
         Policy {
             template,
@@ -103,19 +103,28 @@ impl Policy {
         }
     }
 
-    /// The policy of a static policy.
+    /// Creates a policy from a static policy.
     pub fn from_static(policy: StaticPolicy) -> Policy {
         Template::link_static_policy(policy).1
     }
 
-    /// The static policy with this effect, clause and id, which constrains nothing and has no annotations. No slot may
-    /// stand in the clause: a debug build looks and panics, and a set refuses such a policy.
+    /// Creates a static policy with this effect, clause and id. It has no annotations, and its scope constraints allow
+    /// any request. The caller must ensure that the clause contains no slot. A set returns an error for such a policy.
+    ///
+    /// # Panics
+    ///
+    /// Panics in a debug build if the clause contains a slot.
     pub fn from_when_clause(effect: Effect, when: Expr, id: PolicyID, loc: Option<Loc>) -> Policy {
         let annotations = Arc::new(Annotations::new());
         Policy::from_when_clause_annos(effect, Arc::new(when), id, loc, annotations)
     }
 
-    /// The same, with these annotations.
+    /// Creates a static policy with this effect, clause, id and annotations. Its scope constraints allow any request.
+    /// The caller must ensure that the clause contains no slot.
+    ///
+    /// # Panics
+    ///
+    /// Panics in a debug build if the clause contains a slot.
     pub fn from_when_clause_annos(
         effect: Effect,
         when: Arc<Expr>,
@@ -125,7 +134,7 @@ impl Policy {
     ) -> Policy {
         debug_assert!(
             when.slots().is_empty(),
-            "no slot stands in the clause of a static policy"
+            "the clause of a static policy must not contain a slot"
         );
         let template = Template::new_shared(
             id,
@@ -140,47 +149,47 @@ impl Policy {
         Policy::of(Arc::new(template), None, SlotEnv::new())
     }
 
-    /// The id.
+    /// Returns the id: the link's id, or the template's id for a static policy.
     pub fn id(&self) -> &PolicyID {
         self.link.as_ref().unwrap_or(self.template.id())
     }
 
-    /// The template, or the body of a static policy.
+    /// Returns the template. For a static policy, this is its body.
     pub fn template(&self) -> &Template {
         &self.template
     }
 
-    /// The template, shared.
+    /// Returns the shared template.
     pub fn template_arc(&self) -> &Arc<Template> {
         &self.template
     }
 
-    /// The effect, which is that of the template.
+    /// Returns the effect of the template.
     pub fn effect(&self) -> Effect {
         self.template.effect()
     }
 
-    /// The annotation at a key, of the template.
+    /// Returns the annotation of the template with this key, if there is one.
     pub fn annotation(&self, key: &AnyId) -> Option<&Annotation> {
         self.template.annotation(key)
     }
 
-    /// All annotations with their keys, of the template, in the order of the keys.
+    /// Iterates over the annotations of the template with their keys, in ascending order of the keys.
     pub fn annotations(&self) -> Iter<'_> {
         self.template.annotations()
     }
 
-    /// The annotations of the template, shared.
+    /// Returns the shared annotations of the template.
     pub fn annotations_arc(&self) -> &Arc<Annotations> {
         self.template.annotations_arc()
     }
 
-    // What a slot is bound to.
+    // Returns the uid that is bound to a slot.
     fn bound(&self, id: SlotId) -> Option<Arc<EntityUID>> {
         self.values.get(&id).cloned().map(Arc::new)
     }
 
-    /// What the principal has to be: what the template says, with the bound uid in place of the slot.
+    /// Returns the template's constraint on the principal, with the bound uid in place of the slot.
     pub fn principal_constraint(&self) -> PrincipalConstraint {
         let constraint = self.template.principal_constraint().clone();
         match self.bound(SlotId::Principal) {
@@ -189,7 +198,7 @@ impl Policy {
         }
     }
 
-    /// What the action has to be: what the template says, with the bound uid in place of the slot.
+    /// Returns the template's constraint on the action, with the bound uid in place of the slot.
     pub fn action_constraint(&self) -> ActionConstraint {
         let constraint = self.template.action_constraint().clone();
         match self.bound(SlotId::Action) {
@@ -198,7 +207,7 @@ impl Policy {
         }
     }
 
-    /// What the resource has to be: what the template says, with the bound uid in place of the slot.
+    /// Returns the template's constraint on the resource, with the bound uid in place of the slot.
     pub fn resource_constraint(&self) -> ResourceConstraint {
         let constraint = self.template.resource_constraint().clone();
         match self.bound(SlotId::Resource) {
@@ -207,28 +216,28 @@ impl Policy {
         }
     }
 
-    /// The clause of the template, if there is one, its slots as they are.
+    /// Returns the clause of the template, if there is one. Its slots are unfilled.
     pub fn non_scope_constraints(&self) -> Option<&Expr> {
         self.template.non_scope_constraints()
     }
 
-    /// The clause of the template, shared, if there is one.
+    /// Returns the shared clause of the template, if there is one.
     pub fn non_scope_constraints_arc(&self) -> Option<&Arc<Expr>> {
         self.template.non_scope_constraints_arc()
     }
 
-    /// The condition of the template, its slots as they are.
+    /// Returns the condition of the template. Its slots are unfilled.
     pub fn condition(&self) -> Expr {
         self.template.condition()
     }
 
-    /// What the slots are bound to; nothing of a static policy.
+    /// Returns the bindings. A static policy has none.
     pub fn env(&self) -> &SlotEnv {
         &self.values
     }
 
-    /// A copy under another id: of a link the link's id changes and the template is shared, of a static policy the
-    /// template's changes.
+    /// Copies the policy, with another id. A link gets the new id and shares its template. For a static policy, the
+    /// template gets the new id.
     pub fn new_id(&self, id: PolicyID) -> Policy {
         let values = self.values.clone();
         match self.is_static() {
@@ -237,42 +246,52 @@ impl Policy {
         }
     }
 
-    /// The same link, its template under another id; nothing of a static policy.
+    /// Returns the same link, with another id for its template. Returns `None` for a static policy.
     pub fn new_template_id(self, id: PolicyID) -> Option<Policy> {
         self.link.as_ref()?;
         let template = Arc::new(self.template.new_id(id));
         Some(Policy { template, ..self })
     }
 
-    /// The location of the whole template, if it is known. It does not cross: what a set gives back has none.
+    /// Returns the location of the whole template, if it is known. The C library does not store locations, so a policy
+    /// that is read from a set has none.
     pub fn loc(&self) -> Option<&Loc> {
         self.template.loc()
     }
 
-    /// Whether it is a static policy, and no link.
+    /// Returns whether the policy is a static policy and not a link.
     pub fn is_static(&self) -> bool {
         self.link.is_none()
     }
 
-    /// The template, the id of a link, and what the slots are bound to.
+    /// Returns the template, the id of the link, if it is one, and the bindings.
     pub fn into_components(self) -> (Arc<Template>, Option<PolicyID>, SlotEnv) {
         (self.template, self.link, self.values)
     }
 
-    /// The uids that unknowns of the condition name: those of the unknowns that have a type and whose name is a uid's
-    /// text. Each is a call of the library. Ends the program where memory is refused.
+    /// Returns the uids of the unknown entities in the condition. An unknown counts if it has an entity type and its
+    /// name is the text of a uid. Calls the library once for each such unknown.
+    ///
+    /// # Panics
+    ///
+    /// Panics if an allocation fails.
     pub fn unknown_entities(&self) -> HashSet<EntityUID> {
         self.unknown_entities_with_hasher(RandomState::new())
     }
 
-    /// The same, in a set that hashes uids by what `hasher` builds.
+    /// Returns the uids of the unknown entities in the condition, as [`Policy::unknown_entities`] does. The set uses
+    /// the given builder of hashers.
+    ///
+    /// # Panics
+    ///
+    /// Panics if an allocation fails.
     pub fn unknown_entities_with_hasher<S: BuildHasher>(&self, hasher: S) -> HashSet<EntityUID, S> {
         let mut uids = HashSet::with_hasher(hasher);
         let condition = self.condition();
         let unknowns = condition.unknowns().into_iter();
         for unknown in unknowns.filter(|unknown| unknown.type_annotation.is_some()) {
             match EntityUID::from_normalized_str(&unknown.name) {
-                Err(ParseErrors::Refused(refusal)) => panic!("memory for a uid: {refusal}"),
+                Err(ParseErrors::Refused(refusal)) => panic!("cannot allocate a uid: {refusal}"),
                 read => uids.extend(read),
             }
         }
@@ -297,19 +316,19 @@ impl fmt::Display for Policy {
         write!(f, "Template Instance of {id}, slots: [{bound}]")
     }
 }
-/// Which slots a template has that is added to a set.
+/// The slots of a template that is added to a set.
 #[derive(Clone, Copy, Debug, Default, PartialEq, Eq, Hash)]
 pub struct Slots {
-    /// Whether the principal's is one.
+    /// Whether the template has the principal's slot.
     pub principal: bool,
-    /// Whether the action's is one.
+    /// Whether the template has the action's slot.
     pub action: bool,
-    /// Whether the resource's is one.
+    /// Whether the template has the resource's slot.
     pub resource: bool,
 }
 
 impl Slots {
-    /// No slot.
+    /// Returns no slots.
     pub const fn none() -> Slots {
         Slots {
             principal: false,
@@ -318,7 +337,7 @@ impl Slots {
         }
     }
 
-    /// All three.
+    /// Returns all three slots.
     pub const fn all() -> Slots {
         Slots {
             principal: true,
@@ -327,7 +346,7 @@ impl Slots {
         }
     }
 
-    /// The principal's alone.
+    /// Returns only the principal's slot.
     pub const fn principal() -> Slots {
         Slots {
             principal: true,
@@ -335,7 +354,7 @@ impl Slots {
         }
     }
 
-    /// The action's alone.
+    /// Returns only the action's slot.
     pub const fn action() -> Slots {
         Slots {
             action: true,
@@ -343,7 +362,7 @@ impl Slots {
         }
     }
 
-    /// The resource's alone.
+    /// Returns only the resource's slot.
     pub const fn resource() -> Slots {
         Slots {
             resource: true,
@@ -351,12 +370,12 @@ impl Slots {
         }
     }
 
-    /// The sum by which they cross.
+    /// Encodes the slots as a bit sum.
     pub(crate) fn number(self) -> u32 {
         u32::from(self.principal) + 2 * u32::from(self.action) + 4 * u32::from(self.resource)
     }
 
-    /// Those of a sum.
+    /// Decodes a bit sum.
     pub(crate) fn of(number: u32) -> Slots {
         Slots {
             principal: number & 1 != 0,

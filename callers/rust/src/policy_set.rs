@@ -24,19 +24,20 @@ use std::cell::OnceCell;
 use std::fmt;
 use std::sync::Arc;
 
-// What is said where a call that cannot tell a refusal is refused memory.
-const MEMORY: &str = "memory for what a set has";
+// The panic message of calls that cannot return an error.
+const MEMORY: &str = "cannot allocate the result of a query";
 
-/// A policy set: ids are bound to static policies, to templates, and to links of templates. A call that is refused, for
-/// memory too, leaves the set as it was.
+/// A policy set: ids are bound to static policies, to templates, and to links of templates. A call that returns an
+/// error leaves the set unchanged, also after a failed allocation.
 ///
-/// The calls that the crate in Rust has too have its names. Those that read lend what they read and keep it: the ids,
-/// in two calls of the library, and each policy and template once it is asked for, in two and six. A merge has all
-/// read anew. They end the program where memory is refused, as std's own lists do. Beside them stand calls with an id,
-/// as [`PolicySet::bind_static`] and [`PolicySet::effect`], which are one call of the library each and answer a
-/// [`Refusal`]. An id is a [`PolicyID`] or a text.
+/// Calls that the package `cedar-store` also has have the same names. Calls that read return references to cached
+/// items. Reading all ids needs two calls of the library. A policy needs two calls when it is first requested, and a
+/// template needs six. A merge clears the cache. These calls panic if an allocation fails, as the collections of the
+/// standard library abort. In addition, there are calls with an id, for example [`PolicySet::bind_static`] and
+/// [`PolicySet::effect`]. Each of them calls the library once and returns an error if an allocation fails. An id is a
+/// [`PolicyID`] or a text.
 ///
-/// A location does not cross: what a set gives back has none.
+/// The C library does not store locations, so an item that is read from a set has none.
 ///
 /// ```
 /// use cedar_store_proved::ast::*;
@@ -62,7 +63,8 @@ const MEMORY: &str = "memory for what a set has";
 /// assert_eq!(set.unlink(&l).unwrap().template().id(), &t);
 /// ```
 ///
-/// It is of the thread that made it: neither `Send` nor `Sync`. What [`PolicySet::copy_apart`] makes is `Send`.
+/// A set belongs to the thread that created it: it is neither `Send` nor `Sync`. The result of
+/// [`PolicySet::copy_apart`] is `Send`.
 ///
 /// ```compile_fail
 /// fn sends<T: Send>(_: T) {}
@@ -101,27 +103,41 @@ impl PolicySet {
         Refusal::judged(status, || self.held.words())
     }
 
-    /// The set without policies, with a key that is drawn. Ends the program where its few bytes of memory are refused;
-    /// [`PolicySet::with_key`] does not.
+    /// Creates an empty set, with a random key.
+    ///
+    /// # Panics
+    ///
+    /// Panics if the allocation of a few bytes fails. [`PolicySet::with_key`] returns an error instead.
     pub fn new() -> PolicySet {
-        PolicySet::with_key(Key::drawn()).expect("memory for an empty set")
+        PolicySet::with_key(Key::drawn()).expect("cannot allocate an empty set")
     }
 
-    /// The set without policies, whose maps, and those of its copies, hash by this key. Refused by `Memory`.
+    /// Creates an empty set. The hash maps of the set and of its copies use this key.
+    ///
+    /// # Errors
+    ///
+    /// - `Memory`: an allocation failed.
     pub fn with_key(key: Key) -> Result<PolicySet, Refusal> {
         PolicySet::of(Held::new(key))
     }
 
-    // ---- what changes the set
+    // ---- edits
 
-    /// The set of this policy alone, and of its template. A link that has the id of its template ends the program, as
-    /// does the want of memory; [`PolicySet::try_from_iter`] does not.
+    /// Creates a set with only this policy and its template.
+    ///
+    /// # Panics
+    ///
+    /// Panics if the policy is a link with the id of its template, or if an allocation fails.
+    /// [`PolicySet::try_from_iter`] returns an error instead.
     pub fn singleton(policy: Policy) -> PolicySet {
-        PolicySet::try_from_iter([policy]).expect("a policy for a set of its own")
+        PolicySet::try_from_iter([policy]).expect("cannot create a set of one policy")
     }
 
-    /// The set that adding these policies leaves, one after another. Refused by the first refusal of
-    /// [`PolicySet::add`].
+    /// Creates a set by adding policies to an empty set, one after another.
+    ///
+    /// # Errors
+    ///
+    /// The first error of [`PolicySet::add`].
     pub fn try_from_iter(
         policies: impl IntoIterator<Item = Policy>,
     ) -> Result<PolicySet, PolicySetError> {
@@ -132,8 +148,12 @@ impl PolicySet {
         Ok(set)
     }
 
-    /// A static policy joins the set. Refused by `Occupied` where its id is bound, and by `Refused` for want of memory
-    /// and where its clause has too many levels.
+    /// Adds a static policy.
+    ///
+    /// # Errors
+    ///
+    /// - `Occupied`: the id is already bound.
+    /// - `Refused`: the clause has more than 1,000 levels, or an allocation failed.
     ///
     /// ```
     /// use cedar_store_proved::ast::*;
@@ -159,7 +179,7 @@ impl PolicySet {
         self.join_static(policy.body())
     }
 
-    // A static policy of this body joins. The library refuses a slot.
+    // Adds a static policy with this body. The library returns an error if the body contains a slot.
     fn join_static(&mut self, body: &TemplateBody) -> Result<(), PolicySetError> {
         let id = body.id().as_ref();
         let status = self.held.add_static_with(id, &BodyLists::of(body));
@@ -176,7 +196,12 @@ impl PolicySet {
         Ok(())
     }
 
-    /// A template joins the set. Refused as [`PolicySet::add_static`] is.
+    /// Adds a template.
+    ///
+    /// # Errors
+    ///
+    /// - `Occupied`: the id is already bound.
+    /// - `Refused`: the clause has more than 1,000 levels, or an allocation failed.
     pub fn add_template(&mut self, template: Template) -> Result<(), PolicySetError> {
         self.join_template(template.body())
     }
@@ -195,10 +220,15 @@ impl PolicySet {
         Ok(())
     }
 
-    /// A policy joins the set; with a link its template comes along where the set lacks it. Refused by `Occupied`: of a
-    /// static policy where its id is bound; of a link with its template's id where that is bound to anything but an
-    /// equal template, and then with its own where that is bound or is its template's. Refused by `Refused` for want of
-    /// memory and where a clause has too many levels.
+    /// Adds a policy. A link is added with its template, if the set does not contain the template.
+    ///
+    /// # Errors
+    ///
+    /// - `Occupied`: the id of a static policy is already bound.
+    /// - `Occupied`: the id of a link's template is bound to anything but an equal template. This is checked before the
+    ///   link's own id.
+    /// - `Occupied`: the id of a link is already bound, or it is also the id of its template.
+    /// - `Refused`: a clause has more than 1,000 levels, a static policy contains a slot, or an allocation failed.
     pub fn add(&mut self, policy: Policy) -> Result<(), PolicySetError> {
         if policy.is_static() {
             return self.join_static(policy.template().body());
@@ -226,7 +256,7 @@ impl PolicySet {
         }
     }
 
-    // A link and its template join: a set of these two is merged in, so that either both join or none.
+    // Adds a link and its template. Merges a set of these two, so that either both are added or none.
     fn join_with_template(&mut self, link: &Policy) -> Result<(), PolicySetError> {
         let (template, id) = (link.template(), link.id());
         let mut both = PolicySet::with_key(Key::drawn())?;
@@ -241,8 +271,12 @@ impl PolicySet {
         Ok(())
     }
 
-    /// A static policy of this effect, which constrains nothing, joins the set: one call of the library. Refused by
-    /// `Occupied`, and by `Refused` for want of memory.
+    /// Adds a static policy with this effect, whose scope constraints allow any request. Calls the library once.
+    ///
+    /// # Errors
+    ///
+    /// - `Occupied`: the id is already bound.
+    /// - `Refused`: an allocation failed.
     ///
     /// ```
     /// use cedar_store_proved::ast::{Effect, PolicyID, PolicySet};
@@ -261,8 +295,13 @@ impl PolicySet {
         self.static_joined(status, id)
     }
 
-    /// A template of this effect joins the set, of which the principal, the action and the resource have to be equal to
-    /// what these slots are bound to: one call of the library. Refused as [`PolicySet::bind_static`] is.
+    /// Adds a template with this effect. Each variable with a slot must be equal to the uid bound to the slot. Calls
+    /// the library once.
+    ///
+    /// # Errors
+    ///
+    /// - `Occupied`: the id is already bound.
+    /// - `Refused`: an allocation failed.
     pub fn bind_template(
         &mut self,
         id: impl AsRef<str>,
@@ -274,8 +313,18 @@ impl PolicySet {
         self.template_joined(status, id)
     }
 
-    /// A link of a template joins the set under an id, and is lent. Refused by `NoSuchTemplate`, `ArityError`,
-    /// `NotAnAction` and `PolicyIdConflict`, in this order, and by `Refused` for want of memory.
+    /// Links a template: adds a link with this id and these bindings. Returns the link.
+    ///
+    /// # Errors
+    ///
+    /// The checks are made in this order:
+    ///
+    /// - `NoSuchTemplate`: no template has the id `template_id`.
+    /// - `ArityError`: the bound ids are not the ids of the template's slots.
+    /// - `NotAnAction`: the action's slot is bound to a uid that is not an action.
+    /// - `PolicyIdConflict`: the id `new_id` is already bound.
+    ///
+    /// The call returns `Refused` if an allocation failed.
     ///
     /// ```
     /// use cedar_store_proved::ast::{Effect, LinkingError, PolicySet, SlotEnv, SlotId};
@@ -297,10 +346,11 @@ impl PolicySet {
         let template_id = PolicyID::from_string(template_id);
         let new_id = PolicyID::from_string(new_id);
         self.join_link(&template_id, &new_id, &values)?;
-        Ok(self.get(&new_id).expect("a link that joined"))
+        Ok(self.get(&new_id).expect("the set contains the new link"))
     }
 
-    // A link joins, and is kept. The template is read before, so that nothing is refused behind that.
+    // Adds a link, and caches it. Reads the template first, so that nothing can fail after the library has added the
+    // link.
     fn join_link(
         &mut self,
         template_id: &PolicyID,
@@ -309,8 +359,8 @@ impl PolicySet {
     ) -> Result<(), Refusal> {
         let template = self.try_body(template_id)?.cloned();
         self.bind_link(template_id, id, values)?;
-        let template = template.expect("a template that was linked");
-        // Locations of what is bound do not cross.
+        let template = template.expect("the linked template exists");
+        // The library does not store the locations of bound uids.
         let bound = values.iter();
         let values = bound.map(|(slot, uid)| (*slot, EntityUID::written(uid.as_str())));
         let link = Policy::of(template, Some(id.clone()), values.collect());
@@ -320,7 +370,7 @@ impl PolicySet {
         Ok(())
     }
 
-    // A link joins what the library has: one call of it.
+    // Adds a link to the set of the library. Calls the library once.
     fn bind_link(
         &mut self,
         template_id: &PolicyID,
@@ -334,8 +384,13 @@ impl PolicySet {
         self.judged(status)
     }
 
-    /// The link with an id goes, and is answered. Refused by `UnlinkingError` where nothing is bound to the id, by
-    /// `NotLinkError` where it is no link's, and by `Refused` for want of memory.
+    /// Removes the link with this id, and returns it.
+    ///
+    /// # Errors
+    ///
+    /// - `UnlinkingError`: the id is not bound.
+    /// - `NotLinkError`: the id belongs to a static policy or a template.
+    /// - `Refused`: an allocation failed.
     pub fn unlink(&mut self, id: &PolicyID) -> Result<Policy, PolicySetUnlinkError> {
         let policy = self.try_policy(id)?.cloned();
         let status = self.held.unlink(id.as_ref());
@@ -343,17 +398,22 @@ impl PolicySet {
         Ok(self.left(policy))
     }
 
-    // A policy that was read before it left.
+    // Updates the cache after a policy was removed. `policy` was read before.
     fn left(&mut self, policy: Option<Policy>) -> Policy {
-        let policy = policy.expect("a policy that went");
+        let policy = policy.expect("the removed policy was in the set");
         if let Some(read) = self.read.get_mut() {
             read.remove_policy(&policy);
         }
         policy
     }
 
-    /// The static policy with an id goes, and is answered. Refused by `RemovePolicyNoLinkError` where no policy has the
-    /// id, by `RemovePolicyNoTemplateError` where it is a link's, and by `Refused` for want of memory.
+    /// Removes the static policy with this id, and returns it.
+    ///
+    /// # Errors
+    ///
+    /// - `RemovePolicyNoLinkError`: no policy has this id.
+    /// - `RemovePolicyNoTemplateError`: the id belongs to a link.
+    /// - `Refused`: an allocation failed.
     pub fn remove_static(&mut self, id: &PolicyID) -> Result<Policy, PolicySetPolicyRemovalError> {
         let policy = self.try_policy(id)?.cloned();
         let status = self.held.remove_static(id.as_ref());
@@ -361,9 +421,14 @@ impl PolicySet {
         Ok(self.left(policy))
     }
 
-    /// The template with an id goes, and is answered. Refused by `RemovePolicyNoTemplateError` where nothing is bound
-    /// to the id, by `RemoveTemplateWithLinksError`, by `NotTemplateError` where it is a policy's, and by `Refused` for
-    /// want of memory.
+    /// Removes the template with this id, and returns it.
+    ///
+    /// # Errors
+    ///
+    /// - `RemovePolicyNoTemplateError`: the id is not bound.
+    /// - `RemoveTemplateWithLinksError`: the template has links.
+    /// - `NotTemplateError`: the id belongs to a static policy or a link.
+    /// - `Refused`: an allocation failed.
     pub fn remove_template(
         &mut self,
         id: &PolicyID,
@@ -374,12 +439,19 @@ impl PolicySet {
         if let Some(read) = self.read.get_mut() {
             read.remove_body(id);
         }
-        let template = template.expect("a template that went");
+        let template = template.expect("the removed template was in the set");
         Ok(Arc::unwrap_or_clone(template))
     }
 
-    /// What another set binds joins the set, and the ids that were renamed are answered. Without `rename` the first id
-    /// that both bind to different things is refused as `Occupied`; refused by `Refused` for want of memory.
+    /// Merges another set into this one. If an id is bound to different items in the two sets, `rename` decides what
+    /// happens. If it is true, the item of the other set gets a new id; otherwise an error is returned. Returns the
+    /// renamed ids.
+    ///
+    /// # Errors
+    ///
+    /// - `Occupied`: `rename` is false, and both sets bind the id to different items. The error names the first such
+    ///   id.
+    /// - `Refused`: an allocation failed.
     ///
     /// ```
     /// use cedar_store_proved::ast::{Effect, PolicyID, PolicySet};
@@ -403,7 +475,7 @@ impl PolicySet {
         ))
     }
 
-    // ---- what is read and lent
+    // ---- cached reads
 
     fn try_read(&self) -> Result<&Read, Refusal> {
         kept(&self.read, || {
@@ -428,7 +500,7 @@ impl PolicySet {
         answered(self.try_read())
     }
 
-    // A policy that the set has.
+    // Reads a policy of the set.
     fn told_policy(&self, id: &PolicyID) -> Result<Policy, Refusal> {
         let template_id = PolicyID::from_smolstr(self.template_id(id)?);
         let template = self.try_body(&template_id)?.expect("a policy has a body");
@@ -436,56 +508,102 @@ impl PolicySet {
         Ok(Policy::of(template.clone(), link, self.env(id)?))
     }
 
-    /// Whether the set has neither a policy nor a template.
+    /// Returns whether the set contains neither a policy nor a template.
+    ///
+    /// # Panics
+    ///
+    /// Panics if an allocation fails.
     pub fn is_empty(&self) -> bool {
         self.read().bodies.is_empty()
     }
 
-    /// The static policy or the link with an id. Two calls of the library the first time, and what its template takes.
+    /// Returns the static policy or the link with this id, if there is one. The first request calls the library twice,
+    /// and reads the template as [`PolicySet::get_template`] does.
+    ///
+    /// # Panics
+    ///
+    /// Panics if an allocation fails.
     pub fn get(&self, id: &PolicyID) -> Option<&Policy> {
         answered(self.try_policy(id))
     }
 
-    /// The template with an id, or the body of the static policy with it. Six calls of the library the first time.
+    /// Returns the template with this id, or the body of the static policy with this id. The first request calls the
+    /// library six times.
+    ///
+    /// # Panics
+    ///
+    /// Panics if an allocation fails.
     pub fn get_template(&self, id: &PolicyID) -> Option<&Template> {
         answered(self.try_body(id)).map(Arc::as_ref)
     }
 
-    /// The same, shared.
+    /// Returns the shared template with this id, or the shared body of the static policy with this id.
+    ///
+    /// # Panics
+    ///
+    /// Panics if an allocation fails.
     pub fn get_template_arc(&self, id: &PolicyID) -> Option<Arc<Template>> {
         answered(self.try_body(id)).cloned()
     }
 
-    /// All policies, static policies and links, in the order in which they joined.
+    /// Iterates over all policies, which are static policies and links, in insertion order.
+    ///
+    /// # Panics
+    ///
+    /// Panics if an allocation fails.
     pub fn policies(&self) -> Policies<'_> {
         let ids = self.read().policies.ids();
         Policies { set: self, ids }
     }
 
-    /// The same; the set is taken apart.
+    /// Consumes the set, and iterates over all policies in insertion order.
+    ///
+    /// # Panics
+    ///
+    /// Panics if an allocation fails.
     pub fn into_policies(self) -> IntoPolicies {
         let policies: Vec<Policy> = self.policies().cloned().collect();
         IntoPolicies(policies.into_iter())
     }
 
-    /// All bodies, of static policies and of templates, in the order in which they joined.
+    /// Iterates over the bodies of all static policies and templates, in insertion order.
+    ///
+    /// # Panics
+    ///
+    /// Panics if an allocation fails.
     pub fn all_templates(&self) -> AllTemplates<'_> {
         let ids = self.read().bodies.ids();
         AllTemplates { set: self, ids }
     }
 
-    /// The bodies that have slots, in the order in which they joined.
+    /// Iterates over the templates that have slots, in insertion order.
+    ///
+    /// # Panics
+    ///
+    /// Panics if an allocation fails.
     pub fn templates(&self) -> Templates<'_> {
         Templates(self.all_templates())
     }
 
-    /// The static policies, in the order in which they joined.
+    /// Iterates over the static policies, in insertion order.
+    ///
+    /// # Panics
+    ///
+    /// Panics if an allocation fails.
     pub fn static_policies(&self) -> StaticPolicies<'_> {
         StaticPolicies(self.policies())
     }
 
-    /// The ids of the policies on the body with an id, in the order in which they joined: of a template its links, of a
-    /// static policy itself. Refused by `MissingTemplate` where no body has the id.
+    /// Iterates over the ids of the links of a template, in insertion order. For a static policy, returns only its own
+    /// id.
+    ///
+    /// # Errors
+    ///
+    /// - `MissingTemplate`: no template or static policy has this id.
+    ///
+    /// # Panics
+    ///
+    /// Panics if an allocation fails.
     pub fn get_linked_policies(
         &self,
         id: &PolicyID,
@@ -502,9 +620,17 @@ impl PolicySet {
         Ok(LinkedIds(links.get_or_init(told).iter()))
     }
 
-    /// Looks for what is wrong with the set: one call of the library. Refused by the first fault: by `SlotlessLink`,
-    /// which names the first link of a template without slots; else by `SlotInClause`, `NotActions` or `UnknownFunction`,
-    /// which names the first body that [`Template::try_validate`] refuses; and by `Memory`. The set stays.
+    /// Checks whether the set is valid. Calls the library once. Does not change the set.
+    ///
+    /// # Errors
+    ///
+    /// Links are checked before bodies, and the first fault is reported:
+    ///
+    /// - `SlotlessLink`: a template without slots has a link. The error names the first such link.
+    /// - `SlotInClause`, `NotActions` or `UnknownFunction`: a body is not valid; see [`Template::try_validate`]. The
+    ///   error names the first such body.
+    ///
+    /// The call returns `Memory` if an allocation failed.
     ///
     /// ```
     /// use cedar_store_proved::{ast::SlotEnv, Effect, PolicySet, Reason, Slots};
@@ -519,9 +645,18 @@ impl PolicySet {
         self.judged(self.held.validate())
     }
 
-    /// The set itself, if its links and its bodies are valid. Refused by `LinkToSlotlessTemplate`, which names the
-    /// first link of a template without slots; else by `InvalidTemplate`, which has the first body that
-    /// [`Template::try_validate`] refuses. It reads all that the set has.
+    /// Returns the set itself if its links and its bodies are valid. Reads the whole set.
+    ///
+    /// # Errors
+    ///
+    /// Links are checked before bodies, and the first fault is reported:
+    ///
+    /// - `LinkToSlotlessTemplate`: a template without slots has a link. The error names the first such link.
+    /// - `InvalidTemplate`: a body is not valid; see [`Template::try_validate`]. The error names the first such body.
+    ///
+    /// # Panics
+    ///
+    /// Panics if an allocation fails.
     pub fn try_validate(self) -> Result<PolicySet, PolicySetValidationError> {
         let is_slotless = |link: &&Policy| !link.is_static() && link.template().is_static();
         if let Some(link) = self.policies().find(is_slotless) {
@@ -539,8 +674,11 @@ impl PolicySet {
         Ok(self)
     }
 
-    /// A copy, which shares nothing with the set: it may go to another thread. All that the set holds is copied. Refused
-    /// by `Memory`.
+    /// Returns a deep copy of the set, which can be sent to another thread. Copies the whole content of the set.
+    ///
+    /// # Errors
+    ///
+    /// - `Memory`: an allocation failed.
     pub fn copy_apart(&self) -> Result<ApartPolicySet, Refusal> {
         match self.held.copy_apart() {
             Ok(held) => Ok(ApartPolicySet::of(held)),
@@ -548,21 +686,29 @@ impl PolicySet {
         }
     }
 
-    /// A copy. Refused by `Memory`.
+    /// Copies the set.
+    ///
+    /// # Errors
+    ///
+    /// - `Memory`: an allocation failed.
     pub fn try_clone(&self) -> Result<PolicySet, Refusal> {
         PolicySet::of(self.held.copy())
     }
 }
 
 impl Clone for PolicySet {
-    /// A copy. Ends the program where memory is refused; [`PolicySet::try_clone`] does not.
+    /// Copies the set.
+    ///
+    /// # Panics
+    ///
+    /// Panics if an allocation fails. [`PolicySet::try_clone`] returns an error instead.
     fn clone(&self) -> PolicySet {
         answered(self.try_clone())
     }
 }
 
 impl PartialEq for PolicySet {
-    /// Whether both bind equal things in equal orders.
+    /// Returns whether both sets have equal bodies in the same order, and equal policies in the same order.
     fn eq(&self, other: &PolicySet) -> bool {
         self.held.is_equal(&other.held)
     }
@@ -577,7 +723,7 @@ impl Default for PolicySet {
 }
 
 impl fmt::Display for PolicySet {
-    /// Writes the bodies and the policies, in their orders: one call of the library.
+    /// Writes the bodies and the policies, in their orders. Calls the library once.
     fn fmt(&self, f: &mut fmt::Formatter<'_>) -> fmt::Result {
         let text = self.text(self.held.text()).map_err(|_| fmt::Error)?;
         f.write_str(&text)

@@ -1,76 +1,76 @@
-//! Why a call was refused.
+//! Errors of calls of the library, with a reason and a message.
 use crate::ffi;
 use crate::policy::PolicyID;
 use crate::uid::EntityUID;
 use std::fmt;
 
-/// Why a call was refused, one for each status of `cedar.h`.
+/// The reason of an error. Each corresponds to a status of `cedar.h`.
 #[derive(Clone, Copy, Debug, PartialEq, Eq, Hash)]
 #[non_exhaustive]
 pub enum Reason {
-    /// Memory was refused.
+    /// An allocation failed.
     Memory,
-    /// A part, a place or a number is out of range, which this crate does not give.
+    /// A span, an index or a number is out of range. This crate causes it only with a number of another store.
     BadArgument,
-    /// A text is no uid's.
+    /// A text is not a uid.
     NotAUid,
-    /// The store has no such entity.
+    /// The store has no entity with the uid.
     NoEntity,
-    /// Two versions of an entity differ.
+    /// Two entities have the same uid, but are not deeply equal.
     Duplicate,
-    /// A uid is among its own ancestors.
+    /// An entity reaches itself over its ancestors.
     Cycle,
     /// An ancestor of an ancestor is missing.
     NotClosed,
-    /// An entity is among its own ancestors.
+    /// An entity is its own ancestor.
     SelfAncestor,
-    /// An ancestor is a parent and an indirect ancestor.
+    /// An ancestor is both a parent and an indirect ancestor.
     DuplicateAncestor,
-    /// An action has an ancestor that is none.
+    /// An action has an ancestor that is not an action.
     ActionParentIsNotAction,
     /// A key of a record is reserved.
     ReservedKey,
-    /// An id is bound already.
+    /// An id is already bound.
     Occupied,
-    /// There is no template of an id to link.
+    /// No template has the id of the template to link.
     NoSuchTemplate,
-    /// The bindings are not those of the template's slots.
+    /// The bound ids are not the ids of the template's slots.
     Arity,
-    /// The action's slot is bound to no action.
+    /// The action's slot is bound to a uid that is not an action.
     NotAnAction,
-    /// The id of a new link is bound already.
+    /// The id of a new link is already bound.
     IdConflict,
-    /// Nothing is bound to an id to unlink.
+    /// The id of the link to remove is not bound.
     NoLink,
-    /// Something else than a link is.
+    /// The id of the link to remove belongs to a static policy or a template.
     NotALink,
-    /// Nothing is bound to the id of a template to remove.
+    /// The id of the template to remove is not bound.
     NoTemplate,
-    /// The template has links.
+    /// The template to remove has links.
     WithLinks,
-    /// Something else than a template is bound to it.
+    /// The id of the template to remove belongs to a static policy or a link.
     NotATemplate,
-    /// No policy has the id of a static policy to remove.
+    /// No policy has the id of the static policy to remove.
     NoStatic,
-    /// It is a link's; or a slot stands in a static policy to add.
+    /// The id of the static policy to remove belongs to a link, or a static policy to add contains a slot.
     NotStatic,
-    /// Nothing of the kind that is asked for is bound to an id.
+    /// The id is not bound to an item of the requested kind.
     NoBody,
-    /// A text is no name, or no identifier where that is asked for.
+    /// A text is not a name, or not an identifier where the call expects one.
     NotAName,
-    /// Something has too many levels.
+    /// A value, an expression or a clause has more than 1,000 levels.
     TooDeep,
-    /// A slot stands in the clause of a template.
+    /// The clause of a template contains a slot.
     SlotInClause,
-    /// The action of a policy or a template is asked to be, or to be in, no action.
+    /// The action constraint of a policy or a template has a uid that is not an action.
     NotActions,
-    /// The clause of a policy or a template calls a function that is not known.
+    /// The clause of a policy or a template calls an unknown function.
     UnknownFunction,
-    /// A link is one of a template without slots.
+    /// A template without slots has a link.
     SlotlessLink,
 }
 
-// The reasons, each with its status.
+// The reasons with their statuses.
 const STATUSES: [(u32, Reason); 30] = [
     (1, Reason::Memory),
     (3, Reason::BadArgument),
@@ -110,15 +110,15 @@ impl Reason {
         found.map_or(Reason::BadArgument, |(_, reason)| *reason)
     }
 
-    // The words with which the text of a refusal begins.
+    // Returns the text with which the message of an error begins.
     fn words(self) -> String {
         let found = STATUSES.iter().find(|(_, reason)| *reason == self);
         found.map_or_else(String::new, |(status, _)| ffi::words_for(*status))
     }
 }
 
-/// A refused call: the reason, and a text with the uids or the id that it names. Each error of a type of its own is
-/// one, by `From`.
+/// An error of a call: a reason, and a message with the uids or the id that it concerns. The errors of all other types
+/// can be converted into it by `From`.
 ///
 /// ```
 /// use cedar_store_proved::{Effect, PolicySet, Reason, Refusal};
@@ -135,7 +135,7 @@ pub struct Refusal {
 }
 
 impl Refusal {
-    /// What a status says; the text is asked for where the library has one.
+    /// Converts a status to a result. Requests the message only if the library has one for the status.
     pub(crate) fn judged(status: u32, text: impl FnOnce() -> Vec<u8>) -> Result<(), Refusal> {
         match status {
             0 => Ok(()),
@@ -143,13 +143,13 @@ impl Refusal {
         }
     }
 
-    /// A refusal that names nothing.
+    /// Creates an error whose message has no uid and no id.
     pub(crate) fn plain(reason: Reason) -> Refusal {
         let text = reason.words();
         Refusal { reason, text }
     }
 
-    /// The refusal of a status that is not 0.
+    /// Creates the error of a status other than 0.
     pub(crate) fn new(status: u32, text: impl FnOnce() -> Vec<u8>) -> Refusal {
         let reason = Reason::of(status);
         let text = match reason {
@@ -165,7 +165,7 @@ impl Refusal {
         Refusal { reason, text }
     }
 
-    /// The refusal for a reason that names something, as the library writes it.
+    /// Creates an error that names items, with the message of the library.
     pub(crate) fn naming<N: fmt::Display>(reason: Reason, names: &[N]) -> Refusal {
         let mut text = reason.words();
         for name in names {
@@ -174,25 +174,25 @@ impl Refusal {
         Refusal { reason, text }
     }
 
-    /// The reason.
+    /// Returns the reason.
     pub fn reason(&self) -> Reason {
         self.reason
     }
 
-    /// What the text says behind the words for the reason: the id of a policy, a key, or slots.
+    /// Returns the message without the text of the reason: the id of a policy, a key, or slots.
     pub(crate) fn said(&self) -> &str {
         let words = self.reason.words();
         let behind = self.text.get(words.len()..).unwrap_or_default();
         behind.strip_prefix(' ').unwrap_or(behind)
     }
 
-    /// The id of a policy or a template that the text names.
+    /// Returns the id of the policy or template in the message.
     pub(crate) fn id(&self) -> PolicyID {
         PolicyID::from_string(self.said())
     }
 
-    /// The uids that the text names, in its order: of `NotClosed` the entity, its ancestor, and the one that is
-    /// missing. None for what names an id or a key.
+    /// Returns the uids in the message, in order. For `NotClosed` these are the entity, its ancestor, and the missing
+    /// ancestor. Returns an empty list if the message names an id or a key.
     ///
     /// ```
     /// use cedar_store_proved::{Entities, Entity, EntityUID, TCComputation};
@@ -215,7 +215,7 @@ impl Refusal {
     }
 }
 
-// The uids that stand behind the words of a text, with blanks between them. A blank of an id stands in quotes.
+// Parses the uids in a message, which are separated by spaces. A space within an id is in quotes.
 fn named(text: &str) -> Vec<EntityUID> {
     let mut uids = Vec::new();
     let (mut start, mut is_quoted, mut is_escaped) = (0, false, false);

@@ -1,4 +1,4 @@
-//! What a policy asks of the principal and of the resource.
+//! Constraints on the principal and the resource of a request.
 use crate::expr::Expr;
 use crate::name::Loc;
 use crate::slots::{SlotId, Var};
@@ -8,29 +8,29 @@ use std::fmt;
 use std::hash::{Hash, Hasher};
 use std::sync::Arc;
 
-/// What a constraint refers to: a uid, or the slot of its variable. Every uid stands before the slot; no comparison
-/// looks at a location.
+/// The entity to which a constraint refers: a uid, or the slot of its variable. In the order of references, every uid
+/// is less than the slot. Comparisons ignore locations.
 #[derive(Clone, Debug)]
 pub enum EntityReference {
     /// This uid.
     EUID(Arc<EntityUID>),
-    /// The slot, and where it stands, if that is known.
+    /// The slot, with its location, if it is known.
     Slot(Option<Loc>),
 }
 
 impl EntityReference {
-    /// The reference to this uid.
+    /// Creates a reference to this uid.
     pub fn euid(euid: Arc<EntityUID>) -> EntityReference {
         EntityReference::EUID(euid)
     }
 
-    /// The reference to this uid, which it comes to share.
+    /// Creates a reference to this uid, which becomes shared.
     pub fn from_uid(uid: EntityUID) -> EntityReference {
         EntityReference::EUID(Arc::new(uid))
     }
 
-    /// The expression of the uid, or of this slot, whose node has the location of the reference.
-    // The name is that of the crate in Rust.
+    /// Returns an expression for the uid, or for the given slot. A slot node has the location of the reference.
+    // The function has the same name in `cedar-store`.
     #[allow(clippy::wrong_self_convention)]
     pub fn into_expr(&self, slot: SlotId) -> Expr {
         match self {
@@ -39,7 +39,7 @@ impl EntityReference {
         }
     }
 
-    // The uid, if it is one.
+    // Returns the uid, unless the reference is a slot.
     fn uid(&self) -> Option<&Arc<EntityUID>> {
         match self {
             EntityReference::EUID(euid) => Some(euid),
@@ -47,7 +47,7 @@ impl EntityReference {
         }
     }
 
-    // By what two are compared.
+    // Returns the comparison key.
     fn key(&self) -> (bool, Option<&Arc<EntityUID>>) {
         let uid = self.uid();
         (uid.is_none(), uid)
@@ -86,12 +86,13 @@ impl From<EntityUID> for EntityReference {
     }
 }
 
-/// The variables whose constraints have one form: the principal and the resource. It is written as the variable.
+/// The variables whose constraints have the same form: the principal and the resource. `Display` writes the name of the
+/// variable.
 #[derive(Clone, Copy, Debug, PartialEq, Eq, Hash)]
 pub enum PrincipalOrResource {
-    /// Who asks.
+    /// The principal.
     Principal,
-    /// What it is asked of.
+    /// The resource.
     Resource,
 }
 
@@ -113,7 +114,7 @@ impl From<PrincipalOrResource> for SlotId {
     }
 }
 
-/// `Var::Action` and `Var::Context` are refused, by the variable itself.
+/// Fails for `Var::Action` and `Var::Context`. The error is the variable itself.
 impl TryFrom<Var> for PrincipalOrResource {
     type Error = Var;
 
@@ -132,10 +133,10 @@ impl fmt::Display for PrincipalOrResource {
     }
 }
 
-/// What a principal or a resource has to be.
+/// A constraint on the principal or the resource of a request.
 ///
-/// The order is by kind, as the kinds are listed here, then by the stated type, then by what is referred to. No
-/// comparison looks at a location.
+/// Constraints are ordered by kind, in the order of the variants below. Constraints of one kind are ordered by the
+/// entity type, and then by the reference. Comparisons ignore locations.
 ///
 /// ```
 /// use cedar_store_proved::ast::{EntityUID, PrincipalOrResource, PrincipalOrResourceConstraint};
@@ -149,52 +150,52 @@ impl fmt::Display for PrincipalOrResource {
 /// ```
 #[derive(Clone, Debug, PartialEq, Eq, PartialOrd, Ord, Hash)]
 pub enum PrincipalOrResourceConstraint {
-    /// Anything.
+    /// Any entity.
     Any,
-    /// In what is referred to.
+    /// An entity that is in the referenced entity.
     In(EntityReference),
-    /// Equal to what is referred to.
+    /// The referenced entity.
     Eq(EntityReference),
-    /// Of this type.
+    /// An entity of this type.
     Is(Arc<EntityType>),
-    /// Of this type, and in what is referred to.
+    /// An entity of this type that is in the referenced entity.
     IsIn(Arc<EntityType>, EntityReference),
 }
 
 use PrincipalOrResourceConstraint as Asked;
 
 impl PrincipalOrResourceConstraint {
-    /// Anything.
+    /// Creates a constraint that allows any entity.
     pub fn any() -> PrincipalOrResourceConstraint {
         Asked::Any
     }
 
-    /// Equal to this uid.
+    /// Creates a constraint that requires equality with this uid.
     pub fn is_eq(euid: Arc<EntityUID>) -> PrincipalOrResourceConstraint {
         Asked::Eq(EntityReference::euid(euid))
     }
 
-    /// Equal to what the slot is bound to. The slot has no location.
+    /// Creates a constraint that requires equality with the uid bound to the slot. The slot has no location.
     pub fn is_eq_slot() -> PrincipalOrResourceConstraint {
         Asked::Eq(EntityReference::Slot(None))
     }
 
-    /// In this uid.
+    /// Creates a constraint that requires the entity to be in this uid.
     pub fn is_in(euid: Arc<EntityUID>) -> PrincipalOrResourceConstraint {
         Asked::In(EntityReference::euid(euid))
     }
 
-    /// In what the slot is bound to. The slot has no location.
+    /// Creates a constraint that requires the entity to be in the uid bound to the slot. The slot has no location.
     pub fn is_in_slot() -> PrincipalOrResourceConstraint {
         Asked::In(EntityReference::Slot(None))
     }
 
-    /// Of this type.
+    /// Creates a constraint that requires this entity type.
     pub fn is_entity_type(entity_type: Arc<EntityType>) -> PrincipalOrResourceConstraint {
         Asked::Is(entity_type)
     }
 
-    /// Of this type, and in this uid.
+    /// Creates a constraint that requires this entity type, and the entity to be in this uid.
     pub fn is_entity_type_in(
         entity_type: Arc<EntityType>,
         in_entity: Arc<EntityUID>,
@@ -202,13 +203,14 @@ impl PrincipalOrResourceConstraint {
         Asked::IsIn(entity_type, EntityReference::euid(in_entity))
     }
 
-    /// Of this type, and in what the slot is bound to. The slot has no location.
+    /// Creates a constraint that requires this entity type, and the entity to be in the uid bound to the slot. The slot
+    /// has no location.
     pub fn is_entity_type_in_slot(entity_type: Arc<EntityType>) -> PrincipalOrResourceConstraint {
         Asked::IsIn(entity_type, EntityReference::Slot(None))
     }
 
-    /// The expression of the constraint on this variable and its slot: `true` where anything will do. The node of a
-    /// slot has the location of its reference.
+    /// Returns the constraint as an expression on this variable and its slot. A constraint that allows any entity is
+    /// `true`. A slot node has the location of the reference.
     pub fn as_expr(&self, v: PrincipalOrResource) -> Expr {
         let variable = || Expr::var(Var::from(v));
         let named = |reference: &EntityReference| reference.into_expr(SlotId::from(v));
@@ -224,7 +226,7 @@ impl PrincipalOrResourceConstraint {
         }
     }
 
-    /// The text of the constraint on this variable and its slot, as `principal is T in ?principal`.
+    /// Returns the text of the constraint on this variable and its slot, for example `principal is T in ?principal`.
     pub fn display(&self, v: PrincipalOrResource) -> String {
         let named = |reference: &EntityReference| match reference {
             EntityReference::EUID(euid) => euid.to_string(),
@@ -239,12 +241,13 @@ impl PrincipalOrResourceConstraint {
         }
     }
 
-    /// The uid that is referred to, if there is one.
+    /// Returns the uid to which the constraint refers, if there is one.
     pub fn get_euid(&self) -> Option<&Arc<EntityUID>> {
         self.reference().and_then(EntityReference::uid)
     }
 
-    /// The types that are named: that of the uid, then the stated one, either where there is one.
+    /// Iterates over the entity types in the constraint: the type of the uid, and then the required type, if there are
+    /// any.
     pub fn iter_entity_type_names(&self) -> ConstraintTypeNames<'_> {
         ConstraintTypeNames {
             of_uid: self.get_euid().map(|euid| euid.entity_type()),
@@ -252,7 +255,7 @@ impl PrincipalOrResourceConstraint {
         }
     }
 
-    // The type that is stated, if one is.
+    // Returns the required type, if there is one.
     fn stated_type(&self) -> Option<&EntityType> {
         match self {
             Asked::Is(ty) | Asked::IsIn(ty, _) => Some(ty),
@@ -260,7 +263,7 @@ impl PrincipalOrResourceConstraint {
         }
     }
 
-    // What is referred to, if anything is.
+    // Returns the reference, if there is one.
     fn reference(&self) -> Option<&EntityReference> {
         match self {
             Asked::In(reference) | Asked::Eq(reference) | Asked::IsIn(_, reference) => {
@@ -270,7 +273,7 @@ impl PrincipalOrResourceConstraint {
         }
     }
 
-    /// Where the slot stands, if it is referred to.
+    /// Returns the location of the slot, if the constraint refers to the slot.
     pub(crate) fn slot(&self) -> Option<&Option<Loc>> {
         match self.reference() {
             Some(EntityReference::Slot(loc)) => Some(loc),
@@ -278,7 +281,7 @@ impl PrincipalOrResourceConstraint {
         }
     }
 
-    // The constraint with a uid in place of the slot.
+    // Replaces the slot by a uid.
     fn with_filled_slot(self, euid: Arc<EntityUID>) -> Asked {
         match self {
             Asked::Eq(EntityReference::Slot(_)) => Asked::is_eq(euid),
@@ -289,7 +292,8 @@ impl PrincipalOrResourceConstraint {
     }
 }
 
-/// The types that a constraint of a principal or a resource names: that of its uid, then the stated one.
+/// An iterator over the entity types in a constraint on the principal or the resource: the type of its uid, and then
+/// the required type.
 #[derive(Clone, Debug)]
 pub struct ConstraintTypeNames<'a> {
     of_uid: Option<&'a EntityType>,
@@ -304,7 +308,7 @@ impl<'a> Iterator for ConstraintTypeNames<'a> {
     }
 }
 
-// The constraint of one variable, which is one of both.
+// Defines the constraint type of one variable.
 macro_rules! constraints {
     ($($(#[$of:meta])* $kind:ident $variable:ident)*) => {$(
         $(#[$of])*
@@ -314,57 +318,57 @@ macro_rules! constraints {
         }
 
         impl $kind {
-            /// The variable under this constraint.
+            /// Creates a constraint on the variable.
             pub fn new(constraint: PrincipalOrResourceConstraint) -> $kind {
                 $kind { constraint }
             }
 
-            /// The constraint.
+            /// Returns the inner constraint.
             pub fn as_inner(&self) -> &PrincipalOrResourceConstraint {
                 &self.constraint
             }
 
-            /// The constraint, by value.
+            /// Returns the inner constraint, by value.
             pub fn into_inner(self) -> PrincipalOrResourceConstraint {
                 self.constraint
             }
 
-            /// The expression of the constraint, as [`PrincipalOrResourceConstraint::as_expr`] makes it.
+            /// Returns the constraint as an expression; see [`PrincipalOrResourceConstraint::as_expr`].
             pub fn as_expr(&self) -> Expr {
                 self.constraint.as_expr(PrincipalOrResource::$variable)
             }
 
-            /// Anything.
+            /// Creates a constraint that allows any entity.
             pub fn any() -> $kind {
                 $kind::new(Asked::any())
             }
 
-            /// Equal to this uid.
+            /// Creates a constraint that requires equality with this uid.
             pub fn is_eq(euid: Arc<EntityUID>) -> $kind {
                 $kind::new(Asked::is_eq(euid))
             }
 
-            /// Equal to what the slot is bound to.
+            /// Creates a constraint that requires equality with the uid bound to the slot.
             pub fn is_eq_slot() -> $kind {
                 $kind::new(Asked::is_eq_slot())
             }
 
-            /// In this uid.
+            /// Creates a constraint that requires the entity to be in this uid.
             pub fn is_in(euid: Arc<EntityUID>) -> $kind {
                 $kind::new(Asked::is_in(euid))
             }
 
-            /// In what the slot is bound to.
+            /// Creates a constraint that requires the entity to be in the uid bound to the slot.
             pub fn is_in_slot() -> $kind {
                 $kind::new(Asked::is_in_slot())
             }
 
-            /// Of this type.
+            /// Creates a constraint that requires this entity type.
             pub fn is_entity_type(entity_type: Arc<EntityType>) -> $kind {
                 $kind::new(Asked::is_entity_type(entity_type))
             }
 
-            /// Of this type, and in this uid.
+            /// Creates a constraint that requires this entity type, and the entity to be in this uid.
             pub fn is_entity_type_in(
                 entity_type: Arc<EntityType>,
                 in_entity: Arc<EntityUID>,
@@ -372,12 +376,12 @@ macro_rules! constraints {
                 $kind::new(Asked::is_entity_type_in(entity_type, in_entity))
             }
 
-            /// Of this type, and in what the slot is bound to.
+            /// Creates a constraint that requires this entity type, and the entity to be in the uid bound to the slot.
             pub fn is_entity_type_in_slot(entity_type: Arc<EntityType>) -> $kind {
                 $kind::new(Asked::is_entity_type_in_slot(entity_type))
             }
 
-            /// The constraint with this uid in place of the slot, if it refers to the slot; else it stays as it is.
+            /// Replaces the slot by this uid. A constraint without the slot is returned unchanged.
             pub fn with_filled_slot(self, euid: Arc<EntityUID>) -> $kind {
                 $kind::new(self.constraint.with_filled_slot(euid))
             }
@@ -392,8 +396,7 @@ macro_rules! constraints {
 }
 
 constraints! {
-    /// What the principal of a request has to be. It is written as the constraint on `principal`, with `?principal`
-    /// for its slot.
+    /// A constraint on the principal of a request. `Display` writes it with `principal` and its slot `?principal`.
     ///
     /// ```
     /// use cedar_store_proved::ast::{EntityUID, PrincipalConstraint};
@@ -404,7 +407,6 @@ constraints! {
     /// assert_eq!(slot.with_filled_slot(alice.clone()), PrincipalConstraint::is_eq(alice));
     /// ```
     PrincipalConstraint Principal
-    /// What the resource of a request has to be. It is written as the constraint on `resource`, with `?resource` for
-    /// its slot.
+    /// A constraint on the resource of a request. `Display` writes it with `resource` and its slot `?resource`.
     ResourceConstraint Resource
 }

@@ -1,18 +1,18 @@
-//! Slots of templates, variables of requests, and what is not known.
+//! Slots of templates, variables of requests, and unknown values.
 use crate::name::{escaped, Loc};
 use crate::uid::{EntityType, EntityUID};
 use std::collections::HashMap;
 use std::fmt;
 use std::hash::{Hash, Hasher};
 
-/// The id of a slot of a template: there are three, in this order.
+/// The id of a template's slot. There are three, in this order.
 #[derive(Clone, Copy, Debug, PartialEq, Eq, PartialOrd, Ord, Hash)]
 pub enum SlotId {
-    /// Written `?principal`.
+    /// The slot `?principal`.
     Principal,
-    /// Written `?action`.
+    /// The slot `?action`.
     Action,
-    /// Written `?resource`.
+    /// The slot `?resource`.
     Resource,
 }
 
@@ -20,17 +20,17 @@ impl SlotId {
     /// All slot ids, in their order.
     pub const ALL: [SlotId; 3] = [SlotId::Principal, SlotId::Action, SlotId::Resource];
 
-    /// The id of the principal's slot.
+    /// Returns the id of the principal's slot.
     pub fn principal() -> SlotId {
         SlotId::Principal
     }
 
-    /// The id of the action's slot.
+    /// Returns the id of the action's slot.
     pub fn action() -> SlotId {
         SlotId::Action
     }
 
-    /// The id of the resource's slot.
+    /// Returns the id of the resource's slot.
     pub fn resource() -> SlotId {
         SlotId::Resource
     }
@@ -46,7 +46,7 @@ impl fmt::Display for SlotId {
     }
 }
 
-/// What the slots of a template are bound to.
+/// Bindings of template slots: a uid for each bound slot.
 ///
 /// ```
 /// use cedar_store_proved::ast::{EntityUID, SlotEnv, SlotId};
@@ -56,12 +56,12 @@ impl fmt::Display for SlotId {
 /// ```
 pub type SlotEnv = HashMap<SlotId, EntityUID>;
 
-/// A slot that stands somewhere: its id, and where it stands, which no comparison looks at.
+/// An occurrence of a slot: its id and its location. Comparisons ignore the location.
 #[derive(Clone, Debug)]
 pub struct Slot {
-    /// Which slot it is.
+    /// The id of the slot.
     pub id: SlotId,
-    /// Where it stands, if that is known.
+    /// The location, if it is known.
     pub loc: Option<Loc>,
 }
 
@@ -82,13 +82,13 @@ impl Hash for Slot {
 /// A variable of a request.
 #[derive(Clone, Copy, Debug, PartialEq, Eq, Hash)]
 pub enum Var {
-    /// Written `principal`.
+    /// The variable `principal`.
     Principal,
-    /// Written `action`.
+    /// The variable `action`.
     Action,
-    /// Written `resource`.
+    /// The variable `resource`.
     Resource,
-    /// Written `context`.
+    /// The variable `context`.
     Context,
 }
 
@@ -108,19 +108,19 @@ impl fmt::Display for Var {
     }
 }
 
-/// The type that a value will have: that of an entity.
+/// The type of a value. Only entity types are represented.
 #[derive(Clone, Debug, PartialEq, Eq, Hash)]
 pub enum StaticType {
-    /// That of entities of a type.
+    /// An entity.
     Entity {
-        /// The type of the entities.
+        /// The type of the entity.
         ty: EntityType,
     },
 }
 
-/// What has a type that is known.
+/// Items with a known type.
 pub trait StaticallyTyped {
-    /// The type.
+    /// Returns the type.
     fn type_of(&self) -> StaticType;
 }
 
@@ -131,7 +131,7 @@ impl StaticallyTyped for EntityUID {
     }
 }
 
-/// A value that is not known yet: its name, and the type that it will have where that is known.
+/// An unknown value: its name, and its type, if it is known.
 ///
 /// ```
 /// use cedar_store_proved::ast::{EntityType, StaticType, Unknown};
@@ -141,14 +141,14 @@ impl StaticallyTyped for EntityUID {
 /// ```
 #[derive(Clone, Debug, PartialEq, Eq, Hash)]
 pub struct Unknown {
-    /// The name by which it will be given.
+    /// The name under which the value will be provided.
     pub name: String,
-    /// The type that it will have, if that is known.
+    /// The type of the value, if it is known.
     pub type_annotation: Option<StaticType>,
 }
 
 impl Unknown {
-    /// An unknown of this name, of any type.
+    /// Creates an unknown with this name, of any type.
     pub fn new_untyped(name: impl Into<String>) -> Unknown {
         Unknown {
             name: name.into(),
@@ -156,7 +156,7 @@ impl Unknown {
         }
     }
 
-    /// An unknown of this name and type.
+    /// Creates an unknown with this name and this type.
     pub fn new_with_type(name: impl Into<String>, ty: StaticType) -> Unknown {
         Unknown {
             name: name.into(),

@@ -17,36 +17,38 @@ use std::borrow::Borrow;
 use std::collections::HashSet;
 use std::fmt;
 
-// As many entities are written by one call of the library.
+// The maximum number of entities for which the text of the whole store is requested in one call of the library.
 const FEW: usize = 100;
 
-/// How a call sees to it that ancestors are closed.
+/// The mode of a call: how it ensures that ancestors are complete.
 ///
-/// What a call touches is what it puts in or takes out, and what has that among its ancestors. A removal gives what it
-/// touched what it still reaches, in each mode.
+/// A call affects the entities that it adds or removes, and the entities that have one of them as an ancestor. In every
+/// mode, a removal repairs the affected entities: they get all ancestors that they still reach.
 #[derive(Clone, Copy, Debug, Default, PartialEq, Eq, Hash)]
 pub enum TCComputation {
-    /// What is touched gets all that it reaches as ancestors, in a removal too, and the call is refused where one of it
-    /// reaches itself. Nothing else is checked.
+    /// The affected entities get all ancestors that they reach, after a removal too. An error is returned if one of
+    /// them reaches itself. Nothing else is checked.
     #[default]
     ComputeNow,
-    /// What is put in is taken to have all its ancestors: nothing is computed for it. A removal repairs. Then the whole
-    /// store is checked, and refused where an ancestor of an ancestor is missing or an entity is its own.
+    /// Added entities are stored without changes, and a removal repairs the affected entities. Then the whole store is
+    /// checked. An error is returned if an ancestor of an ancestor is missing, or if an entity is its own ancestor.
     EnforceAlreadyComputed,
-    /// What is put in is taken so too, and a removal repairs, but nothing is checked, and no cycle is refused.
+    /// Added entities are stored without changes, and a removal repairs the affected entities. Nothing is checked, so
+    /// no cycle is reported.
     AssumeAlreadyComputed,
 }
 
-/// A store of entities.
+/// A store of entities, keyed by uid.
 ///
-/// The calls that the crate in Rust has too have its names and take and give what they do there: a changing one takes
-/// the store and gives it back. Beside them stand calls with uids, as [`Entities::get`], which are one call of the
-/// library each and answer a [`Refusal`] for want of memory too, and `add`, `upsert` and `remove`, which change the
-/// store where it stands. A uid is an [`EntityUID`] there, or a text, which is refused as `NotAUid` where it is none.
+/// Calls that the package `cedar-store` also has have the same names, arguments and results. An edit of this kind
+/// consumes the store and returns it. In addition, there are calls with uids, for example [`Entities::get`]. Each of
+/// them calls the library once and returns an error if an allocation fails. Also, `add`, `upsert` and `remove` change
+/// the store in place. In these calls a uid is an [`EntityUID`] or a text. The error of a text that is not a uid is
+/// `NotAUid`.
 ///
-/// `==` looks at the uids alone and at whether it is partial; [`Entities::deep_eq`] looks at the rest too. What
-/// iterates over it, compares it by `==`, clones it or asks a [`StoredEntity`] ends the program where memory is
-/// refused, as std's own lists do.
+/// `==` compares only the uids and whether the stores are partial. [`Entities::deep_eq`] also compares the attributes,
+/// tags and ancestors of the entities, but not which ancestors are parents. Iteration, `==`, `clone` and the methods of [`StoredEntity`] panic if an allocation fails, as the collections of the
+/// standard library abort.
 ///
 /// ```
 /// use cedar_store_proved::ast::{Entity, EntityUID};
@@ -62,7 +64,8 @@ pub enum TCComputation {
 /// assert!(!store.is_descendant_of(&alice, &all).unwrap());
 /// ```
 ///
-/// It is of the thread that made it: neither `Send` nor `Sync`. What [`Entities::copy_apart`] makes is `Send`.
+/// A store belongs to the thread that created it: it is neither `Send` nor `Sync`. The result of
+/// [`Entities::copy_apart`] is `Send`.
 ///
 /// ```compile_fail
 /// fn sends<T: Send>(_: T) {}
@@ -86,7 +89,7 @@ impl Entities {
         }
     }
 
-    // The store of a handle, whose numbers of uids are of no other.
+    // Creates a store from a handle. Its numbers of uids belong to no other store.
     pub(crate) fn of_held(held: Held<Stores>) -> Entities {
         let id = StoreId::fresh();
         Entities { held, id }
@@ -96,14 +99,20 @@ impl Entities {
         Refusal::judged(status, || self.held.words())
     }
 
-    /// The store without entities, with a key that is drawn. Ends the program where its few bytes of memory are
-    /// refused; [`Entities::with_key`] does not.
+    /// Creates an empty store, with a random key.
+    ///
+    /// # Panics
+    ///
+    /// Panics if the allocation of a few bytes fails. [`Entities::with_key`] returns an error instead.
     pub fn new() -> Entities {
-        Entities::with_key(Key::drawn()).expect("memory for an empty store")
+        Entities::with_key(Key::drawn()).expect("cannot allocate an empty store")
     }
 
-    /// The store without entities, whose map, and those of its copies and slices, hash by this key. Refused by
-    /// `Memory`.
+    /// Creates an empty store. The hash maps of the store, of its copies and of its slices use this key.
+    ///
+    /// # Errors
+    ///
+    /// - `Memory`: an allocation failed.
     ///
     /// ```
     /// use cedar_store_proved::{Entities, Key};
@@ -114,11 +123,14 @@ impl Entities {
         Entities::of(Held::new(key))
     }
 
-    /// A store of these entities, with a key that is drawn. An entity that comes twice is one, if both have the same
-    /// attributes, tags and ancestors.
+    /// Creates a store of these entities, with a random key. Entities with the same uid must be deeply equal.
     ///
-    /// Refused by `Duplicate`, by `TransitiveClosureError` for a cycle, and where that is enforced for a missing
-    /// ancestor, and by `Refused` for want of memory and for a value or an expression of more than 1,000 levels.
+    /// # Errors
+    ///
+    /// - `Duplicate`: two entities of the list have the same uid, but are not deeply equal.
+    /// - `TransitiveClosureError`: an entity reaches itself, or in `EnforceAlreadyComputed` an ancestor of an ancestor
+    ///   is missing.
+    /// - `Refused`: a value or an expression has more than 1,000 levels, or an allocation failed.
     ///
     /// ```
     /// use cedar_store_proved::ast::{Entity, EntityUID};
@@ -138,7 +150,7 @@ impl Entities {
         Ok(store)
     }
 
-    // Entities that have parents alone cross without the rest.
+    // Changes the store. If the entities have only parents, uses the shorter format of the library.
     fn changed(
         &mut self,
         change: Change,
@@ -156,11 +168,18 @@ impl Entities {
         self.judged(status)
     }
 
-    /// The store with these entities too. One that it has already has to have the same attributes, tags and ancestors,
-    /// and changes nothing.
+    /// Adds entities to the store. An entity whose uid is in the store must be deeply equal to the stored entity, which
+    /// is kept.
     ///
-    /// Refused as [`Entities::from_entities`] is; the store is gone then: who wants it takes a [`Entities::try_clone`]
-    /// first.
+    /// # Errors
+    ///
+    /// - `Duplicate`: an entity differs from a stored one or an earlier one with the same uid.
+    /// - `TransitiveClosureError`: an entity reaches itself, or in `EnforceAlreadyComputed` an ancestor of an ancestor
+    ///   is missing.
+    /// - `Refused`: a value or an expression has more than 1,000 levels, or an allocation failed.
+    ///
+    /// After an error the store is dropped. To keep it, copy it before with [`Entities::try_clone`], or use
+    /// [`Entities::add`].
     ///
     /// ```
     /// use cedar_store_proved::ast::{Entity, EntityUID};
@@ -181,9 +200,16 @@ impl Entities {
         Ok(self)
     }
 
-    /// The store with these entities, each in the place of any with its uid; of several with one uid the last counts.
+    /// Overwrites entities. Each entity is inserted, and replaces the entity with its uid. If several have the same
+    /// uid, the last one is used.
     ///
-    /// Refused as [`Entities::add_entities`] is, but for `Duplicate`.
+    /// # Errors
+    ///
+    /// - `TransitiveClosureError`: an entity reaches itself, or in `EnforceAlreadyComputed` an ancestor of an ancestor
+    ///   is missing.
+    /// - `Refused`: a value or an expression has more than 1,000 levels, or an allocation failed.
+    ///
+    /// After an error the store is dropped.
     pub fn upsert_entities(
         mut self,
         entities: impl IntoIterator<Item = impl Borrow<Entity>>,
@@ -193,11 +219,15 @@ impl Entities {
         Ok(self)
     }
 
-    /// The store without the entities with these uids, which are no parents either then. Uids that it lacks change
-    /// nothing.
+    /// Removes the entities with the uids, also as parents. A uid that is not in the store has no effect.
     ///
-    /// Refused as [`Entities::add_entities`] is, but for `Duplicate` and depth; over a computed store for want of
-    /// memory alone.
+    /// # Errors
+    ///
+    /// - `TransitiveClosureError`: an entity reaches itself, or in `EnforceAlreadyComputed` an ancestor of an ancestor
+    ///   is missing. This never happens in a store that was built only with `ComputeNow`.
+    /// - `Refused`: an allocation failed.
+    ///
+    /// After an error the store is dropped.
     pub fn remove_entities(
         mut self,
         uids: impl IntoIterator<Item = EntityUID>,
@@ -207,9 +237,17 @@ impl Entities {
         Ok(self)
     }
 
-    /// Adds entities where the store stands, as [`Entities::add_entities`] does.
+    /// Adds entities in place, as [`Entities::add_entities`] does.
     ///
-    /// A refusal leaves the store as it was, but that one by `Memory` may leave it without entities.
+    /// # Errors
+    ///
+    /// - `Duplicate`: an entity differs from a stored one or an earlier one with the same uid.
+    /// - `Cycle`: an entity reaches itself.
+    /// - `NotClosed`: the mode is `EnforceAlreadyComputed`, and an ancestor of an ancestor is missing.
+    /// - `TooDeep`: a value or an expression has more than 1,000 levels.
+    /// - `Memory`: an allocation failed. The store may be empty afterwards.
+    ///
+    /// After any other error the store is unchanged.
     ///
     /// ```
     /// use cedar_store_proved::ast::{Entity, EntityUID, Value};
@@ -229,8 +267,16 @@ impl Entities {
         self.changed(Change::Add, entities, mode)
     }
 
-    /// Puts entities over the store where it stands, as [`Entities::upsert_entities`] does. A refusal leaves what that
-    /// of [`Entities::add`] leaves.
+    /// Overwrites entities in place, as [`Entities::upsert_entities`] does.
+    ///
+    /// # Errors
+    ///
+    /// - `Cycle`: an entity reaches itself.
+    /// - `NotClosed`: the mode is `EnforceAlreadyComputed`, and an ancestor of an ancestor is missing.
+    /// - `TooDeep`: a value or an expression has more than 1,000 levels.
+    /// - `Memory`: an allocation failed. The store may be empty afterwards.
+    ///
+    /// After any other error the store is unchanged.
     pub fn upsert(
         &mut self,
         entities: impl IntoIterator<Item = impl Borrow<Entity>>,
@@ -239,8 +285,16 @@ impl Entities {
         self.changed(Change::Upsert, entities, mode)
     }
 
-    /// Takes entities out where the store stands, as [`Entities::remove_entities`] does. A refusal leaves what that of
-    /// [`Entities::add`] leaves.
+    /// Removes entities in place, as [`Entities::remove_entities`] does.
+    ///
+    /// # Errors
+    ///
+    /// - `NotAUid`: a text is not a uid.
+    /// - `Cycle`: an entity reaches itself.
+    /// - `NotClosed`: the mode is `EnforceAlreadyComputed`, and an ancestor of an ancestor is missing.
+    /// - `Memory`: an allocation failed. The store may be empty afterwards.
+    ///
+    /// After any other error the store is unchanged.
     pub fn remove<U: AsRef<str>>(
         &mut self,
         uids: impl IntoIterator<Item = U>,
@@ -250,25 +304,33 @@ impl Entities {
         self.judged(status)
     }
 
-    /// How many entities there are.
+    /// Returns the number of entities.
     pub fn len(&self) -> usize {
         self.held.len()
     }
 
-    /// Whether there is none.
+    /// Returns whether the store has no entities.
     pub fn is_empty(&self) -> bool {
         self.len() == 0
     }
 
-    /// Whether there is an entity with a uid. Refused by `NotAUid` and `Memory`.
+    /// Returns whether the store has an entity with this uid.
+    ///
+    /// # Errors
+    ///
+    /// - `NotAUid`: the text is not a uid.
+    /// - `Memory`: an allocation failed.
     pub fn contains(&self, uid: impl AsRef<str>) -> Result<bool, Refusal> {
         let (status, answer) = self.held.has(uid.as_ref());
         self.judged(status)?;
         Ok(answer)
     }
 
-    /// The entity with a uid, if there is one: one call of the library. Ends the program where memory is refused;
-    /// [`Entities::contains`] does not.
+    /// Looks up the entity with this uid. Calls the library once.
+    ///
+    /// # Panics
+    ///
+    /// Panics if an allocation fails. [`Entities::contains`] returns an error instead.
     ///
     /// ```
     /// use cedar_store_proved::ast::{Entity, EntityUID};
@@ -290,25 +352,35 @@ impl Entities {
         }
     }
 
-    /// The entity with a uid, if there is one, as [`Entities::entity`] gives it.
+    /// Returns the entity with this uid, if the store has one.
+    ///
+    /// # Panics
+    ///
+    /// Panics if an allocation fails.
     pub fn stored(&self, uid: &EntityUID) -> Option<StoredEntity<'_>> {
         self.entity(uid).data()
     }
 
-    /// The store, which is partial now: an entity that it lacks is not known then. A copy of it is partial, a slice is
-    /// not.
+    /// Returns the store as a partial one, in which an entity that is absent is unknown. A copy of a partial store is
+    /// partial; a slice is not.
     pub fn partial(mut self) -> Entities {
         self.held.partial();
         self
     }
 
-    /// Whether it is partial.
+    /// Returns whether the store is partial.
     pub fn is_partial(&self) -> bool {
         self.held.is_partial()
     }
 
-    /// Whether an entity is a descendant of a uid, over parents, however many: one call of the library, and no text is
-    /// copied. Refused by `NoEntity` where the store has no entity with the first uid, by `NotAUid` and `Memory`.
+    /// Returns whether an entity is a descendant of a uid: whether it reaches the uid over any number of parents. Calls
+    /// the library once and copies no text.
+    ///
+    /// # Errors
+    ///
+    /// - `NotAUid`: a text is not a uid.
+    /// - `NoEntity`: the store has no entity with the first uid.
+    /// - `Memory`: an allocation failed.
     pub fn is_descendant_of(
         &self,
         child: impl AsRef<str>,
@@ -320,7 +392,11 @@ impl Entities {
         )
     }
 
-    /// Whether a uid is a parent of an entity. Refused as [`Entities::is_descendant_of`] is.
+    /// Returns whether a uid is a parent of an entity.
+    ///
+    /// # Errors
+    ///
+    /// The errors of [`Entities::is_descendant_of`].
     pub fn is_child_of(
         &self,
         child: impl AsRef<str>,
@@ -329,8 +405,12 @@ impl Entities {
         self.answered(self.held.is_child_of(child.as_ref(), parent.as_ref()))
     }
 
-    /// Whether a uid is an ancestor of an entity and, in a store that was computed, no parent of it. Refused as
-    /// [`Entities::is_descendant_of`] is.
+    /// Returns whether a uid is an indirect ancestor of an entity. In a store that was built only with `ComputeNow`,
+    /// these are the ancestors that are not parents.
+    ///
+    /// # Errors
+    ///
+    /// The errors of [`Entities::is_descendant_of`].
     pub fn is_indirect_descendant_of(
         &self,
         child: impl AsRef<str>,
@@ -342,82 +422,121 @@ impl Entities {
         )
     }
 
-    // What a call wrote at a status.
+    // Returns the output of a call, if its status is 0.
     pub(crate) fn answered<T>(&self, (status, answer): (u32, T)) -> Result<T, Refusal> {
         self.judged(status)?;
         Ok(answer)
     }
 
-    // The texts of the answer that a call made, as uids.
+    // Returns the texts of the last answer, as uids.
     fn named(&self, status: u32) -> Result<Vec<EntityUID>, Refusal> {
         self.judged(status)?;
         Ok(self.held.answer(EntityUID::written))
     }
 
-    // The texts of the answer that a call made.
+    // Returns the texts of the last answer.
     fn told(&self, status: u32) -> Result<Vec<String>, Refusal> {
         self.judged(status)?;
         Ok(self.held.answer(str::to_owned))
     }
 
-    /// The ancestors of an entity, in the order of uids. Refused as [`Entities::is_descendant_of`] is.
+    /// Returns the ancestors of an entity, in ascending order of uid.
+    ///
+    /// # Errors
+    ///
+    /// The errors of [`Entities::is_descendant_of`].
     pub fn ancestors(&self, uid: impl AsRef<str>) -> Result<Vec<EntityUID>, Refusal> {
         self.named(self.held.ancestors(uid.as_ref()))
     }
 
-    /// The parents of an entity, in the order of uids. Refused as [`Entities::is_descendant_of`] is.
+    /// Returns the parents of an entity, in ascending order of uid.
+    ///
+    /// # Errors
+    ///
+    /// The errors of [`Entities::is_descendant_of`].
     pub fn parents(&self, uid: impl AsRef<str>) -> Result<Vec<EntityUID>, Refusal> {
         self.named(self.held.parents(uid.as_ref()))
     }
 
-    /// The ancestors of an entity that are, in a store that was computed, no parents of it, in the order of uids.
-    /// Refused as [`Entities::is_descendant_of`] is.
+    /// Returns the indirect ancestors of an entity, in ascending order of uid. In a store that was built only with
+    /// `ComputeNow`, these are the ancestors that are not parents.
+    ///
+    /// # Errors
+    ///
+    /// The errors of [`Entities::is_descendant_of`].
     pub fn indirect_ancestors(&self, uid: impl AsRef<str>) -> Result<Vec<EntityUID>, Refusal> {
         self.named(self.held.indirect_ancestors(uid.as_ref()))
     }
 
-    /// The uids of all entities, each once, in an order that the key picks. Refused by `Memory` alone.
+    /// Returns the uids of all entities, each once. Their order depends on the key of the store.
+    ///
+    /// # Errors
+    ///
+    /// - `Memory`: an allocation failed.
     pub fn uids(&self) -> Result<Vec<EntityUID>, Refusal> {
         self.named(self.held.uids())
     }
 
-    /// The entities, each once, in an order that the key picks. Ends the program where memory is refused;
-    /// [`Entities::uids`] does not.
+    /// Iterates over the entities, each once. Their order depends on the key of the store.
+    ///
+    /// # Panics
+    ///
+    /// Panics if an allocation fails. [`Entities::uids`] returns an error instead.
     pub fn iter(&self) -> Iter<'_> {
         Iter::of(self)
     }
 
-    /// The keys of an entity's attributes, in the order of their bytes. Refused as [`Entities::is_descendant_of`] is.
+    /// Returns the keys of the attributes of an entity, in byte order.
+    ///
+    /// # Errors
+    ///
+    /// The errors of [`Entities::is_descendant_of`].
     pub fn keys(&self, uid: impl AsRef<str>) -> Result<Vec<String>, Refusal> {
         self.told(self.held.keys(uid.as_ref()))
     }
 
-    /// The keys of an entity's tags, in the order of their bytes. Refused as [`Entities::is_descendant_of`] is.
+    /// Returns the keys of the tags of an entity, in byte order.
+    ///
+    /// # Errors
+    ///
+    /// The errors of [`Entities::is_descendant_of`].
     pub fn tag_keys(&self, uid: impl AsRef<str>) -> Result<Vec<String>, Refusal> {
         self.told(self.held.tag_keys(uid.as_ref()))
     }
 
-    /// How many attributes an entity has. Refused as [`Entities::is_descendant_of`] is.
+    /// Returns the number of attributes of an entity.
+    ///
+    /// # Errors
+    ///
+    /// The errors of [`Entities::is_descendant_of`].
     pub fn attrs_len(&self, uid: impl AsRef<str>) -> Result<usize, Refusal> {
         self.answered(self.held.attrs_len(uid.as_ref()))
     }
 
-    /// How many tags an entity has. Refused as [`Entities::is_descendant_of`] is.
+    /// Returns the number of tags of an entity.
+    ///
+    /// # Errors
+    ///
+    /// The errors of [`Entities::is_descendant_of`].
     pub fn tags_len(&self, uid: impl AsRef<str>) -> Result<usize, Refusal> {
         self.answered(self.held.tags_len(uid.as_ref()))
     }
 
-    // The value whose nodes a call told, if it told one.
+    // Returns the last value of the library, if the call found one.
     fn valued(&self, given: (u32, bool)) -> Result<Option<PartialValue>, Refusal> {
         if !self.answered(given)? {
             return Ok(None);
         }
         let value = nodes::read(&self.held.answer_text(), &self.held.nodes());
-        Ok(Some(value.expect("the library writes nodes of a value")))
+        Ok(Some(value.expect("the library returns a value")))
     }
 
-    /// The attribute of an entity at a key, if it has one: one call of the library, and two that copy it out. Refused
-    /// as [`Entities::is_descendant_of`] is.
+    /// Returns the attribute of an entity with this key, if it has one. Calls the library once, and twice more to copy
+    /// the value.
+    ///
+    /// # Errors
+    ///
+    /// The errors of [`Entities::is_descendant_of`].
     ///
     /// ```
     /// use cedar_store_proved::ast::{Entity, EntityUID, Value};
@@ -432,7 +551,11 @@ impl Entities {
         self.valued(self.held.get(uid.as_ref(), key))
     }
 
-    /// The tag of an entity at a key, as [`Entities::get`] gives an attribute.
+    /// Returns the tag of an entity with this key, if it has one. Otherwise works like [`Entities::get`].
+    ///
+    /// # Errors
+    ///
+    /// The errors of [`Entities::is_descendant_of`].
     pub fn get_tag(
         &self,
         uid: impl AsRef<str>,
@@ -441,7 +564,7 @@ impl Entities {
         self.valued(self.held.get_tag(uid.as_ref(), key))
     }
 
-    // All of an entity. A key that is listed has a value.
+    // Reads a whole entity. Each listed key has a value.
     pub(crate) fn whole(&self, uid: EntityUID) -> Result<Entity, Refusal> {
         let (mut attrs, mut tags) = (Vec::new(), Vec::new());
         for key in self.keys(&uid)? {
@@ -460,14 +583,20 @@ impl Entities {
         ))
     }
 
-    /// Whether the entities that two stores have with a uid have the same attributes, tags and ancestors. Refused by
-    /// `NoEntity` where one has none, by `NotAUid` and `Memory`.
+    /// Returns whether the entities with a uid in this store and in another store are deeply equal: whether they have
+    /// the same attributes, tags and ancestors.
+    ///
+    /// # Errors
+    ///
+    /// - `NotAUid`: the text is not a uid.
+    /// - `NoEntity`: one of the stores has no entity with this uid.
+    /// - `Memory`: an allocation failed.
     pub fn entity_equal(&self, uid: impl AsRef<str>, other: &Entities) -> Result<bool, Refusal> {
         self.answered(self.held.has_equal(uid.as_ref(), &other.held))
     }
 
-    // The text of the store, in parts. The call that makes the whole looks through all entities for each, so it is
-    // asked for few.
+    // Returns the text of the store, in parts. The call for the text of the whole store scans all entities for each
+    // entity, so it is used only for small stores.
     fn texts(&self) -> Result<Vec<String>, Refusal> {
         if self.len() <= FEW {
             return self.told(self.held.text());
@@ -479,19 +608,37 @@ impl Entities {
             .collect()
     }
 
-    // The text of the entity with a uid.
+    // Returns the text of the entity with this uid.
     pub(crate) fn text_of(&self, uid: &EntityUID) -> Result<String, Refusal> {
         self.judged(self.held.entity_text(uid.as_str()))?;
         Ok(self.held.answer_text())
     }
 
-    /// Looks for what is wrong with the store: with its ancestors, and then with the entity that has the least uid of
-    /// those with a fault. Refused by that, from `Cycle` to `ReservedKey`, and by `Memory`; the store stays.
+    /// Checks whether the store is valid. Does not change the store.
+    ///
+    /// # Errors
+    ///
+    /// The ancestors are checked first:
+    ///
+    /// - `NotClosed`: an ancestor of an ancestor is missing.
+    /// - `Cycle`: the ancestors are closed, and an entity is its own ancestor.
+    ///
+    /// Then each entity is checked. The first fault of the invalid entity with the least uid is reported:
+    /// `SelfAncestor`, `DuplicateAncestor`, `ActionParentIsNotAction` or `ReservedKey`; see [`Entity::validate`].
+    ///
+    /// The call returns `Memory` if an allocation failed.
     pub fn validate(&self) -> Result<(), Refusal> {
         self.judged(self.held.validate())
     }
 
-    /// The store, unless something is wrong with it, as [`Entities::validate`] says.
+    /// Returns the store itself if it is valid.
+    ///
+    /// # Errors
+    ///
+    /// The fault that [`Entities::validate`] reports. A fault of the ancestors is a `TransitiveClosureError`. After an
+    /// error the store is dropped.
+    ///
+    /// - `Refused`: an allocation failed.
     ///
     /// ```
     /// use cedar_store_proved::ast::{Entity, EntityUID};
@@ -506,8 +653,13 @@ impl Entities {
         Ok(self)
     }
 
-    /// The slice of the store at some uids: the entities with these, and those that it has among their ancestors.
-    /// Refused by `NotAUid` and `Memory`. The function [`slice`](crate::slice) is that of the crate in Rust.
+    /// Returns a slice of the store at these uids: the entities with these uids, and their ancestors that the store
+    /// contains. The function [`slice`](crate::slice) has the signature of the package `cedar-store`.
+    ///
+    /// # Errors
+    ///
+    /// - `NotAUid`: a text is not a uid.
+    /// - `Memory`: an allocation failed.
     pub fn slice<U: AsRef<str>>(
         &self,
         uids: impl IntoIterator<Item = U>,
@@ -515,8 +667,13 @@ impl Entities {
         Entities::of(self.held.slice(&Lists::of_texts(uids)))
     }
 
-    /// The slice at some uids, as [`Entities::slice`] makes it, which shares nothing with the store: it may go to another
-    /// thread. Refused as that is.
+    /// Returns a slice of the store at these uids, as [`Entities::slice`] does. The slice shares nothing with the
+    /// store, so it can be sent to another thread.
+    ///
+    /// # Errors
+    ///
+    /// - `NotAUid`: a text is not a uid.
+    /// - `Memory`: an allocation failed.
     pub fn slice_apart<U: AsRef<str>>(
         &self,
         uids: impl IntoIterator<Item = U>,
@@ -524,8 +681,11 @@ impl Entities {
         Entities::apart(self.held.slice_apart(&Lists::of_texts(uids)))
     }
 
-    /// A copy, which shares nothing with the store: it may go to another thread. All that the store holds is copied.
-    /// Refused by `Memory`.
+    /// Returns a deep copy of the store, which can be sent to another thread. Copies the whole content of the store.
+    ///
+    /// # Errors
+    ///
+    /// - `Memory`: an allocation failed.
     pub fn copy_apart(&self) -> Result<ApartEntities, Refusal> {
         Entities::apart(self.held.copy_apart())
     }
@@ -537,19 +697,23 @@ impl Entities {
         }
     }
 
-    /// A copy, which shares the entities. Refused by `Memory`.
+    /// Returns a copy that shares the entities.
+    ///
+    /// # Errors
+    ///
+    /// - `Memory`: an allocation failed.
     pub fn try_clone(&self) -> Result<Entities, Refusal> {
         Entities::of(self.held.copy())
     }
 
-    /// Whether both have the same uids and under each of them entities with the same attributes, tags and ancestors,
-    /// and both are partial or neither is. Takes no memory.
+    /// Returns whether both stores are partial or neither is, and both have the same uids with entities that have the
+    /// same attributes, tags and ancestors. It does not matter which ancestors are parents. Does not allocate.
     pub fn deep_eq(&self, other: &Entities) -> bool {
         self.held.is_equal(&other.held)
     }
 }
 
-// What stands for an entity that a partial store lacks.
+// Returns the unknown for an entity that is absent from a partial store.
 fn unknown_of(uid: &EntityUID) -> Expr {
     Expr::unknown(Unknown::new_with_type(uid.as_str(), uid.type_of()))
 }
@@ -573,21 +737,30 @@ impl IntoIterator for Entities {
 }
 
 impl FromIterator<Entity> for Result<Entities, EntitiesError> {
-    /// The store of entities, computed, as [`Entities::from_entities`] makes it.
+    /// Creates a store of these entities, with [`Entities::from_entities`] and `ComputeNow`.
     fn from_iter<I: IntoIterator<Item = Entity>>(entities: I) -> Self {
         Entities::from_entities(entities, TCComputation::ComputeNow)
     }
 }
 
 impl Clone for Entities {
-    /// A copy, which shares the entities. Ends the program where memory is refused; [`Entities::try_clone`] does not.
+    /// Returns a copy that shares the entities.
+    ///
+    /// # Panics
+    ///
+    /// Panics if an allocation fails. [`Entities::try_clone`] returns an error instead.
     fn clone(&self) -> Entities {
         self.try_clone().expect(MEMORY)
     }
 }
 
 impl PartialEq for Entities {
-    /// Whether both have the same uids and both are partial or neither is. It looks each uid of one up in the other.
+    /// Returns whether both have the same uids, and both are partial or neither is. Looks up each uid of one store in
+    /// the other.
+    ///
+    /// # Panics
+    ///
+    /// Panics if an allocation fails.
     fn eq(&self, other: &Entities) -> bool {
         self.len() == other.len()
             && self.is_partial() == other.is_partial()
@@ -601,7 +774,7 @@ impl PartialEq for Entities {
 impl Eq for Entities {}
 
 impl fmt::Display for Entities {
-    /// Writes the texts of all entities in the order of uids, each with a line feed behind it.
+    /// Writes the texts of all entities in ascending order of uid, each followed by a line feed.
     fn fmt(&self, f: &mut fmt::Formatter<'_>) -> fmt::Result {
         let texts = self.texts().map_err(|_| fmt::Error)?;
         texts.iter().try_for_each(|text| f.write_str(text))

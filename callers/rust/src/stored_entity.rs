@@ -1,4 +1,4 @@
-//! What a store has with a uid, and its entities one by one.
+//! Results of lookups, and the entities of a store.
 use crate::entity::Entity;
 use crate::expr::Expr;
 use crate::refusal::Refusal;
@@ -10,23 +10,23 @@ use std::hash::{Hash, Hasher};
 use std::ops::Deref;
 use std::vec;
 
-// What is said where a call that cannot tell a refusal is refused memory.
-pub(crate) const MEMORY: &str = "memory for what a store has";
+// The panic message of calls that cannot return an error.
+pub(crate) const MEMORY: &str = "cannot allocate the result of a query";
 
-/// What a look-up of a uid finds.
+/// The result of a lookup of a uid.
 #[derive(Clone, Debug)]
 pub enum Dereference<T> {
-    /// There is nothing with that uid.
+    /// There is no entity with the uid.
     NoSuchEntity,
-    /// The store is partial and lacks it: what it has is not known. The expression is the unknown of that uid's text
-    /// and type.
+    /// The store is partial and has no entity with the uid, so the entity is unknown. The expression is an unknown
+    /// whose name is the text of the uid and whose type is the entity type.
     Residual(Expr),
-    /// What was found.
+    /// The item that was found.
     Data(T),
 }
 
 impl<T> Dereference<T> {
-    /// What was found, if something was.
+    /// Returns the item that was found, if there is one.
     pub fn data(self) -> Option<T> {
         match self {
             Dereference::Data(found) => Some(found),
@@ -34,11 +34,11 @@ impl<T> Dereference<T> {
         }
     }
 
-    /// What was found.
+    /// Returns the item that was found.
     ///
     /// # Panics
     ///
-    /// Where nothing was found, or where that is not known.
+    /// Panics if nothing was found, or if the entity is unknown.
     #[track_caller]
     pub fn unwrap(self) -> T {
         match self {
@@ -48,11 +48,11 @@ impl<T> Dereference<T> {
         }
     }
 
-    /// What was found, as [`Dereference::unwrap`] gives it.
+    /// Returns the item that was found, as [`Dereference::unwrap`] does.
     ///
     /// # Panics
     ///
-    /// Where nothing was found, or where that is not known.
+    /// Panics with `msg` if nothing was found, or if the entity is unknown.
     #[track_caller]
     pub fn expect(self, msg: &str) -> T {
         match self {
@@ -65,12 +65,13 @@ impl<T> Dereference<T> {
     }
 }
 
-/// An entity that a store has. It stands wherever an [`Entity`] is lent, and has its calls.
+/// An entity of a store. It derefs to [`Entity`], so it can be used wherever an `&Entity` is expected.
 ///
-/// The calls of its own, as `is_descendant_of`, ask the store, by one call of the library each. The first of the
-/// others, as `get` or `parents`, reads all of the entity, by one call for each attribute and tag and four more, and
-/// keeps it; who wants one attribute takes [`Entities::get`]. All end the program where memory is refused, as std's own
-/// lists do; the calls of the store with a uid do not.
+/// Its own methods, for example `is_descendant_of`, query the store with one call of the library each. The methods of
+/// [`Entity`], for example `get` or `parents`, use a copy of the whole entity. The first of them reads this copy: it
+/// calls the library once for each attribute and each tag, and four more times. To read one attribute, use
+/// [`Entities::get`]. All methods panic if an allocation fails, as the collections of the standard library abort. The
+/// calls of the store with a uid return an error instead.
 ///
 /// ```
 /// use cedar_store_proved::ast::{Entity, EntityUID, Value};
@@ -95,43 +96,45 @@ fn answered<T>(given: Result<T, Refusal>) -> T {
 }
 
 impl<'a> StoredEntity<'a> {
-    /// The entity that a store has with a uid.
+    /// Creates a reference to the entity of a store with this uid.
     pub(crate) fn of(store: &'a Entities, uid: EntityUID) -> StoredEntity<'a> {
         let whole = OnceCell::new();
         StoredEntity { store, uid, whole }
     }
 
-    /// The uid. No call of the library.
+    /// Returns the uid. Does not call the library.
     pub fn uid(&self) -> &EntityUID {
         &self.uid
     }
 
-    /// Whether it is a descendant of a uid, over parents, however many. One call of the library.
+    /// Returns whether the entity is a descendant of a uid: whether it reaches the uid over any number of parents.
+    /// Calls the library once.
     pub fn is_descendant_of(&self, other: &EntityUID) -> bool {
         answered(self.store.is_descendant_of(&self.uid, other))
     }
 
-    /// Whether a uid is a parent of it. One call of the library.
+    /// Returns whether a uid is a parent of the entity. Calls the library once.
     pub fn is_child_of(&self, other: &EntityUID) -> bool {
         answered(self.store.is_child_of(&self.uid, other))
     }
 
-    /// Whether a uid is an ancestor of it and, in a store that was computed, no parent. One call of the library.
+    /// Returns whether a uid is an indirect ancestor of the entity. In a store that was built only with `ComputeNow`,
+    /// these are the ancestors that are not parents. Calls the library once.
     pub fn is_indirect_descendant_of(&self, other: &EntityUID) -> bool {
         answered(self.store.is_indirect_descendant_of(&self.uid, other))
     }
 
-    /// How many attributes there are. One call of the library.
+    /// Returns the number of attributes. Calls the library once.
     pub fn attrs_len(&self) -> usize {
         answered(self.store.attrs_len(&self.uid))
     }
 
-    /// How many tags there are. One call of the library.
+    /// Returns the number of tags. Calls the library once.
     pub fn tags_len(&self) -> usize {
         answered(self.store.tags_len(&self.uid))
     }
 
-    /// All of it, to be handed to a store.
+    /// Returns a copy of the whole entity, which can be added to a store.
     pub fn into_entity(self) -> Entity {
         match self.whole.into_inner() {
             Some(entity) => entity,
@@ -143,7 +146,7 @@ impl<'a> StoredEntity<'a> {
 impl Deref for StoredEntity<'_> {
     type Target = Entity;
 
-    /// All of it, which is read once.
+    /// Returns the whole entity. Reads it on the first call.
     fn deref(&self) -> &Entity {
         self.whole
             .get_or_init(|| answered(self.store.whole(self.uid.clone())))
@@ -151,7 +154,7 @@ impl Deref for StoredEntity<'_> {
 }
 
 impl PartialEq for StoredEntity<'_> {
-    /// Whether both have the same uid.
+    /// Returns whether both have the same uid.
     fn eq(&self, other: &Self) -> bool {
         self.uid == other.uid
     }
@@ -178,14 +181,14 @@ impl fmt::Debug for StoredEntity<'_> {
 }
 
 impl fmt::Display for StoredEntity<'_> {
-    /// Writes lines for the uid, the attributes and the ancestors: one call of the library.
+    /// Writes lines with the uid, the attributes and the ancestors. Calls the library once.
     fn fmt(&self, f: &mut fmt::Formatter<'_>) -> fmt::Result {
         let text = self.store.text_of(&self.uid).map_err(|_| fmt::Error)?;
         f.write_str(&text)
     }
 }
 
-/// The entities of a store, each once, in an order that the key picks.
+/// An iterator over the entities of a store, each once. Their order depends on the key of the store.
 #[derive(Clone, Debug)]
 pub struct Iter<'a> {
     store: &'a Entities,
@@ -214,7 +217,7 @@ impl<'a> Iterator for Iter<'a> {
 
 impl ExactSizeIterator for Iter<'_> {}
 
-/// The entities of a store that is taken apart, each once, with all that they have.
+/// An iterator over the entities of a consumed store, each once, with all of their content.
 #[derive(Debug)]
 pub struct IntoIter {
     store: Entities,

@@ -1,4 +1,4 @@
-//! Templates and static policies: bodies with their slots, and bodies without.
+//! Templates, which are bodies with or without slots, and static policies, which are bodies without slots.
 use crate::action::ActionConstraint;
 use crate::annotation::{Annotation, Annotations, Iter};
 use crate::body::TemplateBody;
@@ -14,56 +14,57 @@ use std::hash::{Hash, Hasher};
 use std::slice;
 use std::sync::Arc;
 
-// What templates, static policies and bodies tell alike.
+// Defines the methods of templates and static policies that forward to the body.
 macro_rules! tells_of_its_body {
     ($kind:ident) => {
         impl $kind {
-            /// The id.
+            /// Returns the id.
             pub fn id(&self) -> &PolicyID {
                 self.body.id()
             }
 
-            /// The location of the whole policy, if it is known. It does not cross: what a set gives back has none.
+            /// Returns the location of the whole policy, if it is known. The C library does not store locations, so an
+            /// item that is read from a set has none.
             pub fn loc(&self) -> Option<&Loc> {
                 self.body.loc()
             }
 
-            /// The effect.
+            /// Returns the effect.
             pub fn effect(&self) -> Effect {
                 self.body.effect()
             }
 
-            /// The annotation at a key.
+            /// Returns the annotation with this key, if there is one.
             pub fn annotation(&self, key: &AnyId) -> Option<&Annotation> {
                 self.body.annotation(key)
             }
 
-            /// All annotations with their keys, in the order of these.
+            /// Iterates over the annotations with their keys, in ascending order of the keys.
             pub fn annotations(&self) -> Iter<'_> {
                 self.body.annotations()
             }
 
-            /// What the principal has to be.
+            /// Returns the constraint on the principal.
             pub fn principal_constraint(&self) -> &PrincipalConstraint {
                 self.body.principal_constraint()
             }
 
-            /// What the action has to be.
+            /// Returns the constraint on the action.
             pub fn action_constraint(&self) -> &ActionConstraint {
                 self.body.action_constraint()
             }
 
-            /// What the resource has to be.
+            /// Returns the constraint on the resource.
             pub fn resource_constraint(&self) -> &ResourceConstraint {
                 self.body.resource_constraint()
             }
 
-            /// The clause, if there is one.
+            /// Returns the clause, if there is one.
             pub fn non_scope_constraints(&self) -> Option<&Expr> {
                 self.body.non_scope_constraints()
             }
 
-            /// The condition, as [`TemplateBody::condition`] makes it.
+            /// Returns the condition; see [`TemplateBody::condition`].
             pub fn condition(&self) -> Expr {
                 self.body.condition()
             }
@@ -97,9 +98,9 @@ macro_rules! tells_of_its_body {
     };
 }
 
-/// A template: a body with its slots, those of its condition. One without slots stands for a static policy.
+/// A template: a body with the slots of its condition. A template without slots represents a static policy.
 ///
-/// Equality and hash are the body's and look at no location. It is written as its body.
+/// Equality and hash use the body and ignore locations. `Display` writes the body.
 ///
 /// ```
 /// use cedar_store_proved::ast::*;
@@ -125,7 +126,7 @@ pub struct Template {
 tells_of_its_body!(Template);
 
 impl Template {
-    /// The template of these parts.
+    /// Creates a template from its parts.
     pub fn new(
         id: PolicyID,
         loc: Option<Loc>,
@@ -148,7 +149,7 @@ impl Template {
         ))
     }
 
-    /// The template of these parts, of which annotations and clause are shared already.
+    /// Creates a template from its parts, with annotations and a clause that are already shared.
     pub fn new_shared(
         id: PolicyID,
         loc: Option<Loc>,
@@ -171,16 +172,16 @@ impl Template {
         ))
     }
 
-    /// The template of this body.
+    /// Creates a template with this body.
     pub fn from_body(body: TemplateBody) -> Template {
         let slots = slots_in(&body);
         Template { body, slots }
     }
 
-    /// Does nothing, as in the crate in Rust: what it would look at cannot be otherwise.
+    /// Does nothing, as in `cedar-store`: the invariant cannot be violated.
     pub fn check_invariant(&self) {}
 
-    /// A copy under another id.
+    /// Copies the template, with another id.
     pub fn new_id(&self, id: PolicyID) -> Template {
         Template {
             body: self.body.new_id(id),
@@ -188,35 +189,42 @@ impl Template {
         }
     }
 
-    /// The body.
+    /// Returns the body.
     pub(crate) fn body(&self) -> &TemplateBody {
         &self.body
     }
 
-    /// The annotations, shared.
+    /// Returns the shared annotations.
     pub fn annotations_arc(&self) -> &Arc<Annotations> {
         self.body.annotations_arc()
     }
 
-    /// The clause, shared, if there is one.
+    /// Returns the shared clause, if there is one.
     pub fn non_scope_constraints_arc(&self) -> Option<&Arc<Expr>> {
         self.body.non_scope_constraints_arc()
     }
 
-    /// The slots, as often as they stand in the condition: those of the clause, in the order of [`Expr::slots`], and
-    /// then the resource's, the action's and the principal's.
+    /// Iterates over all occurrences of slots in the condition. The slots of the clause are first, in the order of
+    /// [`Expr::slots`]. Then follow the slots of the resource, the action and the principal.
     pub fn slots(&self) -> Slots<'_> {
         Slots(self.slots.iter())
     }
 
-    /// Whether it has no slot, so that it stands for a static policy.
+    /// Returns whether the template has no slots, so that it represents a static policy.
     pub fn is_static(&self) -> bool {
         self.slots.is_empty()
     }
 
-    /// Whether the bound ids are the ids of the template's slots, and the action's slot, if it is one of them, is bound
-    /// to an action. Refused by `ArityError`, with the slots that are not bound, as often as they stand there, and the
-    /// bound ids that are no slots; and then by `NotAnAction`.
+    /// Checks whether bindings match a template: whether the bound ids are the ids of its slots, and the action's slot
+    /// is bound to an action.
+    ///
+    /// # Errors
+    ///
+    /// The checks are made in this order:
+    ///
+    /// - `ArityError`: the bound ids are not the ids of the slots. The error contains each occurrence of a slot that is
+    ///   not bound, and the bound ids that are not slots.
+    /// - `NotAnAction`: the action's slot is bound to a uid that is not an action.
     pub fn check_binding(template: &Template, values: &SlotEnv) -> Result<(), LinkingError> {
         let ids = || template.slots().map(|slot| slot.id);
         let unbound_values: Vec<SlotId> = ids().filter(|id| !values.contains_key(id)).collect();
@@ -234,8 +242,12 @@ impl Template {
         }
     }
 
-    /// The link of this template, under this id and with these bindings. Refused as [`Template::check_binding`] is. It
-    /// is in no set: [`PolicySet::add`](crate::ast::PolicySet::add) puts it into one.
+    /// Creates a link of a template, with this id and these bindings. The link is not in a set: add it with
+    /// [`PolicySet::add`](crate::ast::PolicySet::add).
+    ///
+    /// # Errors
+    ///
+    /// - `ArityError` or `NotAnAction`: the bindings do not match the template; see [`Template::check_binding`].
     ///
     /// ```
     /// use cedar_store_proved::ast::*;
@@ -265,29 +277,39 @@ impl Template {
         Ok(Policy::of(template, Some(new_id), values))
     }
 
-    /// The static policy of this template, if it has no slots. Refused as binding nothing to them is.
+    /// Creates the static policy of a template without slots.
+    ///
+    /// # Errors
+    ///
+    /// - `ArityError`: the template has slots. The error contains each occurrence of a slot.
     pub fn try_as_policy(template: Arc<Template>) -> Result<Policy, LinkingError> {
         let nothing = SlotEnv::new();
         Template::check_binding(&template, &nothing)?;
         Ok(Policy::of(template, None, nothing))
     }
 
-    /// The template of a static policy, and the policy of that template: both have the policy's id.
+    /// Returns the template of a static policy, and the policy of this template. Both have the id of the static policy.
     pub fn link_static_policy(policy: StaticPolicy) -> (Arc<Template>, Policy) {
         let template = Arc::new(Template::from_body(policy.body));
         let policy = Policy::of(template.clone(), None, SlotEnv::new());
         (template, policy)
     }
 
-    /// The template itself, if a parser could have made it. Refused by `SlotsInConditionClause` with the first slot of
-    /// the clause; else by `InvalidActionType` with the uids of the action's constraint that are no actions; else by
-    /// `InvalidExpression` with the first function of the clause that is not known.
+    /// Returns the template itself if a parser could have produced it.
+    ///
+    /// # Errors
+    ///
+    /// The checks are made in this order:
+    ///
+    /// - `SlotsInConditionClause`: the clause contains a slot. The error contains the first one.
+    /// - `InvalidActionType`: the action constraint has uids that are not actions. The error contains them.
+    /// - `InvalidExpression`: the clause calls an unknown function. The error names the first one.
     pub fn try_validate(self) -> Result<Template, TemplateValidationError> {
         self.check()?;
         Ok(self)
     }
 
-    /// The refusal of [`Template::try_validate`].
+    /// Returns the error of [`Template::try_validate`], if there is one.
     pub(crate) fn check(&self) -> Result<(), TemplateValidationError> {
         let clause = self.non_scope_constraints();
         let slots = clause.map(Expr::slots).unwrap_or_default();
@@ -311,7 +333,7 @@ impl From<StaticPolicy> for Arc<Template> {
     }
 }
 
-// The slots in a body's condition, which is not made.
+// Returns the slots of the condition of a body, without creating the condition.
 fn slots_in(body: &TemplateBody) -> Vec<Slot> {
     let clause = body.non_scope_constraints();
     let mut slots = clause.map(Expr::slots).unwrap_or_default();
@@ -333,7 +355,7 @@ fn slots_in(body: &TemplateBody) -> Vec<Slot> {
     slots
 }
 
-/// The slots of a template, lent.
+/// An iterator over the slots of a template.
 #[derive(Clone, Debug)]
 pub struct Slots<'a>(slice::Iter<'a, Slot>);
 
@@ -349,8 +371,8 @@ impl<'a> Iterator for Slots<'a> {
     }
 }
 
-/// A static policy: a body without slots. Equality and hash are the body's and look at no location. It is written as
-/// its body.
+/// A static policy: a body without slots. Equality and hash use the body and ignore locations. `Display` writes the
+/// body.
 ///
 /// ```
 /// use cedar_store_proved::ast::*;
@@ -378,8 +400,11 @@ pub struct StaticPolicy {
 tells_of_its_body!(StaticPolicy);
 
 impl StaticPolicy {
-    /// The static policy of these parts. Refused by `FoundSlot` where a slot stands in them, with the first one of the
-    /// template of these parts.
+    /// Creates a static policy from its parts.
+    ///
+    /// # Errors
+    ///
+    /// - `FoundSlot`: the parts contain a slot. The error contains the first one, in the order of [`Template::slots`].
     pub fn new(
         id: PolicyID,
         loc: Option<Loc>,
@@ -402,35 +427,36 @@ impl StaticPolicy {
         ))
     }
 
-    /// A copy under another id.
+    /// Copies the static policy, with another id.
     pub fn new_id(&self, id: PolicyID) -> StaticPolicy {
         StaticPolicy {
             body: self.body.new_id(id),
         }
     }
 
-    /// The body.
+    /// Returns the body.
     pub(crate) fn body(&self) -> &TemplateBody {
         &self.body
     }
 
-    /// The expression of what the principal has to be.
+    /// Returns the constraint on the principal as an expression.
     pub fn principal_constraint_expr(&self) -> Expr {
         self.body.principal_constraint_expr()
     }
 
-    /// The expression of what the action has to be.
+    /// Returns the constraint on the action as an expression.
     pub fn action_constraint_expr(&self) -> Expr {
         self.body.action_constraint_expr()
     }
 
-    /// The expression of what the resource has to be.
+    /// Returns the constraint on the resource as an expression.
     pub fn resource_constraint_expr(&self) -> Expr {
         self.body.resource_constraint_expr()
     }
 }
 
-/// The body of a template, if it has no slots. Refused by `FoundSlot` with the first of them.
+/// Converts a template without slots to a static policy. Fails with `FoundSlot` if the template has a slot, and reports
+/// the first one.
 impl TryFrom<Template> for StaticPolicy {
     type Error = UnexpectedSlotError;
 

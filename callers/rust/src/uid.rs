@@ -10,10 +10,10 @@ use std::hash::{Hash, Hasher};
 use std::str::FromStr;
 use std::sync::{Arc, OnceLock};
 
-/// The name of the type of actions, whatever stands before it.
+/// The last identifier of the type of actions, in any namespace.
 pub const ACTION_ENTITY_TYPE: &str = "Action";
 
-/// The type of an entity: a name, as `User` or `A::B`. Its order is that of names.
+/// The type of an entity: a name, for example `User` or `A::B`. Types are ordered as their names.
 ///
 /// ```
 /// use cedar_store_proved::ast::EntityType;
@@ -23,55 +23,62 @@ pub const ACTION_ENTITY_TYPE: &str = "Action";
 /// ```
 #[derive(Clone, Debug, PartialEq, Eq, PartialOrd, Ord, Hash)]
 pub enum EntityType {
-    /// The type of this name.
+    /// The type with this name.
     EntityType(Name),
 }
 
 impl EntityType {
-    /// The type that a text names: one call of the library. Refused by `InvalidName`, and by `Refused` for want of
-    /// memory.
+    /// Parses an entity type. Calls the library once.
+    ///
+    /// # Errors
+    ///
+    /// - `InvalidName`: the text is not a name.
+    /// - `Refused`: an allocation failed.
     pub fn from_normalized_str(text: &str) -> Result<EntityType, ParseErrors> {
         Name::from_normalized_str(text).map(EntityType::EntityType)
     }
 
-    /// The name.
+    /// Returns the name.
     pub fn name(&self) -> &Name {
         let EntityType::EntityType(name) = self;
         name
     }
 
-    /// The name, by value.
+    /// Returns the name, by value.
     pub fn into_name(self) -> Name {
         let EntityType::EntityType(name) = self;
         name
     }
 
-    /// The type in a namespace, as [`Name::qualify_with_name`] gives its name.
+    /// Returns the type in a namespace; see [`Name::qualify_with_name`].
     pub fn qualify_with(&self, namespace: Option<&Name>) -> EntityType {
         EntityType::EntityType(self.name().qualify_with_name(namespace))
     }
 
-    /// Whether it is that of actions: its last part is `Action`.
+    /// Returns whether it is a type of actions: whether its last identifier is `Action`.
     pub fn is_action(&self) -> bool {
         self.name().basename().as_ref() == ACTION_ENTITY_TYPE
     }
 }
 
-/// The id of an entity: any text, which is not escaped.
+/// The id of an entity within its type. It can be any text, and is not escaped.
 #[derive(Clone, Debug, PartialEq, Eq, PartialOrd, Ord, Hash)]
 pub enum Eid {
-    /// The id of this text.
+    /// The id with this text.
     Eid(String),
 }
 
 impl Eid {
-    /// The id that is a text.
+    /// Creates an id from a text.
     pub fn new(text: impl Into<String>) -> Eid {
         Eid::Eid(text.into())
     }
 
-    /// The id as it stands between the quotes of a uid's text. Ends the program where memory is refused, as std's own
-    /// texts do.
+    /// Returns the id as it is written between the quotes of a uid.
+    ///
+    /// # Panics
+    ///
+    /// Panics if an allocation fails.
     ///
     /// ```
     /// assert_eq!(cedar_store_proved::ast::Eid::new("O'Brien").escaped(), "O\\'Brien");
@@ -80,17 +87,17 @@ impl Eid {
         escaped(self.as_ref())
     }
 
-    /// The text.
+    /// Returns the text.
     pub fn into_smolstr(self) -> String {
         let Eid::Eid(text) = self;
         text
     }
 }
 
-// What is known of a uid beside its text. It stands behind a trait, as what is read of the text later changes nothing:
-// who looks for keys of maps that may change, as lints do, finds none.
+// The data of a uid other than its text. It is behind a trait because its lazy parse does not affect the uid. Otherwise
+// lints would report a uid as a map key with interior mutability.
 trait Known: Send + Sync {
-    // The type and the id, of the text: one call of the library, the first time.
+    // Returns the type and the id of the text. The first call parses the text with one call of the library.
     fn parts(&self, text: &str) -> &(EntityType, Eid);
     fn loc(&self) -> Option<&Loc>;
 }
@@ -104,7 +111,7 @@ struct Parts {
 impl Known for Parts {
     fn parts(&self, text: &str) -> &(EntityType, Eid) {
         self.parts.get_or_init(|| {
-            let (ty, id) = ffi::uid_parts(text).expect("memory for an id");
+            let (ty, id) = ffi::uid_parts(text).expect("cannot allocate an id");
             (EntityType::EntityType(Name::written(&ty)), Eid::Eid(id))
         })
     }
@@ -114,10 +121,10 @@ impl Known for Parts {
     }
 }
 
-/// The uid of an entity: a type and an id. Its text, as `A::B::"c"`, is kept ready, so a question copies nothing; a
-/// copy shares it.
+/// The uid of an entity: a type and an id. It stores its text, for example `A::B::"c"`, so a query copies nothing.
+/// `clone` shares the text.
 ///
-/// Equality and the hash look at the text, and never at a location; the order is that of types, and then of ids.
+/// Equality and the hash use the text and ignore locations. Uids are ordered by type, and then by id.
 ///
 /// ```
 /// use cedar_store_proved::ast::{Eid, EntityType, EntityUID};
@@ -136,7 +143,7 @@ pub struct EntityUID {
 }
 
 impl EntityUID {
-    /// A text that the library wrote for a uid, or took for one.
+    /// Creates a uid from a text that the library wrote or accepted as a uid.
     pub(crate) fn written(text: &str) -> EntityUID {
         EntityUID::of(text, Parts::default())
     }
@@ -148,8 +155,13 @@ impl EntityUID {
         }
     }
 
-    /// The uid that a text is: one call of the library. Refused by `InvalidName` where what stands before the first
-    /// `::"` is no name, by `NotNormalized` for any other text that is no uid's, and by `Refused` for want of memory.
+    /// Parses a uid. Calls the library once.
+    ///
+    /// # Errors
+    ///
+    /// - `InvalidName`: the part before the first `::"` is not a name.
+    /// - `NotNormalized`: the text is not a uid for another reason.
+    /// - `Refused`: an allocation failed.
     pub fn from_normalized_str(text: &str) -> Result<EntityUID, ParseErrors> {
         match ffi::check_uid(text) {
             0 => Ok(EntityUID::written(text)),
@@ -158,9 +170,13 @@ impl EntityUID {
         }
     }
 
-    /// The uid with a type and an id, at a location. Ends the program where memory is refused, as std's own texts do.
+    /// Creates a uid from a type and an id, with a location.
+    ///
+    /// # Panics
+    ///
+    /// Panics if an allocation fails.
     pub fn from_components(ty: EntityType, eid: Eid, loc: Option<Loc>) -> EntityUID {
-        let text = ffi::make_uid(ty.name().as_str(), eid.as_ref()).expect("memory for a uid");
+        let text = ffi::make_uid(ty.name().as_str(), eid.as_ref()).expect("cannot allocate a uid");
         let known = Parts {
             parts: OnceLock::from((ty, eid)),
             loc: loc.map(Box::new),
@@ -168,8 +184,12 @@ impl EntityUID {
         EntityUID::of(&text, known)
     }
 
-    /// The uid with a type and an id, which is any text and is not escaped: one call of the library. Refused by
-    /// `InvalidName` where the type is no name, and by `Refused` for want of memory.
+    /// Creates a uid from a type and an id. The id can be any text, and is not escaped. Calls the library once.
+    ///
+    /// # Errors
+    ///
+    /// - `InvalidName`: the type is not a name.
+    /// - `Refused`: an allocation failed.
     pub fn with_eid_and_type(typename: &str, eid: &str) -> Result<EntityUID, ParseErrors> {
         match ffi::make_uid(typename, eid) {
             Ok(text) => Ok(EntityUID::written(&text)),
@@ -178,34 +198,45 @@ impl EntityUID {
         }
     }
 
-    /// The type. One call of the library, the first time that it or the id is asked for, which ends the program where
-    /// memory is refused.
+    /// Returns the type. The first call of this function or of [`EntityUID::eid`] calls the library once.
+    ///
+    /// # Panics
+    ///
+    /// Panics if an allocation fails.
     pub fn entity_type(&self) -> &EntityType {
         &self.known.parts(&self.text).0
     }
 
-    /// The id. It costs what [`EntityUID::entity_type`] does.
+    /// Returns the id. The first call of this function or of [`EntityUID::entity_type`] calls the library once.
+    ///
+    /// # Panics
+    ///
+    /// Panics if an allocation fails.
     pub fn eid(&self) -> &Eid {
         &self.known.parts(&self.text).1
     }
 
-    /// The type and the id.
+    /// Returns the type and the id.
+    ///
+    /// # Panics
+    ///
+    /// Panics if an allocation fails.
     pub fn components(self) -> (EntityType, Eid) {
         self.known.parts(&self.text).clone()
     }
 
-    /// Where it stands in a text, if that was said.
+    /// Returns the location in a source text, if it is known.
     pub fn loc(&self) -> Option<&Loc> {
         self.known.loc()
     }
 
-    // The text of the type, and that between the quotes.
+    // Returns the text of the type, and the text between the quotes.
     fn halves(&self) -> (&str, &str) {
         let (ty, rest) = self.text.split_once("::\"").expect("a uid has an id");
         (ty, &rest[..rest.len() - 1])
     }
 
-    // The id. Where nothing is escaped it stands in the text.
+    // Returns the id. If nothing is escaped, it is a part of the text.
     fn id(&self) -> &str {
         match self.halves().1 {
             plain if !plain.contains('\\') => plain,
@@ -213,12 +244,12 @@ impl EntityUID {
         }
     }
 
-    /// Whether it is an action's: the last part of its type is `Action`.
+    /// Returns whether the uid is an action: whether the last identifier of its type is `Action`.
     pub fn is_action(&self) -> bool {
         self.halves().0.rsplit("::").next() == Some(ACTION_ENTITY_TYPE)
     }
 
-    /// The text. The crate in Rust writes it.
+    /// Returns the text. In `cedar-store`, use `Display` instead.
     pub fn as_str(&self) -> &str {
         &self.text
     }
@@ -286,7 +317,7 @@ impl AsRef<str> for EntityUID {
     }
 }
 
-// The hash is that of the text.
+// The hash of a uid is the hash of its text.
 impl Borrow<str> for EntityUID {
     fn borrow(&self) -> &str {
         &self.text
@@ -332,7 +363,7 @@ impl AsRef<str> for Eid {
     }
 }
 
-// An EntityUID is a text as well as the parts of one: it compares to a text by its own.
+// Compares a uid with a text: the texts must be equal.
 macro_rules! compared_to_texts {
     ($($text:ty)*) => {$(
         impl PartialEq<$text> for EntityUID {

@@ -1,5 +1,4 @@
-//! Values: literals, sets, records and extension values; and partial values, which may be expressions that are left
-//! over.
+//! Values: literals, sets, records and extension values. Also partial values, which can be residual expressions.
 use crate::expr::Expr;
 use crate::name::{escaped, Loc, Name};
 use crate::uid::EntityUID;
@@ -10,14 +9,14 @@ use std::fmt;
 use std::hash::{Hash, Hasher};
 use std::sync::Arc;
 
-/// A literal: what a value or an expression is made of in the end. They stand in the order of their kinds.
+/// A literal, which is a leaf of a value or an expression. Literals are ordered by kind first.
 #[derive(Clone, Debug, PartialEq, Eq, PartialOrd, Ord, Hash)]
 pub enum Literal {
-    /// A truth value.
+    /// A Boolean.
     Bool(bool),
-    /// A number of 64 bits.
+    /// A 64-bit integer.
     Long(i64),
-    /// A text.
+    /// A string.
     String(String),
     /// The uid of an entity.
     EntityUID(Arc<EntityUID>),
@@ -36,12 +35,12 @@ impl fmt::Display for Literal {
 
 /// A value: a literal, a set, a record or an extension value.
 ///
-/// Equality, order and hash look at that tree alone, so never at a location. Literals stand before sets, sets before
-/// records and records before extension values; within a kind the contents decide. It is written as `[V, W]`, `{"k":
-/// V}` or `f("text")`.
+/// Equality, order and hash use only the content and ignore locations. Literals are less than sets, sets are less than
+/// records, and records are less than extension values. Values of one kind are ordered by their content. `Display`
+/// writes `[V, W]`, `{"k": V}` or `f("text")`.
 ///
-/// It may be of any depth, and nothing here recurses: comparing, hashing, writing and letting go of it walk over lists
-/// of what is left to do. A store takes 1,000 levels (`Reason::TooDeep`). A copy shares what it holds.
+/// A value can have any depth: comparing, hashing, writing and dropping it do not recurse. A store accepts at most
+/// 1,000 levels and returns `Reason::TooDeep` for more. `clone` shares the parts of the value.
 ///
 /// ```
 /// use cedar_store_proved::ast::Value;
@@ -53,42 +52,42 @@ impl fmt::Display for Literal {
 /// ```
 #[derive(Clone)]
 pub struct Value {
-    /// What the value is.
+    /// The content of the value.
     pub value: ValueKind,
-    /// Where it stands in a text, if that is known.
+    /// The location in a source text, if it is known.
     pub loc: Option<Loc>,
 }
 
-/// The kinds of a value.
+/// The kinds of values.
 #[derive(Clone, Debug)]
 pub enum ValueKind {
     /// A literal.
     Lit(Literal),
-    /// A set: its elements in ascending order, each once, as [`Value::set`] makes them. Nothing checks that; a store
-    /// makes one so.
+    /// A set. Its elements must be in ascending order without duplicates, as [`Value::set`] ensures. This is not
+    /// checked, but a store sorts the elements.
     Set(Arc<Vec<Value>>),
-    /// A record, its keys in byte order.
+    /// A record, with its keys in byte order.
     Record(Arc<BTreeMap<String, Value>>),
     /// An extension value.
     ExtensionValue(Arc<ExtensionValue>),
 }
 
-/// A call of an extension function on a text, as `ip("10.0.0.1")`. Nothing here looks into it.
+/// A call of an extension function on a text, for example `ip("10.0.0.1")`. The call is not evaluated.
 #[derive(Clone, Debug, PartialEq, Eq, PartialOrd, Ord, Hash)]
 pub struct ExtensionValue {
     /// The function.
     pub func: Name,
-    /// The text that it is called on.
+    /// The argument.
     pub arg: String,
 }
 
 impl Value {
-    /// The value of a kind, at a location.
+    /// Creates a value with this content, and a location.
     pub fn new(value: ValueKind, loc: Option<Loc>) -> Value {
         Value { value, loc }
     }
 
-    /// The set of some values: in ascending order, and of equal ones the first.
+    /// Creates a set of values. Sorts them, and keeps the first of several equal values.
     pub fn set(values: impl IntoIterator<Item = Value>, loc: Option<Loc>) -> Value {
         let mut elements: Vec<Value> = values.into_iter().collect();
         elements.sort();
@@ -96,7 +95,7 @@ impl Value {
         Value::new(ValueKind::Set(Arc::new(elements)), loc)
     }
 
-    /// The record of some pairs, of which the last with a key counts.
+    /// Creates a record from pairs of keys and values. If several pairs have the same key, the last one is used.
     pub fn record(
         pairs: impl IntoIterator<Item = (impl Into<String>, impl Into<Value>)>,
         loc: Option<Loc>,
@@ -109,7 +108,7 @@ impl Value {
     }
 }
 
-// Puts what stands below a value onto a list, and leaves nothing below it. What is shared stays with the others.
+// Moves the parts of a value onto a list. Shared parts are only released, because other values use them.
 fn take_below(kind: &mut ValueKind, pending: &mut Vec<Value>) {
     if matches!(kind, ValueKind::Lit(_) | ValueKind::ExtensionValue(_)) {
         return;
@@ -124,7 +123,7 @@ fn take_below(kind: &mut ValueKind, pending: &mut Vec<Value>) {
 }
 
 impl Drop for Value {
-    /// Lets go of all below it without recursion.
+    /// Drops the value without recursion.
     fn drop(&mut self) {
         let mut pending = Vec::new();
         take_below(&mut self.value, &mut pending);
@@ -167,7 +166,7 @@ impl fmt::Display for Value {
 }
 
 impl fmt::Debug for Value {
-    /// Writes it as `Display` does.
+    /// Writes `Value(..)` around the output of `Display`.
     fn fmt(&self, f: &mut fmt::Formatter<'_>) -> fmt::Result {
         write!(f, "Value({self})")
     }
@@ -193,7 +192,7 @@ impl fmt::Display for ExtensionValue {
     }
 }
 
-/// What an attribute or a tag has: a value, or an expression that is left over.
+/// The value of an attribute or a tag: a value, or a residual expression.
 ///
 /// ```
 /// use cedar_store_proved::ast::{Expr, PartialValue, Unknown, Value};
@@ -206,7 +205,7 @@ impl fmt::Display for ExtensionValue {
 pub enum PartialValue {
     /// A value.
     Value(Value),
-    /// An expression that is left over.
+    /// A residual expression.
     Residual(Expr),
 }
 

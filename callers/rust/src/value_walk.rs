@@ -1,4 +1,4 @@
-//! Walks over values without recursion: comparing, hashing and writing.
+//! Comparison, hashing and writing of values without recursion.
 use crate::name::escaped;
 use crate::value::{Value, ValueKind};
 use std::cmp::Ordering;
@@ -8,7 +8,7 @@ use std::hash::{Hash, Hasher};
 use std::slice;
 use std::sync::Arc;
 
-// What is left to compare of two sets or of two records.
+// The rest of two sets or of two records that are compared.
 enum Pair<'a> {
     Sets(slice::Iter<'a, Value>, slice::Iter<'a, Value>),
     Records(
@@ -17,11 +17,11 @@ enum Pair<'a> {
     ),
 }
 
-// What comes next of two things side by side.
+// The next step of a comparison.
 enum Step<'a> {
-    // Nothing does, or what was compared differs.
+    // The result of the comparison of the two sets or records, or of two keys.
     Decided(Ordering),
-    // Two values.
+    // Two values to compare.
     Values(&'a Value, &'a Value),
 }
 
@@ -43,7 +43,7 @@ impl<'a> Pair<'a> {
     }
 }
 
-// The place of a kind among the four.
+// Returns the position of a kind among the four.
 fn place(kind: &ValueKind) -> u8 {
     match kind {
         ValueKind::Lit(_) => 0,
@@ -53,7 +53,7 @@ fn place(kind: &ValueKind) -> u8 {
     }
 }
 
-// How two kinds stand, where that is told without going down; else what is to be compared is put onto a list.
+// Compares two kinds, if that is possible without their parts. Otherwise pushes their parts.
 fn begin<'a>(one: &'a ValueKind, other: &'a ValueKind, pending: &mut Vec<Pair<'a>>) -> Ordering {
     match (one, other) {
         (ValueKind::Lit(one), ValueKind::Lit(other)) => return one.cmp(other),
@@ -73,8 +73,8 @@ fn begin<'a>(one: &'a ValueKind, other: &'a ValueKind, pending: &mut Vec<Pair<'a
     Ordering::Equal
 }
 
-/// How two values of these kinds stand: by kind, then by what they hold. The first elements or pairs that differ
-/// decide, and else the lengths do.
+/// Compares two values: by kind, and then by content. The first difference between elements or pairs decides. If there
+/// is none, the lengths decide.
 pub(crate) fn compare(one: &ValueKind, other: &ValueKind) -> Ordering {
     let mut pending = Vec::new();
     let mut decided = begin(one, other, &mut pending);
@@ -90,7 +90,7 @@ pub(crate) fn compare(one: &ValueKind, other: &ValueKind) -> Ordering {
     decided
 }
 
-/// Hashes a value: each kind, what it says itself, and how many stand below it, from the top on.
+/// Hashes a value: each kind with its own data and the number of its parts, in preorder.
 pub(crate) fn feed<H: Hasher>(kind: &ValueKind, state: &mut H) {
     let mut pending = vec![kind];
     while let Some(kind) = pending.pop() {
@@ -111,14 +111,14 @@ pub(crate) fn feed<H: Hasher>(kind: &ValueKind, state: &mut H) {
     }
 }
 
-// What is left to write.
+// A part of a value that is still to be written.
 enum Piece<'a> {
     Mark(&'static str),
     Key(&'a str),
     Kind(&'a ValueKind),
 }
 
-// Puts the pieces of what stands below a value onto a list whose end comes first.
+// Pushes the parts of a value in reverse order, so that the first part is popped first.
 fn push_below<'a>(kind: &'a ValueKind, pending: &mut Vec<Piece<'a>>) {
     let first = pending.len();
     match kind {

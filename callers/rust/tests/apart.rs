@@ -1,4 +1,4 @@
-//! Stores and policy sets that go to other threads.
+//! Tests of deep copies of stores and policy sets in other threads.
 mod short;
 use cedar_store_proved::ast::{Eid, Entity, EntityType, EntityUID, PolicySet, Value};
 use cedar_store_proved::{ApartEntities, ApartPolicySet, Entities, Reason, TCComputation};
@@ -10,7 +10,8 @@ fn uid(id: &str) -> EntityUID {
     EntityUID::from_components(ty, Eid::new(id), None)
 }
 
-// A chain: each number is below the next, with an attribute and a tag. Its eids have each character but surrogates.
+// Returns a chain in which each entity is a child of the next, with an attribute and a tag. The eids contain every
+// character except surrogates.
 fn chain(length: usize) -> Entities {
     let entities = (0..length).map(|n| {
         let value = Value::set([Value::from(n as i64), Value::from(uid("v"))], None);
@@ -151,7 +152,7 @@ fn orders_are_copied() {
     set.unlink(&short::id("l")).unwrap();
     short::join(&mut set, "link t l pr").unwrap();
     assert!(set.copy_apart().unwrap().into_inner() == set);
-    // What stands in both keeps its place, and what joins goes last.
+    // items of both sets keep their positions, and new items are last
     let mut other = short::set(&["template t pr", "forbid v", "link t i pr"]);
     let merged = other.merge_policyset(&set, true).unwrap();
     assert!(merged.is_empty());
@@ -162,7 +163,7 @@ fn orders_are_copied() {
     assert!(PolicySet::new().copy_apart().unwrap().into_inner() == PolicySet::new());
 }
 
-// Numbers that are drawn from a seed.
+// A generator of pseudorandom numbers.
 struct Drawn(u64);
 
 impl Drawn {
@@ -173,7 +174,7 @@ impl Drawn {
         self.0 % most
     }
 
-    // One call on a set, by ids of which there are few. It may be refused.
+    // Makes a call on a set, with one of a few ids. The call may return an error.
     fn step(&mut self, set: &mut PolicySet, other: &PolicySet) {
         let (one, two) = (self.below(12), self.below(12));
         let word = match self.below(10) {

@@ -1,5 +1,5 @@
-//! Bodies of policies across the library: each kind of a constraint, annotations and clauses, given, read back and
-//! written, worked and drawn; and what is refused.
+//! Tests of bodies of policies: each kind of constraint, annotations and clauses are passed to the library, read back
+//! and written. Also tests of the errors. The cases are chosen by hand or at random.
 mod drawn;
 mod short;
 use cedar_store_proved::ast::*;
@@ -12,7 +12,7 @@ use std::sync::Arc;
 
 type Asked = PrincipalOrResourceConstraint;
 
-// A template that asks this, and nothing else.
+// Returns a template with these constraints.
 fn asking(
     name: &str,
     principal: Asked,
@@ -85,7 +85,7 @@ fn set_of(body: &Template) -> PolicySet {
     set
 }
 
-// What a set has under the id of a body is that body, as a whole and in each of its parts.
+// Asserts that the set returns this body under its id, as a whole and in each of its parts.
 fn is_held(set: &PolicySet, body: &Template) {
     let held = set.get_template(body.id()).expect("a body");
     assert_eq!(held, body);
@@ -157,12 +157,12 @@ fn each_kind_of_a_constraint_crosses() {
     }
 }
 
-// The template that a static policy is.
+// Returns the template of a static policy.
 fn template_of(policy: StaticPolicy) -> Template {
     Template::from(TemplateBody::from(policy))
 }
 
-// A link that a set made is what the template makes without a set.
+// Asserts that a link of a set is equal to a link that is made without a set. Returns whether the body was linked.
 fn is_linked(set: &mut PolicySet, body: &Template, values: SlotEnv) -> bool {
     let name = id("l");
     let due = Template::link(Arc::new(body.clone()), name.clone(), values.clone());
@@ -177,7 +177,7 @@ fn is_linked(set: &mut PolicySet, body: &Template, values: SlotEnv) -> bool {
         }
         (told, due) => panic!("{told:?} and {due:?}"),
     }
-    // read anew
+    // read again, without a cache
     let set = set.clone();
     let link = set.get(&name).unwrap();
     assert_eq!(set.policy_text(&name).unwrap(), link.to_string());
@@ -199,7 +199,7 @@ fn is_linked(set: &mut PolicySet, body: &Template, values: SlotEnv) -> bool {
     true
 }
 
-// A set is written as its bodies and its policies are.
+// Asserts that the text of a set consists of the texts of its bodies and its policies.
 fn is_written(set: &PolicySet) {
     let lines = |texts: Vec<String>| texts.join("\n");
     let bodies = lines(set.all_templates().map(Template::to_string).collect());
@@ -221,7 +221,7 @@ fn drawn_bodies_cross() {
             true => linked += 1,
             false => refused += 1,
         }
-        // what is not bound is told in one order
+        // the slots without a binding are reported in a fixed order
         let unbound = &mut set_of(&body);
         assert_eq!(is_linked(unbound, &body, SlotEnv::new()), body.is_static());
         if let Ok(policy) = StaticPolicy::try_from(body.new_id(id("s"))) {
@@ -245,7 +245,7 @@ fn drawn_bodies_cross() {
     );
 }
 
-// Whether two bodies are equal is what the library says of sets of them.
+// Two bodies are equal exactly if the library reports sets of them as equal.
 #[test]
 fn bodies_are_equal_where_sets_of_them_are() {
     let dice = &mut drawn::Dice::new(10);
@@ -270,7 +270,7 @@ fn bodies_are_equal_where_sets_of_them_are() {
     assert_eq!(hashed.len(), told_apart.len());
 }
 
-// An expression of so many levels.
+// Returns an expression with this number of levels.
 fn levels(count: usize) -> Expr {
     (1..count).fold(Expr::val(true), |below, _| Expr::not(below))
 }
@@ -298,7 +298,7 @@ fn hash_of(body: &Template) -> u64 {
     hasher.finish()
 }
 
-// On a thread with little room, which recursion as deep would run out of.
+// Runs on a thread with a small stack, which recursion of this depth would overflow.
 #[test]
 fn a_clause_of_any_depth_is_carried() {
     const HOSTILE: usize = 200_000;
@@ -438,7 +438,7 @@ fn what_a_policy_tells_without_a_set() {
     );
 }
 
-// Each stands before those behind it.
+// Asserts that the items are in ascending order.
 fn are_in_order<T: Ord + std::fmt::Debug>(all: &[T]) {
     for (place, one) in all.iter().enumerate() {
         for (other_place, other) in all.iter().enumerate() {

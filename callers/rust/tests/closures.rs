@@ -1,19 +1,19 @@
-//! The closures that the original tests, over stores: who is above whom in graphs without and with cycles, and after an
-//! update.
+//! The closures that the original tests, over stores: the ancestors in graphs with and without cycles, and after an
+//! edit.
 mod short;
 use cedar_store_proved::entities::Entities;
 use cedar_store_proved::{Reason, Refusal};
 use short::*;
 
-// A graph: what is given, for each entity all that is above it, and for graphs with cycles who stands on one.
+// A graph: the entities with their parents, and the expected ancestors of each entity that has any.
 struct Graph {
     given: &'static str,
     above: &'static [(&'static str, &'static str)],
 }
 
-// Graphs without a cycle, by their edges.
+// Graphs without cycles.
 const ACYCLIC: [Graph; 7] = [
-    // a line of three, and of five
+    // chains of three and of five
     Graph {
         given: "a b;b c;c",
         above: &[("a", "bc"), ("b", "c"), ("c", "")],
@@ -28,7 +28,7 @@ const ACYCLIC: [Graph; 7] = [
             ("e", ""),
         ],
     },
-    // a line whose names do not ascend
+    // a chain whose names are not in ascending order
     Graph {
         given: "f b;b z;z h;h e;e",
         above: &[
@@ -39,12 +39,12 @@ const ACYCLIC: [Graph; 7] = [
             ("e", ""),
         ],
     },
-    // two parents, each with one of its own
+    // two parents, each with a parent
     Graph {
         given: "a bd;b c;c;d e;e",
         above: &[("a", "bcde"), ("b", "c"), ("d", "e")],
     },
-    // two ways that meet
+    // two paths that meet
     Graph {
         given: "a bf;b cd;c;d e;e h;f g;g e;h",
         above: &[
@@ -56,7 +56,7 @@ const ACYCLIC: [Graph; 7] = [
             ("h", ""),
         ],
     },
-    // some edges of the closure are given
+    // some edges of the closure are already present
     Graph {
         given: "a bcd;b ce;c e;d cf;e;f",
         above: &[
@@ -68,14 +68,14 @@ const ACYCLIC: [Graph; 7] = [
             ("f", ""),
         ],
     },
-    // three parts that do not meet
+    // three components
     Graph {
         given: "a f;b c;c;d e;e h;f g;g;h",
         above: &[("a", "fg"), ("b", "c"), ("d", "eh"), ("e", "h"), ("f", "g")],
     },
 ];
 
-// Graphs with cycles, and who stands on one.
+// Graphs with cycles, and the names on a cycle.
 const CYCLIC: [(&str, &str); 6] = [
     ("a b;b b", "b"),
     ("a b;b cd;c a;d", "abc"),
@@ -85,7 +85,7 @@ const CYCLIC: [(&str, &str); 6] = [
     ("a b;b c;c d;d a", "abcd"),
 ];
 
-// Entities as they stand in a text, from the end.
+// Reverses the order of the entities in a text.
 fn reversed(given: &str) -> String {
     given.split(';').rev().collect::<Vec<_>>().join(";")
 }

@@ -1,5 +1,5 @@
-//! Stores of entities with attributes, tags and indirect ancestors: built, changed, read back, compared, written and
-//! refused.
+//! Tests of stores whose entities have attributes, tags and indirect ancestors. The stores are built, changed, read,
+//! compared and written. Also tests of the errors.
 mod drawn;
 mod short;
 use cedar_store_proved::ast::{Entity, PartialValue, Value};
@@ -12,7 +12,7 @@ fn number(value: i64) -> PartialValue {
     PartialValue::from(Value::from(value))
 }
 
-// An entity with a number at a key, below some parents.
+// Returns an entity with a number as an attribute, and with these parents.
 fn numbered(name: &str, parents: &str, key: &str, value: i64) -> Entity {
     let entity = Entity::with_uid(uid(name)).with_parents(uids(parents));
     entity.with_attr(key, number(value))
@@ -55,7 +55,7 @@ fn what_changes_a_store_brings_and_takes_content() {
     held.add([numbered("a", "b", "k", 1)], NOW).unwrap();
     assert_eq!(held.get(uid("a"), "k").unwrap(), Some(number(1)));
     assert_eq!(above(&held, "a"), "bc");
-    // the same once more, with all its ancestors, changes nothing
+    // adding the same entity again, with all of its ancestors, changes nothing
     held.add([numbered("a", "bc", "k", 1)], NOW).unwrap();
     assert_eq!(parents(&held, "a"), "b");
     let before = held.clone();
@@ -111,7 +111,7 @@ fn indirect_ancestors_are_given_and_told() {
     assert!(!stored.is_child_of(&uid("c")) && !stored.is_indirect_descendant_of(&uid("b")));
     assert!(stored.parents().eq(&uids("b")) && stored.indirect_ancestors().eq(&uids("c")));
     assert!(store.deep_eq(&short::store("a b;b c")));
-    // a parent is no indirect ancestor once it has crossed
+    // a parent is not an indirect ancestor any more after it was passed to the library
     let both = Entity::new_with_attr_partial_value(
         uid("a"),
         [],
@@ -154,7 +154,8 @@ fn a_reserved_key_is_a_fault() {
     assert!(numbered("a", "b", "__entity", 1).is_valid());
 }
 
-// What a store and an entity write is the same, but that the one is written by the library.
+// The library returns random entities as they were passed to it. A stored entity and the original are written in the
+// same way.
 #[test]
 fn drawn_entities_are_told_as_they_were_given() {
     let dice = &mut Dice::new(3);
@@ -174,7 +175,7 @@ fn drawn_entities_are_told_as_they_were_given() {
     }
 }
 
-// Stores that are taken apart and made again, and what two of them have with one uid.
+// Random stores are converted to entities and built again. Two stores are compared at one uid.
 #[test]
 fn drawn_stores_are_made_again() {
     let (dice, mut unlike) = (&mut Dice::new(4), 0);

@@ -1,4 +1,4 @@
-//! Numbers of uids: what they are asked for, how long they are good, and that they are of one store.
+//! Tests of numbers of uids: the calls with them, how long they are valid, and that they belong to one store.
 mod short;
 use cedar_store_proved::{Entities, Reason, UidNumber};
 use short::*;
@@ -56,7 +56,7 @@ fn numbers_stay_whatever_becomes_of_the_store() {
     assert!(held.is_descendant_of_numbers(a, z).unwrap());
 }
 
-// Whether a call is refused for a reason.
+// Asserts that a call returned an error with this reason.
 fn refused_for<T>(given: Result<T, cedar_store_proved::Refusal>, reason: Reason) {
     assert_eq!(given.err().map(|refusal| refusal.reason()), Some(reason));
 }

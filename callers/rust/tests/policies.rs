@@ -1,4 +1,5 @@
-//! What is read of a policy set: by one call each, and lent; with each refusal, and while the set changes.
+//! Tests of queries of a policy set: calls that query the library, and calls that return cached references. Also tests
+//! of each error, and of queries while the set changes.
 mod drawn;
 mod short;
 use cedar_store_proved::ast::{
@@ -18,7 +19,7 @@ const OF: [&str; 6] = [
     "link t n par",
 ];
 
-// Calls that take an id and answer whether they were refused.
+// Calls that take an id, with their names.
 type Calls<'a> = [(&'a str, &'a dyn Fn(&str) -> Result<(), Refusal>); 9];
 
 #[test]
@@ -106,7 +107,7 @@ fn what_each_read_tells() {
     );
 }
 
-// What is lent is what each call tells by itself.
+// Asserts that the cached references are equal to the results of the calls that query the library.
 fn is_lent_as_told(held: &PolicySet) {
     let (bodies, policies) = (held.body_ids().unwrap(), held.policy_ids().unwrap());
     assert!(held
@@ -271,7 +272,7 @@ fn what_is_not_taken_out_is_told_by_kind() {
     assert_eq!(held, before);
 }
 
-// A refusal is the same behind a turn to one type and back.
+// Converting an error to `Refusal` and back does not change it.
 #[test]
 fn refusals_turn_into_one_type_and_back() {
     fn turns<E: From<Refusal> + Into<Refusal> + Clone + PartialEq + std::fmt::Debug>(error: E) {

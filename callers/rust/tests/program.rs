@@ -1,7 +1,7 @@
-//! Worked inputs of the program: what it writes, and the status of its run.
+//! Inputs of the program with their expected outputs and exit statuses.
 use cedar_store_proved::{run, run_with_key, Key};
 
-// Lines with `~` for a tab, and what is due for them.
+// Asserts the output and the exit status for lines, in which `~` stands for a tab.
 fn writes(lines: &[&str], due: &[&str], status: u32) {
     let text = |lines: &[&str]| {
         lines

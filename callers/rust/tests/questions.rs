@@ -1,5 +1,6 @@
-//! Questions whether an entity is below another, asked again and again while the store changes: each is compared with a
-//! walk over plain lists of parents. A store notes what it was asked, and no note outlives an edit.
+//! Repeated queries whether an entity is a descendant of another, while the store changes. Each result is compared with
+//! a search over plain lists of parents. A store caches results of queries up to a bound, and no cached result survives
+//! an edit.
 mod drawn;
 mod short;
 use cedar_store_proved::ast::Entity;
@@ -9,10 +10,10 @@ use drawn::Dice;
 use short::*;
 use std::collections::{BTreeMap, BTreeSet};
 
-// The parents of each entity that is there.
+// The parents of each entity.
 type Plain = BTreeMap<usize, Vec<usize>>;
 
-// All that is above an entity.
+// Returns all ancestors of an entity.
 fn reached(plain: &Plain, from: usize) -> BTreeSet<usize> {
     let mut all = BTreeSet::new();
     let mut left = vec![from];
@@ -26,7 +27,7 @@ fn reached(plain: &Plain, from: usize) -> BTreeSet<usize> {
     all
 }
 
-// Asks of each pair, and of a uid that no entity has.
+// Queries each pair, including a uid without an entity.
 fn asked(store: &Entities, plain: &Plain, size: usize) {
     for child in 0..size + 1 {
         let above = reached(plain, child);
@@ -47,7 +48,7 @@ fn entity(place: usize, parents: &[usize]) -> Entity {
     Entity::with_uid(uid(place)).with_parents(parents.iter().map(uid))
 }
 
-// Parents are among what comes before, so that there is no cycle.
+// Returns parents with smaller numbers, so that there is no cycle.
 fn parents(dice: &mut Dice, place: usize) -> Vec<usize> {
     let mut list: Vec<usize> = (0..dice.below(4))
         .map(|_| dice.below(place.max(1)))
@@ -58,7 +59,7 @@ fn parents(dice: &mut Dice, place: usize) -> Vec<usize> {
     list
 }
 
-// One edit of both.
+// Makes the same edit in both.
 fn edit(store: &mut Entities, plain: &mut Plain, dice: &mut Dice, size: usize) {
     let place = dice.below(size);
     let above = parents(dice, place);
@@ -108,6 +109,22 @@ fn a_long_chain_is_told_as_a_short_one() {
     let store = Entities::from_entities(&entities, NOW).unwrap();
     asked(&store, &plain, size);
     asked(&store, &plain, size);
+}
+
+// More uids than a store caches, and uids whose texts are too long for its cache.
+#[test]
+fn more_questions_than_are_cached_are_answered() {
+    let store = store("a bc;b;c;d");
+    let long = "x".repeat(2000);
+    for round in 0..70_000 {
+        assert!(!store.is_descendant_of(uid("a"), uid(round)).unwrap());
+        if round % 1000 == 0 {
+            assert!(store.is_descendant_of(uid("a"), uid("b")).unwrap());
+            assert!(!store.is_descendant_of(uid("a"), uid(&long)).unwrap());
+            assert!(!store.is_descendant_of(uid("d"), uid("c")).unwrap());
+        }
+    }
+    assert!(store.is_descendant_of(uid("a"), uid("c")).unwrap());
 }
 
 #[test]

@@ -1,5 +1,6 @@
-//! Tests and examples of the package `cedar-store`, as they stand there, over this crate under that name: what both
-//! have differs by the name alone. They are laid out there. The examples are built, and not run.
+//! Tests and examples of the package `cedar-store`, compiled unchanged with this crate under that name. So a program
+//! can switch between the packages by changing the name. The files have the layout of that package. The examples are
+//! built, but not run.
 #![allow(
     clippy::duplicate_mod,
     clippy::manual_is_multiple_of,

@@ -1,5 +1,5 @@
-//! 10,000 sessions that are drawn: each is run by the program as a whole, and taken line by line through the crate, and
-//! both write the same for each line.
+//! Runs 10,000 random sessions. Each is run by the program as a whole, and line by line through the crate. Both must
+//! write the same for each line.
 mod session;
 use cedar_store_proved::{run, run_with_key, Key};
 use session::{Dice, Line, Session};
@@ -8,10 +8,10 @@ use std::collections::BTreeMap;
 const SESSIONS: u64 = 10_000;
 const THREADS: u64 = 4;
 
-// How often each kind of line was written.
+// The number of outputs of each kind.
 type Kinds = BTreeMap<String, usize>;
 
-// The words of a written line that tell its kind.
+// Returns the words of an output that determine its kind.
 fn kind(written: &str) -> &str {
     const REFUSED: [&str; 9] = [
         "refused: duplicate",
@@ -28,7 +28,7 @@ fn kind(written: &str) -> &str {
     named.unwrap_or_else(|| written.split([' ', '\t']).next().unwrap_or(""))
 }
 
-// What the crate writes for each line, up to the first that is no command.
+// Returns the output of the crate for each line, up to the first line that is not a command.
 fn taken(lines: &[Line]) -> (Vec<String>, u32) {
     let mut session = Session::default();
     let mut written = Vec::new();
@@ -44,7 +44,7 @@ fn taken(lines: &[Line]) -> (Vec<String>, u32) {
     (written, 0)
 }
 
-// Compares what was written line by line.
+// Compares the outputs line by line.
 fn compare(input: &str, written: &[String], out: &str, kinds: &mut Kinds) {
     let mut rest = out;
     for (number, due) in written.iter().enumerate() {

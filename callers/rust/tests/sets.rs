@@ -1,4 +1,4 @@
-//! Worked cases of policy sets: joining, linking, taking out, and merging with and without renaming.
+//! Tests of policy sets: adding, linking and removing, and merging with and without renaming.
 mod short;
 use cedar_store_proved::ast::{Effect, PolicySet, PolicySetError, SlotId};
 use cedar_store_proved::{Reason, Slots};

@@ -1,4 +1,4 @@
-//! Worked cases of stores: building, adding, overwriting, removing and slicing, in the three modes.
+//! Tests of stores: building, adding, overwriting, removing and slicing, in the three modes.
 mod short;
 use cedar_store_proved::ast::{Entity, EntityUID};
 use cedar_store_proved::entities::Entities;

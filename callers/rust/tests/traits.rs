@@ -1,4 +1,4 @@
-//! What the types have of the standard library's traits, and at which paths they stand.
+//! Tests of the traits of the standard library that the types implement, and of the paths of the types.
 mod short;
 use cedar_store_proved::ast::{self, Eid, Entity, EntityType, EntityUID, ParseErrors};
 use cedar_store_proved::entities::{Dereference, Entities, EntitiesError, TCComputation};
@@ -214,7 +214,7 @@ fn uids_are_made_and_taken_apart() {
         let store = Entities::from_entities([Entity::with_uid(made.clone())], NOW).unwrap();
         assert!(store.contains(&made).unwrap());
     }
-    // An id that is much longer when it is escaped.
+    // An id that is much longer after escaping.
     let id = "\u{1}\u{200b}".repeat(500);
     let made = EntityUID::with_eid_and_type("A", &id).unwrap();
     assert_eq!(made.eid(), &Eid::new(id));

@@ -1,4 +1,5 @@
-//! Values and expressions: what they are and how they are written, and that they cross and come back as they were.
+//! Tests of values and expressions: their content and their texts, and that they do not change when they are passed to
+//! the library and read back.
 mod drawn;
 mod short;
 use cedar_store_proved::ast::{
@@ -28,7 +29,8 @@ fn record<const N: usize>(pairs: [(&str, Value); N]) -> Value {
     Value::record(pairs, None)
 }
 
-// What an attribute is once it has crossed, and a tag too.
+// Returns the value of an attribute after it was passed to the library and read back. Asserts that a tag gives the same
+// value.
 fn crossed(term: impl Into<PartialValue>) -> PartialValue {
     let term = term.into();
     let entity = Entity::with_uid(uid("a")).with_attr("k", term.clone());
@@ -129,7 +131,7 @@ fn expressions_of_each_kind() {
         assert_eq!(expr.to_string(), text);
         assert_eq!(crossed(expr.clone()), PartialValue::Residual(expr));
     }
-    // what is left over is no value, though it says as much
+    // a residual expression is not equal to a value, even if it has the same content
     assert_ne!(crossed(Expr::val(1)), crossed(Value::from(1)));
 }
 
@@ -212,7 +214,7 @@ fn drawn_values_cross() {
     for _ in 0..3000 {
         let value = drawn::value(dice, 4);
         let PartialValue::Value(told) = crossed(value.clone()) else {
-            panic!("a value is told as one");
+            panic!("the library returns a value");
         };
         assert_eq!((&told, hash_of(&told)), (&value, hash_of(&value)));
         assert_eq!(
@@ -232,7 +234,7 @@ fn drawn_expressions_cross() {
     for _ in 0..3000 {
         let (expr, other) = (drawn::expr(dice, 4), drawn::expr(dice, 4));
         let PartialValue::Residual(told) = crossed(expr.clone()) else {
-            panic!("an expression is told as one");
+            panic!("the library returns an expression");
         };
         assert_eq!((&told, hash_of(&told)), (&expr, hash_of(&expr)));
         assert_eq!(
@@ -286,12 +288,12 @@ fn a_thousand_levels_cross_and_no_more() {
             Err(EntitiesError::Refused(refusal)) => assert_eq!(refusal.reason(), Reason::TooDeep),
             other => panic!("{other:?}"),
         }
-        // what is not read leaves the store
+        // an error leaves the store unchanged
         assert_eq!(short::held(&held, "aq"), "q");
     }
 }
 
-// On a thread with little room, which recursion as deep would run out of.
+// Runs a test on a thread with a small stack, which deep recursion would overflow.
 fn with_little_room(test: fn()) {
     let thread = std::thread::Builder::new().stack_size(128 * 1024);
     thread.spawn(test).unwrap().join().unwrap();

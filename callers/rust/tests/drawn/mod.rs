@@ -1,4 +1,4 @@
-//! Values, expressions, entities and bodies of policies that are drawn: the same for the same seed.
+//! Random values, expressions, entities and bodies of policies. The same seed always gives the same results.
 #![allow(dead_code)]
 use cedar_store_proved::ast::{
     ActionConstraint, Annotation, Annotations, AnyId, Effect, Entity, EntityType, EntityUID, Expr,
@@ -8,7 +8,7 @@ use cedar_store_proved::ast::{
 };
 use std::sync::Arc;
 
-/// Numbers that look drawn.
+/// A generator of pseudorandom numbers.
 pub struct Dice(u64);
 
 impl Dice {
@@ -16,7 +16,7 @@ impl Dice {
         Dice(seed.wrapping_mul(0x9E37_79B9_7F4A_7C15) | 1)
     }
 
-    /// A number below another.
+    /// Returns a number below `end`.
     pub fn below(&mut self, end: usize) -> usize {
         self.0 ^= self.0 << 13;
         self.0 ^= self.0 >> 7;
@@ -48,7 +48,7 @@ fn number(dice: &mut Dice) -> i64 {
     dice.one(&[0, 1, -1, 7, i64::MIN, i64::MAX])
 }
 
-/// A value of at most some levels below the first.
+/// Returns a value with at most `depth` levels below the first one.
 pub fn value(dice: &mut Dice, depth: usize) -> Value {
     let count = dice.below(4);
     match dice.below(if depth > 0 { 8 } else { 5 }) {
@@ -68,7 +68,7 @@ pub fn value(dice: &mut Dice, depth: usize) -> Value {
     }
 }
 
-/// An expression of at most some levels below the first.
+/// Returns an expression with at most `depth` levels below the first one.
 pub fn expr(dice: &mut Dice, depth: usize) -> Expr {
     if depth == 0 || dice.below(4) == 0 {
         return match dice.below(7) {
@@ -108,7 +108,7 @@ fn unknown(dice: &mut Dice) -> Unknown {
     }
 }
 
-/// A value, or seldom an expression.
+/// Returns a value, or in one of three cases an expression.
 pub fn term(dice: &mut Dice) -> PartialValue {
     match dice.below(3) {
         0 => PartialValue::from(expr(dice, 3)),
@@ -116,7 +116,7 @@ pub fn term(dice: &mut Dice) -> PartialValue {
     }
 }
 
-/// An entity with some of all that there is. It is none of its own ancestors.
+/// Returns an entity with any content. It is not its own ancestor.
 pub fn entity(dice: &mut Dice) -> Entity {
     let mut entity = Entity::with_uid(uid(dice));
     for _ in 0..dice.below(4) {
@@ -135,7 +135,7 @@ pub fn entity(dice: &mut Dice) -> Entity {
     entity
 }
 
-/// What is asked of a principal or a resource, of any kind.
+/// Returns a constraint of any kind on a principal or a resource.
 pub fn asked(dice: &mut Dice) -> PrincipalOrResourceConstraint {
     let (ty, euid) = (Arc::new(entity_type(dice)), Arc::new(uid(dice)));
     match dice.below(8) {
@@ -150,7 +150,7 @@ pub fn asked(dice: &mut Dice) -> PrincipalOrResourceConstraint {
     }
 }
 
-/// What is asked of an action, of any kind.
+/// Returns a constraint of any kind on an action.
 pub fn asked_of_action(dice: &mut Dice) -> ActionConstraint {
     let count = dice.below(4);
     match dice.below(5) {
@@ -171,7 +171,7 @@ pub fn annotations(dice: &mut Dice) -> Annotations {
     (0..dice.below(4)).map(|_| pair(dice)).collect()
 }
 
-/// A template with some of all that there is.
+/// Returns a template with any content.
 pub fn template(dice: &mut Dice, id: &PolicyID) -> Template {
     let clause = (dice.below(3) > 0).then(|| expr(dice, 4));
     Template::new(
@@ -186,7 +186,7 @@ pub fn template(dice: &mut Dice, id: &PolicyID) -> Template {
     )
 }
 
-/// What binds some slots, mostly those of a template, and mostly the action's to an action.
+/// Returns bindings, mostly for the slots of a template. The action's slot is mostly bound to an action.
 pub fn bindings(dice: &mut Dice, template: &Template) -> SlotEnv {
     let mut values = SlotEnv::new();
     for slot in SlotId::ALL {

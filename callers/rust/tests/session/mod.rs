@@ -1,4 +1,4 @@
-//! Lines of the program, drawn; and the same lines taken one by one through the crate.
+//! Random lines of the program, and a session that runs the same lines through the crate one by one.
 use cedar_store_proved::ast::{
     ActionConstraint, Annotations, Effect, Entity, EntityUID, Expr, PolicyID, PolicySet,
     PolicySetError, PrincipalConstraint, ResourceConstraint, SlotEnv, SlotId, StaticPolicy,
@@ -8,7 +8,7 @@ use cedar_store_proved::entities::{Dereference, Entities, StoredEntity, TCComput
 use cedar_store_proved::{Reason, Refusal, Slots};
 use std::fmt;
 
-/// Numbers that look drawn, and are the same for the same seed.
+/// A generator of pseudorandom numbers. The same seed always gives the same numbers.
 pub struct Dice(u64);
 
 impl Dice {
@@ -23,7 +23,7 @@ impl Dice {
         mixed ^ (mixed >> 31)
     }
 
-    /// A number below another.
+    /// Returns a number below `end`.
     pub fn below(&mut self, end: usize) -> usize {
         (self.next() % end as u64) as usize
     }
@@ -38,7 +38,7 @@ impl Dice {
     }
 }
 
-/// The uids that are drawn.
+/// The uids of random lines.
 pub const UIDS: [&str; 8] = [
     "A::\"a\"",
     "A::\"b\"",
@@ -84,9 +84,9 @@ pub enum Line {
     Remove(Vec<Uid>, TCComputation),
     Slice(Vec<Uid>),
     Anc(Uid),
-    /// An id, whether it permits, and whether the crate is given a body.
+    /// The id, whether the effect is `permit`, and whether the crate gets a body.
     Static(&'static str, bool, bool),
-    /// An id, the word for slots, these, and whether the crate is given a body.
+    /// The id, the word for the slots, the slots, and whether the crate gets a body.
     Template(&'static str, &'static str, Slots, bool),
     Link(&'static str, &'static str, [Option<Uid>; 3]),
     Unlink(&'static str),
@@ -112,7 +112,7 @@ fn bindings(dice: &mut Dice) -> [Option<Uid>; 3] {
     [slot(1), slot(2), slot(4)]
 }
 
-// An entity whose parents mostly stand behind it, so that cycles are seldom.
+// Returns an entity. Most of its parents are later in the list, so cycles are rare.
 fn entity(dice: &mut Dice) -> Line {
     let at = dice.below(UIDS.len());
     let above = match dice.below(12) {
@@ -124,7 +124,7 @@ fn entity(dice: &mut Dice) -> Line {
 }
 
 impl Line {
-    /// A line on a store.
+    /// Returns a line on a store.
     fn of_store(dice: &mut Dice) -> Line {
         match dice.below(24) {
             0..=11 => entity(dice),
@@ -137,7 +137,7 @@ impl Line {
         }
     }
 
-    /// A line on policy sets.
+    /// Returns a line on policy sets.
     fn of_sets(dice: &mut Dice) -> Line {
         let id = dice.one(&IDS);
         match dice.below(14) {
@@ -154,7 +154,7 @@ impl Line {
         }
     }
 
-    /// Any line; seldom one that is empty, and more seldom one that is no command.
+    /// Returns any line. Empty lines are rare, and lines that are not a command are even rarer.
     pub fn drawn(dice: &mut Dice) -> Line {
         match dice.below(400) {
             0..=7 => Line::Empty,
@@ -201,7 +201,7 @@ impl fmt::Display for Line {
     }
 }
 
-/// A session that is taken line by line through the crate.
+/// A session that runs lines through the crate one by one.
 #[derive(Default)]
 pub struct Session {
     waiting: Vec<Entity>,
@@ -210,7 +210,7 @@ pub struct Session {
     aside: PolicySet,
 }
 
-// An id as the program writes it.
+// Escapes an id as the program does.
 fn escaped(id: &str) -> String {
     id.escape_debug().to_string()
 }
@@ -219,8 +219,8 @@ fn uid(text: Uid) -> EntityUID {
     EntityUID::from_normalized_str(text).unwrap()
 }
 
-// An entity with attributes and tags, which are always the same of one uid: what a session writes does not tell of
-// them. Every other uid has none.
+// Adds attributes and tags to every second uid. They depend only on the uid, so the output of a session does not depend
+// on them.
 fn with_content(entity: Entity) -> Entity {
     let own = entity.uid().clone();
     let text = own.to_string();
@@ -245,7 +245,7 @@ fn with_content(entity: Entity) -> Entity {
         .with_tag("left over", left_over)
 }
 
-// The attributes and tags that the store has are those that its entity was given.
+// Asserts that the entity in the store has the attributes and tags that were passed to the library.
 fn check_content(stored: &StoredEntity<'_>) {
     let due = with_content(Entity::with_uid(stored.uid().clone()));
     assert_eq!(
@@ -260,7 +260,7 @@ fn check_content(stored: &StoredEntity<'_>) {
     }
 }
 
-// A refusal as the program writes it.
+// Returns the text of an error as the program writes it.
 fn told(refusal: impl Into<Refusal>) -> String {
     let refusal = refusal.into();
     let text = refusal.to_string();
@@ -291,7 +291,7 @@ fn well<T, E: Into<Refusal>>(given: Result<T, E>) -> String {
     given.map_or_else(told, |_| String::from("ok\n"))
 }
 
-// The template that asks of three to be equal to what these slots are bound to, as the program's has it.
+// Returns a template as the program creates it. Each variable with a slot must be equal to the bound uid.
 fn whole(id: &str, effect: Effect, slots: Slots) -> Template {
     let principal = match slots.principal {
         true => PrincipalConstraint::is_eq_slot(),
@@ -315,7 +315,8 @@ fn tabbed(word: &str, fields: impl IntoIterator<Item = impl fmt::Display>) -> St
 }
 
 impl Session {
-    // What a call on the store gave, as it is written. The store is what other modes make of all its ancestors.
+    // Returns the output of a call on the store. After a success, asserts that the other modes build the same store
+    // from all of its ancestors.
     fn counted(&mut self, given: Result<(), Refusal>) -> String {
         match given {
             Ok(()) => {
@@ -323,7 +324,7 @@ impl Session {
                 format!("ok {}\n", self.store.len())
             }
             Err(refusal) => {
-                // The program goes on without entities, the wrapper with what was there.
+                // After an error, the store of the program is empty, but the store of the crate is unchanged.
                 self.store = Entities::new();
                 told(refusal)
             }
@@ -353,7 +354,7 @@ impl Session {
         Ok(())
     }
 
-    // A removal leaves the same in each mode.
+    // Removes entities. Asserts that the result is the same in each mode.
     fn removed(&mut self, uids: &[Uid], mode: TCComputation) -> Result<(), Refusal> {
         let computed = self.store.try_clone()?;
         let gone = uids.iter().map(|text| uid(text));
@@ -363,7 +364,8 @@ impl Session {
         Ok(())
     }
 
-    // The ancestors of an entity are those that it is a descendant of, and its parents are among them.
+    // Returns the output of a query of ancestors. Asserts that the entity is a descendant of exactly its ancestors, and
+    // that its parents are among them.
     fn asked(&self, uid: Uid) -> String {
         let Dereference::Data(entity) = self.store.entity(&self::uid(uid)) else {
             let refusal = self.store.ancestors(uid).unwrap_err();
@@ -443,7 +445,7 @@ impl Session {
             return self.set.bind_static(id, effect);
         }
         let policy = StaticPolicy::try_from(whole(id, effect, Slots::none()));
-        let policy = policy.expect("no slot stands in it");
+        let policy = policy.expect("the policy has no slots");
         match id.len() % 2 {
             0 => self.set.add_static(policy),
             _ => self.set.add(policy.into()),
@@ -481,7 +483,7 @@ impl Session {
         })
     }
 
-    /// What is written for a line, or nothing where it is no command.
+    /// Returns the output of a line. Returns `None` if the line is not a command.
     pub fn taken(&mut self, line: &Line) -> Option<String> {
         match self.entities(line) {
             Some(written) => Some(written),

@@ -1,4 +1,4 @@
-//! Stores, sets and what they answer by short texts. A name x of one letter is the uid `A::"x"`.
+//! Helpers to create and inspect stores and sets by short texts. A name x of one letter is the uid `A::"x"`.
 #![allow(dead_code)]
 use cedar_store_proved::ast::{Effect, Entity, EntityUID, PolicyID, PolicySet, SlotEnv, SlotId};
 use cedar_store_proved::entities::{Entities, TCComputation};
@@ -8,22 +8,23 @@ pub const NOW: TCComputation = TCComputation::ComputeNow;
 pub const ENFORCE: TCComputation = TCComputation::EnforceAlreadyComputed;
 pub const ASSUME: TCComputation = TCComputation::AssumeAlreadyComputed;
 
-/// The uid that a text is.
+/// Parses a uid.
 pub fn read(text: &str) -> EntityUID {
     EntityUID::from_normalized_str(text).expect("a uid")
 }
 
-/// The uid with a name.
+/// Returns the uid with this name.
 pub fn uid(name: impl std::fmt::Display) -> EntityUID {
     read(&format!("A::\"{name}\""))
 }
 
-/// The uids with names of one letter.
+/// Returns the uids with these names of one letter.
 pub fn uids(names: &str) -> Vec<EntityUID> {
     names.chars().map(uid).collect()
 }
 
-/// Entities by their names, each with those of its parents behind it: `a bc;b` is a with the parents b and c, and b.
+/// Returns entities by their names, each followed by the names of its parents. For example, `a bc;b` is an entity a
+/// with the parents b and c, and an entity b.
 pub fn listed(spec: &str) -> Vec<Entity> {
     let entities = spec.split(';').filter(|one| !one.is_empty());
     entities
@@ -31,17 +32,18 @@ pub fn listed(spec: &str) -> Vec<Entity> {
         .collect()
 }
 
-/// The store of such entities, with their ancestors computed.
+/// Returns a store of such entities, with computed ancestors.
 pub fn store(spec: &str) -> Entities {
     Entities::from_entities(listed(spec), NOW).unwrap()
 }
 
-// The names of uids, one behind the other.
+// Returns the names of uids, concatenated.
 fn names(uids: Vec<EntityUID>) -> String {
     uids.iter().map(|uid| uid.eid().as_ref()).collect()
 }
 
-/// The names of an entity's ancestors, in their order. It is a descendant of these, and not of the others of some.
+/// Returns the names of an entity's ancestors, in order. Asserts that the entity is a descendant of the ancestors and
+/// not of other uids.
 pub fn above(store: &Entities, name: &str) -> String {
     let ancestors = store.ancestors(uid(name)).unwrap();
     let entity = store.entity(&uid(name)).unwrap();
@@ -58,12 +60,12 @@ pub fn above(store: &Entities, name: &str) -> String {
     names(ancestors)
 }
 
-/// The names of an entity's parents, in their order.
+/// Returns the names of an entity's parents, in order.
 pub fn parents(store: &Entities, name: &str) -> String {
     names(store.parents(uid(name)).unwrap())
 }
 
-/// Those of some names that are an entity's, in the order of the names.
+/// Returns the names of the entities that the store contains, in the order of `of`.
 pub fn held(store: &Entities, of: &str) -> String {
     of.chars()
         .filter(|name| store.contains(uid(name)).unwrap())
@@ -82,18 +84,18 @@ pub fn removed(store: Entities, names: &str, mode: TCComputation) -> Result<Enti
     Ok(store.remove_entities(uids(names), mode)?)
 }
 
-/// Asserts that a call was refused for a reason, with a text.
+/// Asserts that a call returned an error with this reason and this text.
 pub fn refused<T, E: Into<Refusal>>(given: Result<T, E>, reason: Reason, text: &str) {
-    let refusal: Refusal = given.err().expect("a refusal").into();
+    let refusal: Refusal = given.err().expect("an error").into();
     assert_eq!(
         (refusal.reason(), refusal.to_string().as_str()),
         (reason, text)
     );
 }
 
-/// Asserts that a call was refused for a cycle on which one of some names stands.
+/// Asserts that a call reported a cycle at one of these names.
 pub fn refused_for_cycle<T, E: Into<Refusal>>(given: Result<T, E>, of: &str) {
-    let refusal: Refusal = given.err().expect("a refusal").into();
+    let refusal: Refusal = given.err().expect("an error").into();
     assert_eq!(refusal.reason(), Reason::Cycle);
     let texts: Vec<String> = uids(of)
         .iter()
@@ -102,7 +104,7 @@ pub fn refused_for_cycle<T, E: Into<Refusal>>(given: Result<T, E>, of: &str) {
     assert!(texts.contains(&refusal.to_string()), "{refusal}");
 }
 
-/// A set of words, as `join` takes them.
+/// Returns a set with items that are described as for `join`.
 pub fn set(words: &[&str]) -> PolicySet {
     let mut set = PolicySet::new();
     for word in words {
@@ -111,8 +113,9 @@ pub fn set(words: &[&str]) -> PolicySet {
     set
 }
 
-/// One more joins a set, by a word: `permit ID`, `forbid ID`, `template ID SLOTS`, `link TEMPLATE ID SLOTS`, where
-/// slots are of the letters p, a and r, and those of a link are bound to `A::"x"`, `Action::"x"` and `A::"y"`.
+/// Adds an item to a set. The text is one of `permit ID`, `forbid ID`, `template ID SLOTS` and `link TEMPLATE ID
+/// SLOTS`. Slots are given by the letters p, a and r. The slots of a link are bound to `A::"x"`, `Action::"x"` and
+/// `A::"y"`.
 pub fn join(set: &mut PolicySet, word: &str) -> Result<(), Refusal> {
     let fields: Vec<&str> = word.split(' ').collect();
     match fields[..] {
@@ -125,12 +128,12 @@ pub fn join(set: &mut PolicySet, word: &str) -> Result<(), Refusal> {
     Ok(())
 }
 
-/// The id that is a text.
+/// Returns the id with this text.
 pub fn id(text: &str) -> PolicyID {
     PolicyID::from_string(text)
 }
 
-/// What binds a slot to the uid that a text is.
+/// Returns bindings of one slot to the uid with this text.
 pub fn bound(slot: SlotId, uid: &str) -> SlotEnv {
     SlotEnv::from([(slot, read(uid))])
 }
@@ -155,7 +158,7 @@ pub fn bindings_of(letters: &str) -> SlotEnv {
     of.map(|(_, slot, uid)| (slot, read(uid))).collect()
 }
 
-/// The ids of bodies, and those of policies, parted by blanks.
+/// Returns the ids of bodies and the ids of policies, separated by spaces.
 pub fn ids(set: &PolicySet) -> (String, String) {
     let (bodies, policies) = (set.body_ids().unwrap(), set.policy_ids().unwrap());
     assert!(set
@@ -169,7 +172,7 @@ pub fn ids(set: &PolicySet) -> (String, String) {
     (bodies.join(" "), policies.join(" "))
 }
 
-/// A renaming as a text: `a>b c>d`.
+/// Returns a renaming as a text: `a>b c>d`.
 pub fn renamed<E: std::fmt::Debug>(given: Result<Renaming, E>) -> String {
     let texts: Vec<String> = given
         .unwrap()
