@@ -1,7 +1,9 @@
-"""Inputs whose ids collide under the fixed seed of the default hasher, each beside ordinary ids of the same lengths.
+"""Inputs whose ids collide under the fixed seed of the default hasher, and the same inputs with ordinary ids of equal
+lengths.
 
-The default hasher multiplies eight bytes, joined by exclusive or to its state, by eight others, joined to a constant, and joins
-the halves of the product. So where its state is known, eight bytes can be chosen that make it 0, whatever comes before and after.
+The default hasher computes a product of two 64-bit numbers and combines its halves by exclusive or. One factor is the
+state combined with eight bytes, the other is a constant combined with eight bytes. If the state is known, eight bytes
+can be chosen that make the factor 0. The result is then 0, whatever the other bytes are.
 """
 MULTIPLIER, SEED, ONES = 0x9E3779B97F4A7C15, 0x243F6A8885A308D3, (1 << 64) - 1
 EDITS = 1000
@@ -13,23 +15,23 @@ def joined(one, other):
 
 
 def short(state, number, length):
-    """The hasher's state behind up to eight bytes, read as a number."""
+    """Returns the state of the hasher after up to eight bytes, given as a number."""
     return joined(state ^ number, MULTIPLIER ^ 2 * length)
 
 
 def long(state, text):
-    """The hasher's state behind sixteen bytes of a longer text."""
+    """Returns the state of the hasher after sixteen bytes of a longer text."""
     return joined(state ^ int.from_bytes(text[:8], "little"), MULTIPLIER ^ int.from_bytes(text[8:], "little"))
 
 
 def printable(number):
-    """A number's eight bytes as a text, if each is a character that stands for itself in a line."""
+    """Returns the eight bytes of a number as a text, or None if a byte would have to be escaped in a line."""
     text = number.to_bytes(8, "little")
     return text.decode() if all(32 < b < 127 and b not in b'"\\' for b in text) else None
 
 
 def crafted_type():
-    """A type, and the eight characters that begin an eid of 16 which goes to 0 whatever its others are."""
+    """Returns a type and a prefix of eight characters. Every eid of 16 characters with the prefix makes the state 0."""
     for number in range(100000):
         name = f"T{number:05}"
         text = name.encode()
@@ -38,21 +40,21 @@ def crafted_type():
         head = printable(state + 16 & ONES)
         if head:
             return name, head
-    raise SystemExit("no type is found")
+    raise SystemExit("found no type whose uids collide")
 
 
 def crafted_start():
-    """The 24 characters that begin an id of 32 which goes to 0 whatever its others are."""
+    """Returns a prefix of 24 characters. Every id of 32 characters with the prefix makes the state 0."""
     for number in range(1000000):
         start = f"policy{number:010}"
         head = printable(long(SEED + 32 & ONES, start.encode()))
         if head:
             return start + head
-    raise SystemExit("no id is found")
+    raise SystemExit("found no ids that collide")
 
 
 def edits(size):
-    """Edits of one entity each of a store of entities without parents, half of them overwriting."""
+    """Yields edits of one entity each, of a store of entities without parents. Half of them overwrite an entity."""
     for edit in range(EDITS):
         own = (edit * 7919 + 1) % size
         if edit % 4 == 3:
@@ -62,7 +64,10 @@ def edits(size):
 
 
 def store_lines(shape, size, uid):
-    """The lines that build a store, and may edit it: entities without parents, below one of them, or as a chain."""
+    """Yields the lines that build a store, and edit it for the shape `edits`.
+
+    The entities have no parents, have the first entity as parent (`star`), or form a chain (`chain`).
+    """
     for i in range(size):
         parents = {"star": [0] if i else [], "chain": [i - 1] if i else []}.get(shape, [])
         yield ["ent", uid(i)] + [uid(parent) for parent in parents]
@@ -77,7 +82,9 @@ def store_lines(shape, size, uid):
 
 
 def set_lines(shape, size, name):
-    """The lines that fill a policy set: with static policies, with links of one template, or two sets that are merged."""
+    """Yields the lines that fill a policy set with static policies or with links of one template, or that merge two
+    sets.
+    """
     if shape == "links":
         yield ["template", name(size), "principal"]
         for i in range(size):
@@ -95,7 +102,7 @@ def set_lines(shape, size, name):
 
 
 def stores(size):
-    """Each store with a title: its lines with crafted uids, and with ordinary ones."""
+    """Yields each store with a title: its lines with crafted uids, and with ordinary uids."""
     name, head = crafted_type()
     for shape, count in ("single", size), ("star", size), ("chain", size // 20), ("edits", size):
         for kind, start in ("crafted", head), ("ordinary", "ordinary"):
@@ -103,7 +110,7 @@ def stores(size):
 
 
 def sets(size):
-    """Each policy set with a title: its lines with crafted ids, and with ordinary ones."""
+    """Yields each policy set with a title: its lines with crafted ids, and with ordinary ids."""
     start = crafted_start()
     for shape in "static policies", "links", "merge":
         for kind, head in ("crafted", start), ("ordinary", start[:16] + "ordinary"):

@@ -1,15 +1,19 @@
 #!/usr/bin/env python3
-"""The definitions in plain words, read out of the crates: run at the top of the repository; nothing is proved.
+"""Prints the definitions of the crates with their comments. Run it at the top of the repository. It proves nothing.
 
-    python3 tools/definitions.py            each crate that has definitions, with its files and how many each has
-    python3 tools/definitions.py CRATE..    each public definition of these crates: its name, its file, and the comment above it
-    python3 tools/definitions.py WORD..     those whose names have one of the words, in capitals or small letters
-    python3 tools/definitions.py --bare     those that have no comment above them
+    python3 tools/definitions.py            lists the crates that have definitions, with their files and numbers of
+    definitions
+    python3 tools/definitions.py CRATE..    prints each public definition of these crates: its name, its file and its
+    comment
+    python3 tools/definitions.py WORD..     prints the definitions whose names contain one of the words, in any case
+    python3 tools/definitions.py --bare     prints the definitions that have no comment
 
-A definition is public, and stands in `specs/` of a crate but outside of `specs/laws/`, which has laws with their proofs. Words may stand
-beside crates: then only the definitions of these crates are looked through. A comment is the run of lines that begin with `--` right above
-the definition; of definitions that are mutual, the first may have it above the word `mutual`. The fields of a record and what makes a thing
-of some data are printed too where they have a comment of their own. Of a definition without a comment its own lines are printed.
+The definitions are the public ones in `specs/` of a crate. Those in `specs/laws/` are left out: they are laws with
+their proofs. Words can be combined with crates: then only the definitions of these crates are searched.
+
+A comment is the run of lines that begin with `--` directly above the definition. For mutual definitions, the comment of
+the first one may be above the word `mutual`. Fields of records and constructors of data are printed if they have a
+comment. If a definition has no comment, its own lines are printed.
 """
 import glob
 import os
@@ -27,20 +31,20 @@ PART = re.compile(r'\s+(?:pub )?([^\s:]+) :')
 
 
 class Definition:
-    """A public definition: where it stands, what is said above it, its own lines, and what is said of its parts."""
+    """A public definition: its place, its comment, its own lines, and the comments of its parts."""
 
     def __init__(self, path, line, name, comment):
         self.path, self.line, self.name, self.comment, self.lines, self.parts = path, line, name, comment, [], []
 
 
 def files(crate):
-    """The files that may have definitions: those that list others have none."""
+    """Returns the files of a crate that can have definitions. Files that only list other files are left out."""
     paths = sorted(glob.glob(f'crates/{crate}/specs/*.antt'))
     return [path for path in paths if os.path.basename(path) not in ('Lib.antt', 'laws.antt')]
 
 
 def comment_above(lines, at):
-    """The comment that ends right above a line, in one text."""
+    """Returns the comment that ends directly above a line, as one text."""
     first = at
     while first > 0 and lines[first - 1].lstrip().startswith('--'):
         first -= 1
@@ -48,7 +52,9 @@ def comment_above(lines, at):
 
 
 def definitions(path):
-    """The public definitions of a file, in its order. What is indented counts inside of `mutual` alone: else it is a part."""
+    """Returns the public definitions of a file, in order. An indented item counts only inside of `mutual`; elsewhere it
+    is a part.
+    """
     with open(path, encoding='utf-8') as text:
         lines = text.read().split('\n')
     found, mutual, open_one, of_parts = [], False, None, False
@@ -78,7 +84,7 @@ def bare():
 
 
 def told(one):
-    """A definition as it is printed, filled to 120 columns."""
+    """Formats a definition for printing, filled to 120 columns."""
     rows = [f'{one.name}  ({one.path}:{one.line})']
     for text in [one.comment] + [f'{name}: {comment}' for name, comment in one.parts]:
         rows += textwrap.wrap(text, 120, initial_indent='    ', subsequent_indent='    ')
@@ -104,7 +110,7 @@ def main(words):
     for one in found:
         print(told(one))
     if not found:
-        print(f'no crate and no definition has these words: {" ".join(words)}', file=sys.stderr)
+        print(f'no crate or definition matches: {" ".join(words)}', file=sys.stderr)
     return 0 if found else 1
 
 

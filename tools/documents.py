@@ -1,17 +1,22 @@
 #!/usr/bin/env python3
-"""Says where a document is not true of the files beside it: run at the top of the repository; nothing is proved. The last line is
-`N passed, M failed`.
+"""Checks that the pages are consistent with the files of the repository. Run it at the top of the repository. It proves
+nothing.
 
-- each link to a file leads to one, and a link to a heading to a heading;
-- each path in backticks that begins with a folder of the repository is there;
-- each file that a row of docs/MAP.md names behind a crate is one of that crate, and no other file of it is called so;
-- `tools/map.py` and `tools/definitions.py` run. Each public definition of specs/ outside of specs/laws has a comment above it, and each
-  file of a crate a first comment;
-- what docs/CALLING.md quotes of Rattle stands in cedar_uses, or in the program's `main`, as it is quoted;
-- what docs/GUIDE.md quotes stands in the guide's program in its language, or in what an example writes; and docs/hierarchy.svg, which it
-  shows, draws the uids and the edges of the text that it quotes;
-- the crates of crates.txt are those of the picture of docs/MAP.md, of the headings of docs/PROVED.md and of the table of docs/GATE.md:
-  all, and no other. The first two leave out crates of tests, that of docs/GATE.md the tests of one crate. No page that speaks of the crates names one that is not there.
+The last line is `N passed, M failed`. It checks:
+
+- A link to a file leads to an existing file, and a link to a heading to an existing heading.
+- A path in backticks that begins with a folder of the repository exists.
+- A file that a row of docs/MAP.md names after a crate belongs to the crate, and no other file of the crate has this
+  name.
+- tools/map.py and tools/definitions.py run. Each definition and each file of a crate has a comment at the top.
+- The Rattle code that docs/CALLING.md quotes is in `cedar_uses` or in `main` of the program.
+- The code that docs/GUIDE.md quotes is in the guide's program in the same language, or in the output of an example.
+- docs/hierarchy.svg draws the uids and the edges of the quoted output.
+- The crates in the diagram of docs/MAP.md and in the headings of docs/PROVED.md are exactly those in crates.txt,
+  without tests.
+- The crates in the table of docs/GATE.md are exactly those in crates.txt, without the tests of a single crate.
+- docs/PROVED.md lists exactly the public functions that have a condition.
+- A page that describes crates names only existing crates.
 """
 import glob
 import html
@@ -26,7 +31,7 @@ import map as files_by_comment
 
 PASSED, FAILED = [0], []
 FOLDERS = ('docs', 'crates', 'callers', 'tools', 'rust', '.ci')
-# what pages name that is called as a crate might be, and is a function of the library for C
+# names in pages that look like crates, but are functions of the library for C
 EXPORTS = {'cedar_run'}
 
 
@@ -49,7 +54,7 @@ def pages():
 
 
 def anchors(text):
-    """The names by which the headings of a page are linked."""
+    """Returns the names by which the headings of a page are linked."""
     heads = re.findall(r'(?m)^#+ (.*)$', text)
     return {re.sub(r'[^\w\- ]', '', head.lower()).replace(' ', '-') for head in heads}
 
@@ -60,34 +65,37 @@ def check_links(page, text):
             continue
         path, _, anchor = target.partition('#')
         file = os.path.normpath(os.path.join(os.path.dirname(page), path)) if path else page
-        holds(f'{page} links {target}, which is not there', os.path.exists(file))
+        holds(f'{page} links {target}, which does not exist', os.path.exists(file))
         if anchor and file.endswith('.md') and os.path.exists(file):
-            holds(f'{page} links {target}: there is no such heading', anchor in anchors(read(file)))
+            holds(f'{page} links {target}: the heading does not exist', anchor in anchors(read(file)))
 
 
 def check_paths(page, text):
     for path in sorted(set(re.findall(r'`((?:%s)/[\w./-]+)`' % '|'.join(map(re.escape, FOLDERS)), text))):
         if '/out' not in path and '/target' not in path:
-            holds(f'{page} names {path}, which is not there', os.path.exists(path.rstrip('/.')))
+            holds(f'{page} names {path}, which does not exist', os.path.exists(path.rstrip('/.')))
 
 
 def check_rows():
-    """Behind the name of a crate and a colon a row has files of that crate, up to the name of another. What else the page calls by a name
-    alone is a file of some crate."""
+    """Checks the files that the rows of docs/MAP.md name.
+
+    In a row, the files after a crate's name and a colon belong to the crate, up to the next crate's name. A file that
+    is named elsewhere, without a path, belongs to any crate.
+    """
     text = read('docs/MAP.md')
     names = {os.path.basename(path) for path in glob.glob('crates/**/*.*', recursive=True)}
     for file in sorted(set(re.findall(r'`(\w+\.(?:rt|antt))`', text))):
-        holds(f'docs/MAP.md names {file}, which no crate has', file in names)
+        holds(f'docs/MAP.md names {file}, which is in no crate', file in names)
     for row in re.findall(r'(?m)^\| .*$', text[text.index('## Where to change what'):]):
         bare = re.findall(r'`([\w./+]+\.(?:rt|antt))`', re.split(r'`cedar_\w+`:', row)[0])
-        holds(f'docs/MAP.md names {bare} behind no crate', not bare)
+        holds(f'docs/MAP.md names {bare} without a crate before it', not bare)
         for crate, cell in re.findall(r'`(cedar_\w+)`:(.*?)(?=`cedar_\w+`:|\||$)', row):
             paths = glob.glob(f'crates/{crate}/**', recursive=True)
-            holds(f'docs/MAP.md has files of {crate}, which is no crate', crate in crates())
+            holds(f'docs/MAP.md names files of {crate}, which is not a crate', crate in crates())
             for file in re.findall(r'`([\w./+]+\.(?:rt|antt)|stdin|stdout)`', cell):
                 if not file.startswith(('callers/', 'rust/', 'tools/', 'docs/')):
                     count = sum(path.endswith(f'/{file}') and '/out/' not in path for path in paths)
-                    holds(f'docs/MAP.md names {file} of {crate}, of which there are {count}', count == 1)
+                    holds(f'docs/MAP.md names {file} of {crate}, which has {count} such files', count == 1)
 
 
 def runs(*words):
@@ -98,23 +106,23 @@ def runs(*words):
 def check_comments():
     for script in ('tools/map.py', 'tools/definitions.py'):
         for words in ([], ['cedar_entities']):
-            holds(f'{script} {" ".join(words)} does not run', runs(script, *words))
+            holds(f'{script} {" ".join(words)} fails', runs(script, *words))
     lacking, bare = len(definitions.bare()), len(files_by_comment.bare())
-    holds(f'{lacking} definitions have no comment above them: tools/definitions.py --bare lists them', lacking == 0)
+    holds(f'{lacking} definitions have no comment: tools/definitions.py --bare lists them', lacking == 0)
     holds(f'{bare} files have no first comment: tools/map.py --bare lists them', bare == 0)
 
 
 def squeezed(text):
-    """A text whose comments may be filled otherwise."""
+    """Returns the text without comment marks and with single spaces, so that line breaks do not matter."""
     return re.sub(r'\s+', ' ', re.sub(r'(?m)^\s*///?', ' ', text)).strip()
 
 
 def holds_quote(page, block, paths):
-    """Each part of a block, which empty lines part, stands in these files."""
+    """Checks that each part of a block is in one of the files. Empty lines separate the parts."""
     code = squeezed('\n'.join(read(path) for path in paths))
     for part in re.split(r'\n\s*\n', block.strip('\n')):
         first = part.strip().split('\n')[0]
-        holds(f'{page} quotes what no source has: {first[:70]}', squeezed(part) in code)
+        holds(f'{page} quotes code that is in no source: {first[:70]}', squeezed(part) in code)
 
 
 def check_quotes():
@@ -123,7 +131,7 @@ def check_quotes():
         holds_quote('docs/CALLING.md', block, sources)
 
 
-# What stands in docs/GUIDE.md in a language is of these files.
+# The files that docs/GUIDE.md quotes, by language.
 GUIDE = {
     'rust': ['rust/examples/guide.rs'],
     'python': ['callers/python/guide.py'],
@@ -138,13 +146,13 @@ def check_guide():
     for language in GUIDE:
         holds(f'docs/GUIDE.md quotes nothing in {language}', language in [name for name, _ in blocks])
     for language, block in blocks:
-        holds(f'docs/GUIDE.md has a block in {language or "no language"}, which no file has', language in GUIDE)
+        holds(f'docs/GUIDE.md has a block in {language or "no language"}, which has no files', language in GUIDE)
         holds_quote('docs/GUIDE.md', block, GUIDE.get(language, []))
     lines = re.findall(r'(?m)^  (".*?)(?: \[.*)?;$', read('rust/examples/graphviz.out'))
     due = {line.replace('\\"', '\0').replace('"', '').replace('\0', '"') for line in lines}
     drawn = re.findall(r'<title>(.*?)</title>', read('docs/hierarchy.svg'))
     drawn = {html.unescape(title).replace('->', ' -> ') for title in drawn} - {'store'}
-    holds('docs/hierarchy.svg draws another store than rust/examples/graphviz.out', drawn == due)
+    holds('docs/hierarchy.svg and rust/examples/graphviz.out show different stores', drawn == due)
 
 
 def crates():
@@ -156,7 +164,7 @@ def is_test_of_one(name):
 
 
 def check_crates():
-    """The lists of crates that pages have are that of crates.txt."""
+    """Checks that the lists of crates in the pages are the list of crates.txt."""
     all_names, tests = set(crates()), {name for name in crates() if name.endswith('_tests')}
     picture = re.search(r'(?s)```text\n(.*?)```', read('docs/MAP.md'))[1]
     proved = re.search(r'(?ms)^## What is proved\n(.*?)^## ', read('docs/PROVED.md'))[1]
@@ -170,10 +178,37 @@ def check_crates():
     for page, named, left_out in lists:
         due = all_names - left_out
         holds(f'{page} does not list {sorted(due - named)} of crates.txt', due <= named)
-        holds(f'{page} lists {sorted(named - all_names)}, which crates.txt does not have', named <= all_names)
+        holds(f'{page} lists {sorted(named - all_names)}, which are not in crates.txt', named <= all_names)
     for page in ('README.md', 'CONTRIBUTING.md', 'docs/MAP.md', 'docs/PROVED.md', 'docs/GATE.md', 'docs/CALLING.md'):
         named = set(re.findall(r'`(cedar_\w+)`', read(page))) - all_names - EXPORTS
-        holds(f'{page} names {sorted(named)}, which are no crates', not named)
+        holds(f'{page} names {sorted(named)}, which are not crates', not named)
+
+
+def conditions():
+    """Returns the public functions with a `requires` clause, by crate. Crates of tests are left out."""
+    found = {}
+    for path in glob.glob('crates/*/src/**/*.rt', recursive=True):
+        crate = path.split('/')[1]
+        if crate.endswith('_tests') or crate in ('cedar_test_helpers', 'cedar_refusals'):
+            continue
+        text = read(path)
+        for begin in re.finditer(r'(?m)^ *pub (?:const |unsafe |extern "C" )*fn (\w+)', text):
+            head = re.split(r'(?:\n *| )\{\n', text[begin.start():], maxsplit=1)[0]
+            if re.search(r'\n *requires\b', head):
+                found.setdefault(crate, set()).add(begin[1])
+    return found
+
+
+def check_conditions():
+    """Checks that docs/PROVED.md lists exactly the public functions with a condition. `Trait::name` is a method of a
+    trait.
+    """
+    listed = {crate: {name for name in re.findall(r'`(?:[A-Z]\w*::)?([a-z]\w*)`', re.sub(r'`TC\w+::\w+`', '', names))}
+              for crate, names in re.findall(r'(?m)^\| `(cedar_\w+)` \| (.*) \|$', read('docs/PROVED.md'))}
+    found = conditions()
+    for crate in sorted(found.keys() | listed.keys()):
+        wrong = found.get(crate, set()) ^ listed.get(crate, set())
+        holds(f'docs/PROVED.md and the sources of {crate} disagree on functions with a condition: {sorted(wrong)}', not wrong)
 
 
 def main():
@@ -186,6 +221,7 @@ def main():
     check_quotes()
     check_guide()
     check_crates()
+    check_conditions()
     print(f'{PASSED[0]} passed, {len(FAILED)} failed')
     return 1 if FAILED else 0
 

@@ -1,4 +1,6 @@
-"""Inputs of hostile sizes and sessions with changed bytes, with what the program has to write: for `./bench`, which runs them."""
+"""Inputs of hostile sizes and sessions with changed bytes, with the expected output of the program. `./bench` runs
+them.
+"""
 import collections
 import concurrent.futures
 import functools
@@ -28,7 +30,7 @@ def anc(uids):
 
 
 def chains(size):
-    """Chains given from their start, from their end, and in whatever order."""
+    """Yields a chain of entities three times: in order, in reverse order, and shuffled."""
     names = [b"n%d" % i for i in range(size)]
     rows = [ent(name, names[at:at + 1]) for at, name in enumerate(names, 1)]
     mixed = rows[:]
@@ -47,7 +49,7 @@ def star(size):
 
 
 def dense(size):
-    """Each with the next ones as parents, of which the last are absent."""
+    """Yields entities whose parents are the next ones. The last parents do not exist."""
     name = b"n%06d"
     rows = [ent(name % i, [name % up for up in range(i + 1, i + PARENTS + 1)]) for i in range(size)]
     due = b"ok %d\n" % size + b"".join(anc(node(name % up) for up in range(i + 1, size + PARENTS)) for i in range(size))
@@ -84,12 +86,12 @@ SIZES = [("chains", 8000), ("star", 100000), ("dense", 200), ("wide", 200000), (
 
 
 def on_a_small_stack():
-    """From here on what is started has a stack of 1 MiB."""
+    """Limits the stack of the programs that are started from now on to 1 MiB."""
     resource.setrlimit(resource.RLIMIT_STACK, (STACK, resource.getrlimit(resource.RLIMIT_STACK)[1]))
 
 
 def ran(program, given):
-    """What the program writes, and its status."""
+    """Runs the program, and returns its output and its status."""
     done = subprocess.run([program], input=given, stdout=subprocess.PIPE, stderr=subprocess.DEVNULL, close_fds=False)
     return done.stdout, done.returncode
 
@@ -126,7 +128,9 @@ def drawn_line(pick, kinds):
 
 
 def drawn_session(number):
-    """A good session of up to 200 bytes, and the same with one to five bytes changed, put in or left out."""
+    """Returns a random valid session of up to 200 bytes, and a copy with one to five bytes changed, inserted or
+    removed.
+    """
     pick, lines, size = random.Random(number), [], 0
     kinds = pick.choice([ENTITIES, ENTITIES, POLICIES, POLICIES, ENTITIES + POLICIES])
     while True:
@@ -146,26 +150,29 @@ def drawn_session(number):
 
 
 def answers(written):
-    """What was answered, by its first word, or two of a refusal."""
+    """Yields the kinds of the output lines: the first word, or the first two words of an error."""
     for line in written.splitlines():
         words = line.split(b"\t")[0].split(b" ")
         yield b" ".join(words[:1 + (words[0] == b"refused:")]).decode()
 
 
 def one(program, number):
-    """What is wrong with a session and what was told by it; every fiftieth number runs the good one too."""
+    """Runs a session. Returns the fault, or None, and counts of the kinds of output.
+
+    Every fiftieth session is also run unchanged.
+    """
     told, given = collections.Counter(), drawn_session(number)
     for kind, given in list(zip(("good", "changed"), given))[number % 50 != 0:]:
         out, status, commands = session.output(given)
         got = ran(program, given)
         if got != (out, status):
-            return f"session {number}: {given!r}\nhas to write {out!r}, status {status}\nand writes {got[0]!r}, status {got[1]}", told
-        told.update([kind, f"status {status}"] + ["one command or more"] * (commands > 0) + list(answers(out)))
+            return f"session {number}: {given!r}\nexpected {out!r}, status {status}\nand got {got[0]!r}, status {got[1]}", told
+        told.update([kind, f"status {status}"] + ["with a command"] * (commands > 0) + list(answers(out)))
     return None, told
 
 
 def sessions(program, size):
-    """Runs so many sessions and compares; what was told in all, or the first that differs."""
+    """Runs this number of sessions. Returns the counts of all of them, or exits at the first fault."""
     all_told = collections.Counter()
     with concurrent.futures.ThreadPoolExecutor(os.cpu_count()) as pool:
         for first in range(0, size, BATCH):

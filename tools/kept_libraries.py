@@ -1,12 +1,16 @@
 #!/usr/bin/env python3
-"""Gives this checkout the libraries that `rt ci` proved and kept on this machine: `python3 tools/kept_libraries.py [NAME..]`, at the top
-of the repository, for the crates named and all below them, or for all. After it `rt check` and `rt lib` prove the crate that they are
-asked for and none below it.
+"""Copies the libraries that `rt ci` proved and cached on this machine into this checkout.
 
-`rt ci` keeps a library under a sum of all that it was made from: its files, the libraries below it as they were built, the kit. Here the
-same sum is made of this checkout's files, by rt's own code, so what is taken is what stands here. rt has no command for this, and what
-its code calls these things may change with the kit: then, or where a library is not kept, this says so and ends with status 1, nothing
-that was taken is wrong, and `rt lib` proves what is lacking. An rt that keeps no libraries at all is told by status 3.
+    python3 tools/kept_libraries.py [NAME..]
+
+Run it at the top of the repository. It copies the libraries of the named crates and of all their dependencies, or of
+all crates. Afterwards `rt check` and `rt lib` prove only the crate itself, not its dependencies.
+
+`rt ci` caches a library under a hash of its files, of the built libraries that it uses, and of the kit. This script
+computes the same hash of this checkout, with rt's own code, so a copied library always belongs to the present files. rt
+has no command for this, and its code may change with the kit. If that happens, or if a library is not cached, the
+script reports it and ends with status 1. Nothing that it copied is wrong then, and `rt lib` proves the rest. If rt does
+not cache libraries at all, the status is 3.
 """
 import importlib.machinery
 import importlib.util
@@ -16,7 +20,7 @@ import sys
 
 
 def rt_itself():
-    """The code of the command rt, as a module."""
+    """Returns the code of the command rt, as a module."""
     path = os.path.realpath(shutil.which('rt') or 'rt')
     loader = importlib.machinery.SourceFileLoader('rt_itself', path)
     made = importlib.util.module_from_spec(importlib.util.spec_from_loader('rt_itself', loader))
@@ -26,7 +30,7 @@ def rt_itself():
 
 
 def wanted(crates, names):
-    """The crates of these names and those below them, each after those that it uses."""
+    """Returns the crates with these names and their dependencies, each after its own dependencies."""
     found = {}
 
     def add(crate):
@@ -41,14 +45,17 @@ def wanted(crates, names):
 
 
 def take(kept, crate):
-    """Gives a crate its kept library, and says whether it has it now. Programs and static libraries have none."""
+    """Copies the cached library of a crate. Returns whether the crate has its library now.
+
+    Programs and static libraries have none.
+    """
     if crate.is_program or crate.is_static:
         return True
     if any(below.name not in kept.rlibs for below in crate.below()):
         return False
     os.makedirs(f'{crate.folder}/out', exist_ok=True)
     if not crate.is_built():
-        # What stands there may be the kept files themselves, by other names, and is in the way.
+        # The present files may be hard links to the cached ones, and are in the way.
         shutil.rmtree(f'{crate.folder}/out/rlib', ignore_errors=True)
         if not kept.give(crate, False, kept.key(crate)):
             return False
@@ -61,7 +68,7 @@ def take(kept, crate):
 def main(names):
     rt = rt_itself()
     if not hasattr(rt, 'Kept'):
-        print('kept libraries: the rt of this kit keeps none')
+        print('kept libraries: the rt of this kit does not cache libraries')
         return 3
     root = os.getcwd()
     rt.Crate.allowed = rt.handles_of(root)
@@ -69,9 +76,9 @@ def main(names):
     kept = rt.Kept(crates)
     lacking = [crate.name for crate in crates if not take(kept, crate)]
     if lacking:
-        print(f"kept libraries: not kept on this machine: {' '.join(lacking)}")
+        print(f"kept libraries: not cached on this machine: {' '.join(lacking)}")
     else:
-        print(f'kept libraries: {len(crates)} crates have what they need')
+        print(f'kept libraries: {len(crates)} crates have the libraries that they need')
     return 1 if lacking else 0
 
 
@@ -79,6 +86,6 @@ if __name__ == '__main__':
     try:
         status = main(sys.argv[1:])
     except Exception as error:
-        print(f'kept libraries: not taken, since rt is not as this tool knows it: {type(error).__name__}: {error}')
+        print(f'kept libraries: nothing copied, because the code of rt has changed: {type(error).__name__}: {error}')
         status = 1
     sys.exit(status)

@@ -1,13 +1,16 @@
 #!/usr/bin/env python3
-"""Says where the text is not laid out as the house has it: run at the top of the repository; nothing is proved. The last line is
-`N passed, M failed`, and `, K skipped` where rt is missing, which tells whether a crate is in its layout.
+"""Checks the layout of the repository. Run it at the top of the repository. It proves nothing.
 
-- each crate of crates.txt has its folder, and each folder of crates/ its line; an .rt or .antt file stands in a crate alone;
-- each wrong body, of the gate and beside it, still applies: its old texts stand in its file once; its name is no other's of its crate;
-- no crate cites another's proofs;
-- no file of sources, definitions, proofs or tools that is written by hand has 800 lines or more;
-- HANDLES has its one line;
-- each crate is in the layout of `rt fmt`.
+The last line is `N passed, M failed`, and `, K skipped` if rt is missing, which checks the format of the crates. It
+checks:
+
+- Each crate of crates.txt has its folder, and each folder of crates/ has its line. All .rt and .antt files belong to a
+  crate.
+- Each mutant can be applied: each of its old texts occurs once in its file. Mutants of a crate have different names.
+- No crate cites the proofs of another crate.
+- No hand-written file of sources, definitions, proofs or tools has 800 lines or more.
+- HANDLES has its one line.
+- Each crate has the format of `rt fmt`.
 """
 import collections
 import glob
@@ -39,20 +42,20 @@ def check_places(names):
     holds(f'crates.txt and crates/ differ: {sorted(set(names) ^ set(folders))}', sorted(names) == folders)
     tracked = subprocess.run(['git', 'ls-files', '*.rt', '*.antt'], stdout=subprocess.PIPE, text=True, check=False).stdout.split()
     astray = [path for path in tracked if not re.match(r'crates/\w+/(src/.*\.rt|(specs|proofs)/.*\.antt)$', path)]
-    holds(f'these stand in no crate: {astray}', not astray)
+    holds(f'these files are not in a crate: {astray}', not astray)
     with open('HANDLES', encoding='utf-8') as text:
-        holds('HANDLES has not its one line', text.read().strip() == 'Handles allowed: none.')
+        holds('HANDLES must have its one line and no other', text.read().strip() == 'Handles allowed: none.')
 
 
 def what_is_wrong(path, crate):
-    """Why a wrong body cannot be applied, or nothing."""
+    """Returns the reason why a mutant cannot be applied, or an empty text."""
     texts, file, old, pairs = {}, None, None, 0
     with open(path, encoding='utf-8') as lines:
         for line in lines.read().split('\n'):
             if line.startswith('file: '):
                 file = f'{crate}/{line[len("file: "):]}'
                 if not os.path.exists(file):
-                    return f'there is no {file}'
+                    return f'{file} does not exist'
             elif line.startswith('old: '):
                 old = line[len('old: '):]
             elif line.startswith('new:'):
@@ -60,9 +63,9 @@ def what_is_wrong(path, crate):
                     with open(file, encoding='utf-8') as text:
                         texts[file] = text.read()
                 if texts[file].count(old) != 1:
-                    return f'its old text stands {texts[file].count(old)} times in {file}'
+                    return f'its old text occurs {texts[file].count(old)} times in {file}'
                 texts[file], pairs = texts[file].replace(old, line[len('new: '):]), pairs + 1
-    return '' if pairs else 'it has no texts'
+    return '' if pairs else 'it replaces nothing'
 
 
 def check_wrong_bodies():
@@ -73,7 +76,7 @@ def check_wrong_bodies():
             why = what_is_wrong(path, crate)
             holds(f'{path}: {why}', not why)
         twice = [name for name, count in names.items() if count > 1]
-        holds(f'{crate}: two wrong bodies have one name: {twice}', not twice)
+        holds(f'{crate}: several mutants have the same name: {twice}', not twice)
 
 
 def check_citations(names):
@@ -98,13 +101,14 @@ def check_lengths():
 
 
 def check_format(names):
-    """By rt's own code, which looks and changes nothing. It has no command for that."""
+    """Checks the format of each crate with rt's own code, because rt has no command that checks without changing files.
+    """
     import kept_libraries
     rt = kept_libraries.rt_itself()
     rt.rtlib.stop = rt.stop
     for name in names:
         with open(os.devnull, 'w', encoding='utf-8') as out:
-            holds(f'{name} is not in the layout of `rt fmt`', not rt.rtlib.fmt(f'{os.getcwd()}/crates/{name}', '--check', out))
+            holds(f'{name} does not have the format of `rt fmt`', not rt.rtlib.fmt(f'{os.getcwd()}/crates/{name}', '--check', out))
 
 
 def main():
@@ -117,7 +121,7 @@ def main():
     if shutil.which('rt'):
         check_format(names)
     else:
-        print('layout: there is no rt here: NOT RUN: whether each crate is in the layout of `rt fmt`')
+        print('layout: rt is missing: NOT RUN: whether each crate has the format of `rt fmt`')
         skipped = 1
     print(f'{PASSED[0]} passed, {len(FAILED)} failed' + (f', {skipped} skipped' if skipped else ''))
     return 1 if FAILED else 0

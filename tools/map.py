@@ -1,13 +1,14 @@
 #!/usr/bin/env python3
-"""What each file is for, by its own first comment: run at the top of the repository; nothing is proved.
+"""Prints the purpose of each file, from its first comment. Run it at the top of the repository. It proves nothing.
 
-    python3 tools/map.py            all of crates.txt, in its order, and then the folders callers, rust and tools
-    python3 tools/map.py CRATE..    these crates, each with the crate of its tests if it has one
-    python3 tools/map.py FOLDER..   a folder beside the crates, as tools or callers/rust
-    python3 tools/map.py --bare     the files of crates that have no first comment
+    python3 tools/map.py            prints all crates of crates.txt, in order, and then the folders callers, rust and
+    tools
+    python3 tools/map.py CRATE..    prints these crates, each with the crate of its tests if it has one
+    python3 tools/map.py FOLDER..   prints another folder, like tools or callers/rust
+    python3 tools/map.py --bare     prints the files of crates that have no first comment
 
-Of a comment the first sentence is printed. Proofs that stand in folders below `proofs/` are about one function each, and are listed by
-its name. Files that only list others (Lib.antt, laws.antt) and modules that the Rust edition writes are left out.
+It prints the first sentence of each comment. A folder below `proofs/` has the proofs of one function and is listed by
+the function's name. Files that only list other files (Lib.antt, laws.antt) and generated Rust modules are left out.
 """
 import glob
 import os
@@ -29,7 +30,7 @@ def crates():
 
 
 def first_comment(path):
-    """The first paragraph of the comment that a file begins with, in one line; or an empty text."""
+    """Returns the first paragraph of the comment at the beginning of a file, in one line, or an empty text."""
     with open(path, encoding='utf-8') as text:
         text = re.sub(r'\A#!.*\n', '', text.read())
     kind = os.path.splitext(path)[1]
@@ -53,7 +54,8 @@ def sentence(text):
 
 
 def files(crate):
-    """The files of a crate that have something to say: sources, definitions and laws, lemmas; no list, no proof of one function."""
+    """Returns the sources, definitions, laws and lemmas of a crate. Lists and proofs of single functions are left out.
+    """
     kinds = ('src/**/*.rt', 'specs/**/*.antt', 'proofs/*.antt')
     paths = [path for kind in kinds for path in sorted(glob.glob(f'crates/{crate}/{kind}', recursive=True))]
     return [path for path in paths if os.path.basename(path) not in LISTS]
@@ -64,7 +66,7 @@ def bare():
 
 
 def proved_functions(crate):
-    """The functions that have a proof of their own, as paths below `proofs/`."""
+    """Returns the functions that have a proof of their own, as paths below `proofs/`."""
     paths = glob.glob(f'crates/{crate}/proofs/*/**/*.antt', recursive=True)
     return sorted({os.path.relpath(os.path.dirname(path), f'crates/{crate}/proofs') for path in paths})
 
@@ -79,7 +81,7 @@ def show_crate(crate):
         print(row(os.path.relpath(path, f'crates/{crate}'), sentence(first_comment(path)) or '(no first comment)'))
     functions = proved_functions(crate)
     if functions:
-        print(row('proofs/, of functions:', ', '.join(functions)))
+        print(row('proofs/, by function:', ', '.join(functions)))
 
 
 def show_folder(folder):
@@ -106,7 +108,7 @@ def main(words):
         elif os.path.isdir(word):
             show_folder(word.rstrip('/'))
         else:
-            print(f'there is no crate and no folder {word}', file=sys.stderr)
+            print(f'no crate or folder is named {word}', file=sys.stderr)
             return 1
     return 0
 

@@ -1,13 +1,15 @@
 #!/usr/bin/env python3
-"""The public calls that take memory, and whether each has a row that was refused memory.
+"""Lists the public calls that allocate, and checks that each has a test case in which its allocations fail.
 
-With no argument it prints the calls, as the sources of the crates say: each crate and, below it, its calls. That is to be the text
-of calls-that-take-memory.txt but for the mark `- ` before a call whose rows ask for no memory, so that nothing can be refused.
-With `--rows FILE` it compares the list with the sources and with the rows that tests told in FILE.
+Without an argument, it prints the calls found in the sources: each crate, and below it its calls. The output has to
+equal calls-that-take-memory.txt, except for the mark `- `. The mark precedes a call whose test cases do not
+allocate, so that no allocation can fail.
 
-A public call takes memory where it answers a `Result` and takes an `alloc: Global`, or where it can answer want of memory: an
-`AllocError`, or an error with a variant `Memory`. Copies count, of every public type that is not copied by assignment.
-Run at the top of the repository.
+With `--rows FILE`, it compares the list with the sources and with the test cases that the tests reported in FILE.
+
+A public call allocates if it returns a `Result` and has a parameter `alloc: Global`, or if it can return an
+`AllocError` or an error with a variant `Memory`. Clones count too, for every public type that is not `Copy`. Run it at
+the top of the repository.
 """
 import glob
 import os
@@ -20,19 +22,19 @@ LIST = 'calls-that-take-memory.txt'
 def crates():
     for line in open('crates.txt', encoding='utf-8'):
         name = line.split('#')[0].split(':')[0].strip()
-        # the calls of the library for C, and the copies apart that it makes, are refused memory from C, by callers/run
+        # callers/run tests the allocation failures of the library for C and of its deep copies, from C
         if name and not name.endswith('_tests') and name not in ('cedar_uses', 'cedar_test_helpers', 'cedar_refusals'):
             if not re.match(r'cedar_c(_|\b)|cedar_(\w+_)?apart\b', name):
                 yield name.split()[0]
 
 
 def plain(name):
-    """The name of a type, without what it is made over."""
+    """Returns the name of a type without its parameters."""
     return re.sub(r'<.*', '', name).strip()
 
 
 def shown(crate, texts):
-    """Whether an item of a file is seen from outside."""
+    """Returns a function that checks whether an item of a file is public."""
     root = texts.get('lib.rt', '') + texts.get('main.rt', '')
     modules = set(re.findall(r'^pub mod (\w+);', root, re.M))
     names = set()
@@ -47,7 +49,7 @@ def shown(crate, texts):
 
 
 def functions(text):
-    """Each function: the block that it stands in, whether it is public, its name, its signature, whether it has a body."""
+    """Yields each function: its block, whether it is public, its name, its signature, and whether it has a body."""
     block = ''
     lines = text.split('\n')
     for at, line in enumerate(lines):
@@ -74,7 +76,7 @@ def functions(text):
 
 
 def wanting(texts):
-    """The errors that have a variant `Memory`."""
+    """Yields the errors that have a variant `Memory`."""
     for text in texts.values():
         for name, body in re.findall(r'^pub enum (\w+)[^{]*\{(.*?)^\}', text, re.M | re.S):
             if re.search(r'^    Memory,', body, re.M):
@@ -82,7 +84,7 @@ def wanting(texts):
 
 
 def takes(signature, errors):
-    """Whether a function can answer want of memory."""
+    """Returns whether a function can return an allocation failure."""
     answer = signature.partition('->')[2]
     if 'Result<' not in answer:
         return False
@@ -92,7 +94,7 @@ def takes(signature, errors):
 
 
 def called(block, public, name, signature, body, errors, is_type):
-    """What rows call this function, if it takes memory and is seen."""
+    """Returns the name of the function in test cases, or None if it does not allocate or is not public."""
     over = re.match(r'impl(?:<[^>]*>)? (.+?) for (.+?)(?: where.*)?$', block)
     if over:
         trait, of = over.group(1), plain(over.group(2))
@@ -118,7 +120,7 @@ def called(block, public, name, signature, body, errors, is_type):
 
 
 def aliases(files):
-    """The names that a crate gives the instances of its generic types."""
+    """Returns the type aliases that a crate defines for instances of its generic types."""
     named = {}
     for text in files.values():
         for name, of in re.findall(r'^pub type (\w+) = (\w+)<', text, re.M):
@@ -127,7 +129,7 @@ def aliases(files):
 
 
 def under(call, named):
-    """A call by the names that instances of its type have, where they have some."""
+    """Returns the names of a call, with the aliases of its type if it has some."""
     of, colons, name = call.partition('::')
     return [f'{given}::{name}' for given in named[of]] if colons and of in named else [call]
 
@@ -160,7 +162,8 @@ def calls():
 
 
 def listed():
-    """The calls of the list, and whether each is marked as one whose rows ask for no memory."""
+    """Yields the calls of the list, and whether each has the mark of a call that does not allocate in its test cases.
+    """
     crate = None
     for line in open(LIST, encoding='utf-8'):
         line = line.rstrip()
@@ -172,7 +175,7 @@ def listed():
 
 
 def rows(file):
-    """For each call that has rows, how many there are and how many requests were refused in them."""
+    """Returns for each call the number of its test cases and the number of allocations that failed in them."""
     told = {}
     for line in open(file, encoding='utf-8', errors='replace'):
         found = re.match(r'\s*refused in turn: (.*?) \| .*: Well\((\d+)\)$', line)
@@ -183,23 +186,23 @@ def rows(file):
 
 
 def check(file):
-    """What is wrong with the list or the rows; says how many there are."""
+    """Prints the faults of the list and of the test cases, and the counts. Returns whether there is no fault."""
     own, marks, told = set(calls()), dict(listed()), rows(file)
     names = {call for _, call in own}
-    faults = [f'{LIST} lacks `{call}` of {crate}' for crate, call in sorted(own - set(marks))]
-    faults += [f'{LIST} has `{call}` of {crate}, which the sources have not' for crate, call in sorted(set(marks) - own)]
+    faults = [f'{LIST} does not list `{call}` of {crate}' for crate, call in sorted(own - set(marks))]
+    faults += [f'{LIST} lists `{call}` of {crate}, which is not in the sources' for crate, call in sorted(set(marks) - own)]
     for (crate, call), mark in sorted(marks.items()):
         if call not in told:
-            faults.append(f'`{call}` of {crate} has no row')
+            faults.append(f'`{call}` of {crate} has no test case')
         elif mark == (told[call][1] > 0):
-            faults.append(f'`{call}` of {crate} ' + ('asked for memory, and is marked as if not' if mark else 'asked for no memory'))
-    faults += [f'rows name `{call}`, which is no public call that takes memory' for call in sorted(set(told) - names)]
+            faults.append(f'`{call}` of {crate} ' + ('allocates, but has the mark `- `' if mark else 'does not allocate, but has no mark `- `'))
+    faults += [f'test cases name `{call}`, which is not a public call that allocates' for call in sorted(set(told) - names)]
     for fault in faults:
         print(f'refuse: {fault}')
     with_rows = sum(call in told for _, call in own)
     count = sum(number for number, _ in told.values())
     requests = sum(number for _, number in told.values())
-    print(f'refuse: {with_rows} of {len(own)} calls have rows: {count} rows, {requests} requests refused in turn')
+    print(f'refuse: {with_rows} of {len(own)} calls have test cases: {count} test cases, {requests} failed allocations')
     return not faults
 
 

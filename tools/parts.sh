@@ -1,21 +1,21 @@
-# What ./test adds up: sourced by it, and by tools/parts_are_counted.sh, which shows that nothing passes by accident.
+# Functions that run the parts of ./test and add up their counts. tools/parts_are_counted.sh tests them.
 #
-# A part is a command whose last line is `N passed, M failed` or `N passed, M failed, K skipped`. One that tells no count, that counts
-# nothing at all, or that ends with a status other than 0 though it counts no failure, is a failure more. What is skipped is what a tool
-# that is missing on this machine was for, which the part names.
+# A part is a command whose last line is `N passed, M failed` or `N passed, M failed, K skipped`. It counts as one more
+# failure if it has no such line, if it counts nothing, or if it ends with a status other than 0 without a failure.
+# Skipped tests need a tool that this machine does not have. The part names the tool.
 passed=0
 failed=0
 skipped=0
 room=$(mktemp -d)
 trap 'rm -rf "$room"' EXIT
 
-# Says what is wrong, aloud.
+# Reports a fault and counts it.
 fault() {
     echo "test: FAILED: $1"
     failed=$((failed + 1))
 }
 
-# Runs a part, shows what it writes, and adds up what it tells: what it is, then the command.
+# Runs a part, shows its output and adds up its counts. Arguments: a title, then the command.
 part() {
     local what=$1 status last count='^([0-9]+) passed, ([0-9]+) failed(, ([0-9]+) skipped)?( \(.*\))?$'
     shift
@@ -24,7 +24,7 @@ part() {
     status=${PIPESTATUS[0]}
     last=$(tail -n 1 "$room/one")
     if ! [[ $last =~ $count ]]; then
-        fault "$what told no count, and ended with status $status"
+        fault "$what printed no count, and ended with status $status"
         return
     fi
     local well=${BASH_REMATCH[1]} ill=${BASH_REMATCH[2]} less=${BASH_REMATCH[4]:-0}
@@ -38,7 +38,7 @@ part() {
     fi
 }
 
-# Says the sum, in the last line, and ends with the status that it asks for.
+# Prints the sum as the last line and exits with the status for it.
 ended() {
     if [ "$skipped" -eq 0 ]; then
         echo "$passed passed, $failed failed"

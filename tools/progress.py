@@ -1,11 +1,12 @@
 #!/usr/bin/env python3
-"""Says how far proving is: how many crates are proved of all, and some minutes that are left by the table of docs/GATE.md.
+"""Shows the progress of the proofs: the number of proved crates, and the estimated minutes left by the table of
+docs/GATE.md.
 
-`rt ci | python3 tools/progress.py` hands on each line, and after one that says that a crate is proved it says how far the gate is: at a
-terminal in one line that is written over, else in a line of its own, on standard error both.
+`rt ci | python3 tools/progress.py` prints each line of its input. After a line that reports a proved crate, it prints
+the progress to standard error: at a terminal in one line that is overwritten, otherwise in a line of its own.
 
-`python3 tools/progress.py CRATE PID` is for a build of one crate and those below it, which says less: it looks every second which of
-them are built and not older than their sources, until the process PID ends.
+`python3 tools/progress.py CRATE PID` is for a build of one crate and its dependencies, which reports less. It checks
+every second which dependencies have an up-to-date library, until the process PID ends.
 """
 import glob
 import os
@@ -15,12 +16,12 @@ import time
 
 TOP = os.path.dirname(os.path.dirname(os.path.abspath(__file__)))
 DONE = re.compile(r'^rt: (cedar_\w+) (?:proved|is kept:)')
-# what a crate is taken to need, in seconds of a processor, where the table has no time for it; and a wrong body of the gate
+# the assumed processor time in seconds of a crate that the table does not list, and of a mutant
 UNKNOWN, WRONG_BODY = 100, 60
 
 
 def crates():
-    """The crates of crates.txt, each with those that it names."""
+    """Returns the crates of crates.txt, each with its dependencies."""
     found = {}
     with open(os.path.join(TOP, 'crates.txt'), encoding='utf-8') as lines:
         for line in lines:
@@ -36,7 +37,7 @@ def first_number(cell):
 
 
 def seconds():
-    """What each crate of the tables in docs/GATE.md takes of a processor."""
+    """Returns the processor time of each crate in the tables of docs/GATE.md, in seconds."""
     found = {}
     with open(os.path.join(TOP, 'docs', 'GATE.md'), encoding='utf-8') as lines:
         for line in lines:
@@ -52,7 +53,7 @@ def seconds():
 
 
 def below(uses, name):
-    """A crate and those of the repository that stand below it."""
+    """Returns a crate and its dependencies in the repository."""
     found, left = set(), [name]
     while left:
         one = left.pop()
@@ -63,7 +64,7 @@ def below(uses, name):
 
 
 class Told:
-    """What was said last, to be written over at a terminal."""
+    """The progress line. At a terminal it is overwritten."""
 
     def __init__(self, all_names):
         self.all, self.done, self.cost, self.width = set(all_names), set(), seconds(), 0
@@ -72,7 +73,7 @@ class Told:
         left = sum(self.cost.get(name, UNKNOWN) for name in self.all - self.done) / max(1, min(4, os.cpu_count() or 1))
         text = f'proved: {len(self.done)} of {len(self.all)} crates'
         if self.all - self.done:
-            text += f', some {max(1, round(left / 60))} minutes left'
+            text += f', about {max(1, round(left / 60))} minutes left'
         if sys.stderr.isatty():
             print('\r' + text.ljust(self.width), end='' if self.all - self.done else '\n', file=sys.stderr, flush=True)
             self.width = len(text)
@@ -85,7 +86,7 @@ class Told:
 
 
 def is_built(name):
-    """Whether a crate's library is there and no source of it is younger."""
+    """Returns whether the library of a crate exists and no source of the crate is newer."""
     folder = os.path.join(TOP, 'crates', name)
     built = os.path.join(folder, 'out', 'rlib', f'{name}.rlib')
     if not os.path.exists(built):
@@ -96,7 +97,7 @@ def is_built(name):
 
 
 def watch(name, process):
-    """Looks at the libraries below a crate until a process ends. Where all are there at the start it says nothing."""
+    """Checks the libraries of a crate's dependencies until a process ends. Prints nothing if all exist at the start."""
     names = below(crates(), name) - {name}
     told = Told(names)
     told.done = {one for one in names if is_built(one)}
@@ -115,7 +116,7 @@ def watch(name, process):
 
 
 def hand_on():
-    """Hands on each line of standard input."""
+    """Prints each line of standard input, and the progress."""
     told = Told(crates())
     for line in sys.stdin:
         told.clear()

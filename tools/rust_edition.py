@@ -1,27 +1,32 @@
 #!/usr/bin/env python3
-"""Writes the Rust edition: the cargo package in `rust/`, whose modules are the crates of the layer without their contracts.
+"""Writes the Rust edition: the cargo package in `rust/`, whose modules are the crates of the layer without contracts.
 
 usage: tools/rust_edition.py [--check | --tests FOLDER | --callers FOLDER]
-With --check nothing is written: it says which files differ from what would be written, and fails where one does. With
---tests a copy of the package is written to a folder, with the layer's own tests as its modules: `cargo test --lib` there.
-With --callers a copy is written that has the crates of the library for C as its modules too: `cargo build` there makes a
-static library with the functions of `callers/c/cedar.h` (`callers/try`). What stands as it is to be is not written again.
 
-What is proved is the layer in `crates/`; its text is taken from there by these rules, in this order:
+- `--check` writes nothing. It prints the files that differ from what would be written, and fails if there are any.
+- `--tests` writes a copy of the package to a folder, with the layer's own tests as modules. Run `cargo test --lib`
+  there.
+- `--callers` writes a copy of the package with the crates of the C library as modules. `cargo build` there creates a
+  static library with the functions of `callers/c/cedar.h`; see `callers/try`. A file that is up to date is not written.
 
-- what only proofs look at goes: contracts, ghost items, models, tactics (`ghosts.py`);
-- no memory is refused: allocators go, a function that could be wrong for want of memory alone gives its value, and with
-  it go `?` and `Ok(..)`; the variant `Memory` of errors goes with the arms that look at it (`functions.py`, `bodies.py`);
-- errors get the texts that `thiserror` would write for them, `as_ref` becomes `AsRef` (`items.py`);
-- parameters of public functions are as std has them: what can be gone through, what is a text (`wide.py`);
-- forms that a proof asks for get the words that a Rust programmer has for them (`forms.py`, `statements.py`);
-- what hashes and tells uids apart is marked to be inlined (`items.py`), and functions that only copy, compare or hash
-  what they are lent are said where they are called (`calls.py`);
-- names are those of Rust's std, `use` has what a file needs (`texts.py`);
-- comments say nothing of memory, contracts and proofs (`notes.py`).
+The proved text is the layer in `crates/`. The tool applies these rules to it, in this order:
 
-What stands outside of the rules is named in `exceptions.py`, or is said otherwise in `otherwise.txt`. What no source of
-the layer has is written by hand, in `rust/src/handwritten/`, `rust/src/lib.rs`, `rust/src/main.rs` and `rust/src/bin/`."""
+- Everything that only proofs use is removed: contracts, ghost items, models and tactics (`ghosts.py`).
+- Allocations cannot fail. Allocators are removed. A function that could fail only by an allocation returns its value,
+  without `?` and `Ok(..)`. The variant `Memory` of errors is removed, with the match arms for it (`functions.py`,
+  `bodies.py`).
+- Errors get the messages that `thiserror` would write, and `as_ref` becomes `AsRef` (`items.py`).
+- Parameters of public functions become as general as in std: `impl IntoIterator` or `impl AsRef<str>` (`wide.py`).
+- Code whose form only a proof needs gets the usual form in Rust (`forms.py`, `statements.py`).
+- Functions that hash and compare uids are marked `#[inline]` (`items.py`). Calls of functions that only copy, compare
+  or hash their arguments are replaced by the bodies (`calls.py`).
+- Names become the names of Rust's std, and each file gets the `use` items that it needs (`texts.py`).
+- Comments lose the sentences on allocations, contracts and proofs (`notes.py`).
+
+Exceptions to the rules are listed in `exceptions.py`, and replacements of texts in `otherwise.txt`. Code that has no
+source in the layer is written by hand, in `rust/src/handwritten/`, `rust/src/lib.rs`, `rust/src/main.rs` and
+`rust/src/bin/`.
+"""
 import os
 import shutil
 import subprocess
@@ -61,7 +66,7 @@ crate-type = ["staticlib"]
 
 [workspace]
 
-# checks of bounds, overflow and `debug_assert!` stay; a panic ends the program
+# keep the checks of bounds, overflow and `debug_assert!`; a panic ends the program
 [profile.dev]
 opt-level = 1
 debug = 0
@@ -75,7 +80,7 @@ LISTS = SimpleNamespace(
 
 
 def read_files(crates):
-    """the sources of some crates, without what only proofs look at"""
+    """Reads the sources of crates, without the parts that only proofs use."""
     files = []
     for crate in crates:
         folder = os.path.join(TOP, 'crates', crate, 'src')
@@ -88,12 +93,13 @@ def read_files(crates):
 
 
 def source_of(folder, crate, module):
-    """the text of a source, with what it says otherwise than the rules read it"""
+    """Reads a source, and applies its replacements from `otherwise.txt`."""
     return otherwise.said(read(os.path.join(folder, module + '.rt')), BEFORE.get((crate, module), []), f'{crate}/{module}')
 
 
 def table_of(files):
-    """what each function answers; those that can only be wrong for want of memory give values"""
+    """Returns the table of the results of all functions. Functions that can fail only by an allocation return values.
+    """
     table = Table()
     open_ = []
     for file in files:
@@ -116,7 +122,10 @@ def table_of(files):
 
 
 def asked_for(files, heads, crates):
-    """the names that crates are asked for at their heads, where the heads of others are as they are given"""
+    """Returns the names that other files import from the heads of crates, which are the `lib` files.
+
+    `heads` has the current text of the heads.
+    """
     out = set()
     by_hand = [os.path.join(HAND, name) for name in sorted(os.listdir(HAND))] + [os.path.join(HAND, '..', 'lib.rs')]
     trees = [(None, parse(read(path))) for path in by_hand]
@@ -140,7 +149,7 @@ def read(path):
 
 
 def written(file, writer, asked):
-    """the text of a file of the package"""
+    """Returns the text of a file of the package."""
     nodes, crates = file.nodes, writer.lists.crates
     if file.module == 'lib':
         nodes = texts.pruned(nodes, file.crate, asked)
@@ -154,13 +163,14 @@ def written(file, writer, asked):
     uses = texts.uses_of(paths, parse(body), file.crate, crates, more)
     head, rest = head_of(body)
     source = notes.without_proofs(head + '\n'.join(uses) + '\n\n' + rest, file.module == 'lib')
+    source = notes.without_error_sections(source)
     source = otherwise.said(source, AFTER.get((file.crate, file.module), []), f'{file.crate}/{file.module} after')
     name = 'lib' if file.module == 'lib' else file.module
     return f'{MARK} from crates/{file.crate}/src/{name}.rt: do not edit.\n\n' + source
 
 
 def head_of(source):
-    """the comment at the top of a file, and the rest"""
+    """Splits a text into the comment at the top of a file and the rest."""
     lines = source.lstrip('\n').split('\n')
     k = 0
     while k < len(lines) and (lines[k].startswith('//!') or not lines[k].strip()):
@@ -169,7 +179,10 @@ def head_of(source):
 
 
 def package(files, table, lists, more=frozenset()):
-    """the text of each file of the package that is written, by its path below `rust/src`, not laid out"""
+    """Returns the text of each file of the package by its path below `rust/src`, and whether there are faults.
+
+    The texts are not formatted. The faults are printed.
+    """
     writer = Writer(table, lists)
     heads, asked = {}, set()
     while True:
@@ -182,7 +195,7 @@ def package(files, table, lists, more=frozenset()):
     for file in files:
         name = 'mod' if file.module == 'lib' else file.module
         out[os.path.join(file.crate, name + '.rs')] = written(file, writer, asked)
-    faults = [f'no rule knows {u}' for u in writer.unknown]
+    faults = [f'no rule for {u}' for u in writer.unknown]
     faults += [f for name in out if name.split(os.sep)[0] in exceptions.CRATES for f in notes.faults(name, out[name])]
     for fault in faults:
         print(fault, file=sys.stderr)
@@ -190,30 +203,38 @@ def package(files, table, lists, more=frozenset()):
 
 
 def laid_out(sources, folder):
-    """the files, written below a folder and laid out by rustfmt"""
+    """Writes files below a folder, formats them with rustfmt, and returns the formatted texts.
+
+    Raises:
+        SystemExit: rustfmt failed.
+    """
     write(sources, folder)
     paths = [os.path.join(folder, name) for name in sorted(sources)]
     config = os.path.join(TOP, 'rust', 'rustfmt.toml')
-    for _ in range(2):  # what was moved by the first round is laid out by the second
+    for _ in range(2):  # the second round formats what the first one moved
         command = ['rustfmt', '--edition', '2024', '--config-path', config, *paths]
         if subprocess.run(command, check=False).returncode != 0:
-            sys.exit('rustfmt does not take what was written')
+            sys.exit('rustfmt failed on the generated files')
     return {name: read(os.path.join(folder, name)) for name in sources}
 
 
 def exampled(sources):
-    """the files with the examples of their calls; an example of a call that no file has is told"""
+    """Returns the files with the examples of their calls.
+
+    Raises:
+        SystemExit: a call with an example is in no file.
+    """
     hidden, found = examples.entries()
     used = set()
     out = {name: examples.with_examples(source, hidden, found, used) for name, source in sources.items()}
     unused = sorted(' '.join(call) for call in found.keys() - used - {'*'})
     if unused:
-        sys.exit(f'examples.txt has examples of what is not there: {", ".join(unused)}')
+        sys.exit(f'examples.txt has examples of calls that do not exist: {", ".join(unused)}')
     return out
 
 
 def standing(folder):
-    """the files below a folder that this tool wrote"""
+    """Reads the files below a folder that this tool wrote."""
     out = {}
     for base, _, names in os.walk(folder):
         for name in names:
@@ -224,6 +245,7 @@ def standing(folder):
 
 
 def write(sources, folder):
+    """Writes files below a folder. Creates the folders that are missing."""
     for name, source in sources.items():
         path = os.path.join(folder, name)
         os.makedirs(os.path.dirname(path), exist_ok=True)
@@ -232,7 +254,11 @@ def write(sources, folder):
 
 
 def write_tests(folder):
-    """a copy of the package with the layer's tests as modules"""
+    """Writes a copy of the package with the tests of the layer as modules, and exits.
+
+    Raises:
+        SystemExit: always; with status 1 if there are faults.
+    """
     files = read_files(exceptions.CRATES)
     table = table_of(files)
     lists = SimpleNamespace(**{**vars(LISTS), 'dropped': exceptions.DROPPED, 'hidden': set()})
@@ -250,7 +276,11 @@ def write_tests(folder):
 
 
 def write_callers(folder):
-    """a copy of the package with the library for C as modules"""
+    """Writes a copy of the package with the C library as modules, and exits.
+
+    Raises:
+        SystemExit: always; with status 1 if there are faults.
+    """
     dropped = LISTS.dropped - exceptions.ASKED_FROM_C | exceptions.UNASKED_FROM_C
     crates = exceptions.CRATES + exceptions.CALLERS
     files = read_files(crates)
@@ -270,7 +300,7 @@ def write_callers(folder):
 
 
 def write_differing(sources, folder):
-    """the files below a folder become these; one that stands so already keeps its time"""
+    """Replaces the files below a folder. A file that is up to date keeps its modification time."""
     for base, _, names in os.walk(os.path.join(folder, 'src')):
         for path in [os.path.join(base, name) for name in names]:
             if os.path.relpath(path, folder) not in sources:
@@ -287,7 +317,7 @@ def main():
     if sys.argv[1:] not in ([], ['--check']):
         sys.exit(__doc__)
     if shutil.which('rustfmt') is None:
-        sys.exit('rustfmt is missing: the text is laid out by it')
+        sys.exit('rustfmt is missing: it formats the generated files')
     files = read_files(exceptions.CRATES)
     sources, is_unknown = package(files, table_of(files), LISTS)
     with tempfile.TemporaryDirectory() as folder:
@@ -296,8 +326,8 @@ def main():
     differing = sorted(name for name in due.keys() | there.keys() if due.get(name) != there.get(name))
     if sys.argv[1:] == ['--check']:
         for name in differing:
-            print(f'rust/src/{name} is not what tools/rust_edition.py writes')
-        print(f'{len(due) - len([n for n in differing if n in due])} of {len(due)} files are as they are written')
+            print(f'rust/src/{name} differs from the output of tools/rust_edition.py')
+        print(f'{len(due) - len([n for n in differing if n in due])} of {len(due)} files are up to date')
         sys.exit(1 if differing or is_unknown else 0)
     write({name: due[name] for name in differing if name in due}, SRC)
     for name in differing:

@@ -1,9 +1,11 @@
-"""What the program writes for an input, by a plain model: the lines that `EntityCommand.antt` of `cedar_entity_lines` and
-`PolicyCommand.antt` of `cedar_policy_lines` say, and what `EntityOutput.antt`, `PolicyOutput.antt` and `Output.antt` of
-`cedar_store` make of them.
+"""A plain model of the program: computes the output for an input.
 
-A world is a dictionary from the text of a uid to the set of its parents; a board is a dictionary of bodies and one of policies,
-each in their order. `./bench` compares the program with it.
+It follows the definitions of commands in `EntityCommand.antt` of `cedar_entity_lines` and `PolicyCommand.antt` of
+`cedar_policy_lines`, and of their output in `EntityOutput.antt`, `PolicyOutput.antt` and `Output.antt` of
+`cedar_store`.
+
+A world is a dictionary from the texts of uids to sets of parents. A board is a dictionary of bodies and a dictionary of
+policies, in insertion order. `./bench` compares the program with this model.
 """
 import re
 
@@ -16,7 +18,7 @@ MARKS = [b"principal=", b"action=", b"resource="]
 
 
 def uid(text):
-    """The place of a uid among others, if this is the text of one: its basename, its path and its eid."""
+    """Returns the sort key of a uid (basename, path and eid), or None if the text is not a uid."""
     name, mark, rest = text.partition(b'::"')
     if not mark or not rest.endswith(b'"') or not NAME.fullmatch(name):
         return None
@@ -46,7 +48,7 @@ def escaped(text):
 
 
 def above(world, start):
-    """What is reached from some uids over parents."""
+    """Returns the uids that are reachable from some uids over parents."""
     reached, left = set(), [parent for own in start for parent in world.get(own, ())]
     while left:
         one = left.pop()
@@ -99,7 +101,7 @@ class Session:
         return self.closed(world)
 
     def entities(self, word, uids):
-        """What a line on entities writes, if it is one."""
+        """Returns the output of a command on entities, or None if the line is not one."""
         if not all(uid(text) for text in uids):
             return None
         if word == b"ent" and uids:
@@ -137,7 +139,7 @@ class Session:
         return b"ok\n"
 
     def links(self, template, own, fields):
-        """What a line that links writes, if it is one."""
+        """Returns the output of a command that links, or None if the line is not one."""
         bound = {}
         for field in fields:
             slot = next((slot for slot in range(3) if field.startswith(MARKS[slot]) and uid(field[len(MARKS[slot]):])), None)
@@ -183,7 +185,7 @@ class Session:
         return b"\t".join([b"ok"] + [escaped(text) for pair in new.items() for text in pair]) + b"\n"
 
     def policies(self, fields):
-        """What a line on policy sets writes, if it is one."""
+        """Returns the output of a command on policy sets, or None if the line is not one."""
         word, rest = fields[0], fields[1:]
         if word == b"static" and len(rest) == 2 and rest[1] in (b"permit", b"forbid"):
             body = rest[1], ()
@@ -205,7 +207,7 @@ class Session:
         return None
 
     def line(self, line):
-        """What a line writes, or None where it is no command."""
+        """Returns the output of a line, or None if it is not a command."""
         if not line:
             return b""
         if re.search(rb"[^\t -~]", line):
@@ -216,7 +218,7 @@ class Session:
 
 
 def output(given):
-    """What is written for an input, the status, and how many lines were taken as commands."""
+    """Returns the output for an input, the status, and the number of lines that were commands."""
     session, out = Session(), []
     for number, line in enumerate(given.split(b"\n"), 1):
         written = session.line(line)

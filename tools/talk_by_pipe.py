@@ -1,9 +1,9 @@
 #!/usr/bin/env python3
-"""Holds conversations with the built program `talk` over pipes: `python3 tools/talk_by_pipe.py` at the top of the repository.
+"""Tests the built program `talk` over pipes: `python3 tools/talk_by_pipe.py` at the top of the repository.
 
-What no contract says is shown here on the program itself: that a question has its answer before the next line is written, that
-half a line has none, and which arguments and statuses there are. TALK_PROGRAM names another program. The last line is
-`N passed, M failed`.
+It tests what no contract covers. The program answers a command before it reads the next line, and does not answer an
+incomplete line. The arguments and exit statuses are tested too. TALK_PROGRAM names another program. The last line is `N
+passed, M failed`.
 """
 import os
 import pathlib
@@ -14,16 +14,16 @@ import time
 
 TOP = pathlib.Path(__file__).resolve().parent.parent
 PROGRAM = os.environ.get("TALK_PROGRAM", str(TOP / "crates/cedar_talk_cli/out/cedar_talk_cli"))
-# An answer is waited for so many seconds; that there is none is seen after so many.
+# The seconds to wait for an answer, and to wait before concluding that there is none.
 LONGEST, SILENCE = 20, 0.3
 
 
 class Wrong(Exception):
-    """The program did other than what is due."""
+    """The program did not behave as expected."""
 
 
 class Talk:
-    """The program at the other end of two pipes, which stay open over a conversation."""
+    """The program, connected by two pipes that stay open for a whole conversation."""
 
     def __init__(self, *arguments):
         self.program = subprocess.Popen([PROGRAM, *arguments], stdin=subprocess.PIPE, stdout=subprocess.PIPE, stderr=subprocess.PIPE, bufsize=0)
@@ -43,7 +43,7 @@ class Talk:
         self.program.stdin.write(given)
 
     def answers(self, given, due):
-        """Writes bytes, and waits for the answer, of which no more may come."""
+        """Writes bytes, and checks that the program answers exactly the expected bytes."""
         self.write(given)
         told, end = b"", time.monotonic() + LONGEST
         while len(told) < len(due) and time.monotonic() < end:
@@ -53,25 +53,25 @@ class Talk:
                     break
                 told += part
         if told != due:
-            raise Wrong(f"{given!r} was answered {told!r}, and not {due!r}")
+            raise Wrong(f"the answer to {given!r} is {told!r}, expected {due!r}")
 
     def is_silent(self, given):
-        """Writes bytes that have no answer."""
+        """Writes bytes, and checks that the program does not answer."""
         self.write(given)
         if select.select([self.program.stdout], [], [], SILENCE)[0]:
-            raise Wrong(f"{given!r} was answered {self.program.stdout.read(65536)!r}")
+            raise Wrong(f"the answer to {given!r} is {self.program.stdout.read(65536)!r}, expected none")
 
     def ends(self, status, closes=True, due=b"", said=None):
-        """Closes the input, if it is not the program that ends, and waits for the rest and for the end."""
+        """Closes the input unless the program ends by itself, and checks the rest of its output and its status."""
         if closes:
             self.program.stdin.close()
         os.set_blocking(self.program.stdout.fileno(), True)
         told, ended = self.program.stdout.read(), self.program.wait(LONGEST)
         if (told, ended) != (due, status):
-            raise Wrong(f"at the end it wrote {told!r} with status {ended}, and not {due!r} with {status}")
+            raise Wrong(f"the output ends with {told!r}, status {ended}, expected {due!r}, status {status}")
         complaint = self.program.stderr.read()
         if said is None and complaint or said is not None and said not in complaint:
-            raise Wrong(f"it said {complaint!r}")
+            raise Wrong(f"standard error is {complaint!r}")
 
 
 def each_question_has_its_answer():
@@ -145,7 +145,7 @@ def strictly_it_ends():
 def help_is_told():
     text = subprocess.run([PROGRAM, "--help"], stdin=subprocess.DEVNULL, capture_output=True, timeout=LONGEST)
     if text.returncode or text.stderr or b"anc UID" not in text.stdout:
-        raise Wrong(f"--help wrote {text.stdout!r} and said {text.stderr!r} with status {text.returncode}")
+        raise Wrong(f"--help wrote {text.stdout!r}, to standard error {text.stderr!r}, status {text.returncode}")
     with Talk() as talk:
         talk.answers(b"help\n", text.stdout)
         talk.answers(b"help \n", b"line 2: not a command\n")

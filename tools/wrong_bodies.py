@@ -1,19 +1,25 @@
 #!/usr/bin/env python3
-"""Tries wrong bodies, many in one check: `./wrong-bodies` says what for. Run at the top of the repository, with names of crates, and before
-them, where wanted: `--jobs N` gives each check N jobs, where rt's own choice is too much beside other work; `--gate` tries those alone that
-the gate tries, `--beside` the others alone; `--edits NAME,NAME` these alone; `--part K/N` the Kth of N parts, so that N runs side by side
-try all.
+"""Tests mutants: small wrong edits of the crates, which the proofs have to kill. Run it at the top of the repository.
 
-A contract stands between a function and its callers, so whether a body is proved does not hang on what other bodies do. So one check tries
-one wrong body of each of several functions at once, by `rt check --only` these, over the libraries below that are kept (those that
-tools/kept_libraries.py finds are taken; rt proves the others), and without a proof of the crate first.
+    python3 tools/wrong_bodies.py [OPTION..] [CRATE..]
 
-What tells that a wrong body was refused is the line of its own function, and that a goal of it is not proved: an answer that no longer
-fits what is to be shown, or a goal that had none and is not found. Where answers were lost by their names alone (a goal that is called
-otherwise now, a fact that a proof names and that is gone), nothing is shown of the contract: that is said to be a lost name, and counts for
-nothing. A function whose callee was changed in the same check waits for a later one.
+- `--jobs N` gives each check N jobs, instead of the number that rt chooses.
+- `--gate` tries only the mutants in must-fail/, which the full check tries too.
+- `--beside` tries only the mutants in wrong-bodies/.
+- `--edits NAME,NAME` tries only these mutants.
+- `--part K/N` tries the Kth of N parts, so that N processes can share the work.
 
-A wrong body that changes what is no body (a type, a constant, a clause) is tried alone, by a check of the whole crate.
+Callers of a function depend only on its contract. So whether a body can be proved does not depend on other bodies. One
+check therefore tries mutants of several functions, with `rt check --only` and these functions. It uses the cached
+libraries that tools/kept_libraries.py finds. rt proves the other dependencies.
+
+A mutant is killed if the check reports that its function is not proved because of a goal: a given proof no longer fits,
+or rt finds no proof. If the only errors are lost names, for example a goal or a fact with another name, the contract
+was not tested. Such a mutant is reported as a lost name, and is not counted as killed. If a check changes a callee of a
+function, the function's mutant waits for a later check.
+
+A mutant that changes something else than a body (a type, a constant or a clause) is tried by a check of the whole
+crate.
 """
 import glob
 import os
@@ -24,15 +30,18 @@ import sys
 import tempfile
 import time
 
-# The most wrong bodies of one check: with more, more functions wait for callees.
+# The most mutants of one check. With more, more functions wait for callees.
 MOST = 10
+COUNTED = {'refused': 'killed', 'lost': 'with a lost name', 'not': 'not killed', 'not tried': 'not tried'}
 BEGINS = re.compile(r'^(\s*)(?:pub(?:\([^)]*\))? )?(?:const )?(?:unsafe )?(?:extern "C" )?fn (\w+)')
 LOST_NAME = re.compile(r'has no field|is not in scope|has no `|was not admitted|not found: `|no `[^`]*` that can be named|cannot be named|no such name')
 DIAGNOSTIC = re.compile(r'^(?:note: )?(?:\./)?((?:proofs|src|specs)/\S+?):\d+:\d+: (.*)$')
 
 
 class WrongBody:
-    """An edit of one file: the texts that it replaces, and the function in whose body these stand, if there is one."""
+    """A mutant: an edit of one file. It has the replaced texts, and the function whose body contains them, if there is
+    one.
+    """
 
     def __init__(self, path, crate):
         self.path, self.name = path, os.path.basename(path)[:-len('.edit')]
@@ -41,7 +50,7 @@ class WrongBody:
             for line in lines.read().split('\n'):
                 if line.startswith('file: '):
                     if self.file not in ('', line[len('file: '):]):
-                        sys.exit(f'{path}: a wrong body is one of one file')
+                        sys.exit(f'{path}: a mutant must edit only one file')
                     self.file = line[len('file: '):]
                 elif line.startswith('old: '):
                     old = line[len('old: '):]
@@ -52,27 +61,30 @@ class WrongBody:
         self.function = self.place()
 
     def place(self):
-        """The function in whose body all that is replaced stands, as `--only` takes it, or None."""
+        """Returns the function whose body contains all replaced texts, in the form that `--only` takes, or None."""
         if not self.file.startswith('src/') or any(self.text.count(old) != 1 for old, _ in self.pairs):
             return None
         lines = [self.text[:self.text.index(old)].count('\n') for old, _ in self.pairs]
         for start, end, owner, name in bodies(self.text):
             if all(start < line < end for line in lines):
-                # The functions of a type's own impl are called by the file of the type, whatever file they stand in.
+                # Functions in an impl without a trait are named by the type's file, even if the impl is in another file.
                 file = [] if owner.endswith('::') else self.file[len('src/'):-len('.rt')].split('/')
                 inner = [it for it in (*file, owner.removesuffix('::')) if it and it not in ('lib', 'main')]
                 return '::'.join([*inner, name])
         return None
 
     def edited(self, text):
-        """A file's text with this edit made."""
+        """Returns the text of a file with this edit applied."""
         for old, new in self.pairs:
             text = text.replace(old, new, 1)
         return text
 
 
 def owner_of(head):
-    """What a check calls the functions of an `impl`: the type, and behind it a trait with what it is given; a type's own with colons."""
+    """Returns the name that a check uses for the functions of an `impl`.
+
+    It is the type, followed by the trait with its parameters, or by `::` for an impl without a trait.
+    """
     head = re.sub(r'^impl(<(?:[^<>]|<[^<>]*>)*>)? ', '', head.split(' where ')[0].rstrip(' {'))
     trait, _, kind = head.rpartition(' for ')
     kind = re.sub(r"<.*|&(?:'\w+ )?(?:mut )?", '', kind)
@@ -82,7 +94,9 @@ def owner_of(head):
 
 
 def bodies(text):
-    """The functions of a file as `rt fmt` lays it out: the lines of a body's braces, the owner of its impl, and its name."""
+    """Returns the functions of a file in the layout of `rt fmt`: the lines of the body's braces, the owner and the
+    name.
+    """
     lines, owner, found, at = text.split('\n'), '', [], 0
     while at < len(lines):
         if lines[at].startswith('impl'):
@@ -110,7 +124,7 @@ def bodies(text):
 
 
 def diagnostics(told):
-    """The errors and notes of a check, each with the file that it is about and all its lines."""
+    """Returns the errors and notes of a check, each with its file and all its lines."""
     found = []
     for line in told.split('\n'):
         begins = DIAGNOSTIC.match(line)
@@ -124,8 +138,11 @@ def diagnostics(told):
 
 
 def judged(told, function):
-    """What a check tells of a function: 'refused' at a goal, 'lost' (names alone), 'waits' (a callee is not proved), 'proved' or
-    'unknown', and the first words of why."""
+    """Returns the result of a check for a function, and the beginning of the reason.
+
+    The result is 'refused' (killed at a goal), 'lost' (only names are lost), 'waits' (a callee is not proved), 'proved'
+    or 'unknown'.
+    """
     lines = re.findall(r'(?m)^(?:so far: )?fn (\S+): (.*)$', told)
     own = [(path, rest) for path, rest in lines if ('::' + path).endswith('::' + function)]
     if len({path for path, _ in own}) != 1:
@@ -149,12 +166,15 @@ def judged(told, function):
 
 
 def link_or_copy(one, other):
-    """Gives a file of a check's work a second name where a check replaces such a file, and else copies it."""
+    """Creates a hard link if a check replaces such a file, and a copy otherwise."""
     return os.link(one, other) if one.endswith('.oantt') else shutil.copy2(one, other)
 
 
 def copy_of_repository(room):
-    """Copies what a check reads, and what checks kept: of a built library, whose files are replaced and never written, a second name."""
+    """Copies the files that a check reads, and the results of earlier checks.
+
+    Files of built libraries are only replaced, never written, so they are hard-linked.
+    """
 
     def copy(one, other):
         try:
@@ -168,7 +188,7 @@ def copy_of_repository(room):
 
 
 class Crate:
-    """A crate in a copy of the repository, and its wrong bodies."""
+    """A crate in a copy of the repository, and its mutants."""
 
     def __init__(self, room, name, options):
         self.name, self.folder, self.jobs = name, f'{room}/crates/{name}', options.jobs
@@ -183,11 +203,11 @@ class Crate:
 
     def verdict(self, edit, kind, text):
         self.counts[kind] += 1
-        words = {'refused': 'refused', 'lost': 'LOST NAME', 'not': 'NOT REFUSED', 'not tried': 'NOT TRIED'}[kind]
+        words = {'refused': 'killed', 'lost': 'LOST NAME', 'not': 'NOT KILLED', 'not tried': 'NOT TRIED'}[kind]
         self.say(f'{self.name}/{edit.name}: {words}: {text}')
 
     def checked(self, edits, only):
-        """What a check of the crate with these edits tells, and its status."""
+        """Checks the crate with these mutants. Returns the output and the status."""
         changed = {edit.file: edit.text for edit in edits}
         for edit in edits:
             changed[edit.file] = edit.edited(changed[edit.file])
@@ -205,7 +225,9 @@ class Crate:
         return ran.stdout, ran.returncode
 
     def together(self, edits):
-        """Tries edits of different functions in one check. Returns those that wait, and those that are to be tried alone."""
+        """Tries mutants of different functions in one check. Returns the mutants that wait, and those to be tried one
+        by one.
+        """
         told, _ = self.checked(edits, [edit.function for edit in edits])
         if not re.search(r'(?m)^fn ', told) and len(edits) > 1:
             half = len(edits) // 2
@@ -225,13 +247,13 @@ class Crate:
         return waits, alone
 
     def by_rounds(self, edits):
-        """Tries edits of bodies, one of each function at a time. Returns those that are to be tried alone."""
+        """Tries mutants of bodies, one per function at a time. Returns the mutants that have to be tried one by one."""
         alone = []
         while edits:
             now, later, taken, texts = [], [], set(), {}
             for edit in edits:
                 text = texts.get(edit.file, edit.text)
-                # What an edit before it wrote may be what this one replaces.
+                # An earlier edit may have changed the text that this one replaces.
                 if edit.function in taken or len(now) == MOST or any(text.count(old) != 1 for old, _ in edit.pairs):
                     later.append(edit)
                 else:
@@ -244,19 +266,19 @@ class Crate:
         return alone
 
     def alone(self, edit):
-        """Tries one edit by a check of the whole crate, as the gate does."""
+        """Tries one mutant by a check of the whole crate, as the full check does."""
         told, status = self.checked([edit], [])
         errors = [(file, text) for file, text in diagnostics(told) if text.startswith('error') or file.startswith('src/')]
         goals = [f'{file}: {text}'.split('\n')[0][:150] for file, text in errors if not LOST_NAME.search(text)]
         if status == 0:
-            self.verdict(edit, 'not', 'the crate is still proved with this edit')
+            self.verdict(edit, 'not', 'the crate is still proved with this mutant')
         elif status == 1 and 'logic=not-proved' in told:
-            self.verdict(edit, *(('refused', goals[0]) if goals else ('lost', 'no other error stands there')))
+            self.verdict(edit, *(('refused', goals[0]) if goals else ('lost', 'there is no other error')))
         else:
             self.verdict(edit, 'not tried', (re.findall(r'(?m)^.*error.*$', told) or [told.strip()[-150:]])[0][:150])
 
     def run(self):
-        """Tries all wrong bodies of the crate."""
+        """Tries all mutants of the crate."""
         alone = [edit for edit in self.edits if not edit.function]
         alone += self.by_rounds([edit for edit in self.edits if edit.function])
         for edit in alone:
@@ -264,7 +286,7 @@ class Crate:
 
 
 class Options:
-    """What stands before the names of crates: the jobs of a check, and which wrong bodies are tried."""
+    """The options before the names of crates: the jobs of a check, and which mutants are tried."""
 
     def __init__(self, words):
         self.jobs, self.folders, self.part, self.edits = [], ['must-fail', 'wrong-bodies'], (1, 1), None
@@ -279,11 +301,11 @@ class Options:
                 first, many = words[1].split('/')
                 self.part, words = (int(first), int(many)), words[2:]
             else:
-                sys.exit(f'wrong-bodies: {words[0]}: no such option; --gate, --beside, --jobs N, --edits A,B and --part K/N stand first')
+                sys.exit(f'wrong-bodies: {words[0]}: no such option; options are --gate, --beside, --jobs N, --edits A,B and --part K/N')
         self.names = words
 
     def edits_of(self, folder):
-        """The wrong bodies of a crate's folder that are tried, in the order of their names."""
+        """Returns the mutants of a crate's folder that are tried, in the order of their names."""
         found = sorted(path for it in self.folders for path in glob.glob(f'{folder}/{it}/*.edit'))
         if self.edits is not None:
             found = [path for path in found if os.path.basename(path)[:-len('.edit')] in self.edits]
@@ -296,21 +318,21 @@ def main(words):
     names = options.names or sorted(path.split('/')[1] for path in glob.glob('crates/*') if options.edits_of(path))
     for name in names:
         if not os.path.isdir(f'crates/{name}'):
-            sys.exit(f'wrong-bodies: there is no crate {name}')
+            sys.exit(f'wrong-bodies: no crate is named {name}')
     counts = {'refused': 0, 'lost': 0, 'not': 0, 'not tried': 0}
     with tempfile.TemporaryDirectory() as room:
         copy_of_repository(room)
         tool = os.path.abspath(os.path.dirname(__file__))
         subprocess.run([sys.executable, f'{tool}/kept_libraries.py', *names], cwd=room, check=False)
         crates = [Crate(room, name, options) for name in names]
-        print(f'{sum(len(crate.edits) for crate in crates)} wrong bodies of {len(crates)} crates', flush=True)
+        print(f'{sum(len(crate.edits) for crate in crates)} mutants of {len(crates)} crates', flush=True)
         for crate in crates:
             crate.run()
-            told = ', '.join(f'{count} {kind}' for kind, count in crate.counts.items())
-            print(f'{crate.name}: {len(crate.edits)} wrong bodies: {told}', flush=True)
+            told = ', '.join(f'{count} {COUNTED[kind]}' for kind, count in crate.counts.items())
+            print(f'{crate.name}: {len(crate.edits)} mutants: {told}', flush=True)
             for kind, count in crate.counts.items():
                 counts[kind] += count
-    print(f"{counts['refused']} refused at a goal, {counts['lost']} for a lost name alone, {counts['not']} not refused, {counts['not tried']} not tried")
+    print(f"{counts['refused']} killed at a goal, {counts['lost']} only by a lost name, {counts['not']} not killed, {counts['not tried']} not tried")
     return 0 if counts['refused'] and not (counts['lost'] or counts['not'] or counts['not tried']) else 1
 
 

@@ -1,1 +1,1 @@
-"""How the Rust edition is written from the sources: see `tools/rust_edition.py`."""
+"""Rules that write the Rust edition from the sources; see `tools/rust_edition.py`."""

@@ -1,4 +1,4 @@
-"""Bodies of functions where memory is not refused: without allocators, without `?` on what gives a value, without `Ok`."""
+"""Rewrites bodies of functions so that allocations cannot fail: no allocators, no `?` on values, and no `Ok`."""
 import re
 from .functions import called
 from .statements import arms, from_arms, if_parts, match_parts, statements, values_of_block
@@ -12,14 +12,14 @@ STD_MACROS = {'format', 'vec'}
 
 
 class Place:
-    """Where a function stands: what its calls mean there."""
+    """The file and the type of a function, which determine the meaning of its calls."""
 
     def __init__(self, table, crate, module, owner, imports, choices):
         self.table, self.crate, self.module, self.owner = table, crate, module, owner
         self.imports, self.choices, self.unknown = imports, choices, []
 
     def kind(self, nodes, q):
-        """the kind of the call before nodes[q]"""
+        """Returns the kind of the call before `nodes[q]`."""
         how, name, on, _ = called(nodes, q)
         chosen = self.choices.get((self.crate, self.module, name))
         if chosen:
@@ -35,6 +35,7 @@ class Place:
         return 'result'
 
     def of_path(self, name, on):
+        """Returns the kind of a call `on::name(..)`."""
         if on in STD_OWNERS:
             return 'memory'
         on = self.owner if on == 'Self' else on
@@ -44,7 +45,7 @@ class Place:
         return self.one(kinds, name)
 
     def of_own(self, nodes, q, name):
-        """the kind of `self.name(..)` where the type has such a method"""
+        """Returns the kind of `self.name(..)` if the type has such a method; otherwise `None`."""
         k = called(nodes, q)[3]
         m = before(nodes, before(nodes, k - 1) - 1)
         own = self.table.owned.get((self.owner, name), set())
@@ -53,20 +54,22 @@ class Place:
         return None
 
     def of_method(self, name):
+        """Returns the kind of a call of a method with this name, of any type."""
         kinds = self.table.of_methods(self.crate, name) | ({'memory'} if name in STD_METHODS else set())
         return self.one(kinds, name)
 
     def one(self, kinds, name):
+        """Returns the only kind. Several kinds are recorded as unknown."""
         kinds = set(kinds)
         if 'memory' in kinds:
             kinds.discard('value')
         if len(kinds) > 1:
-            self.unknown.append(f'{self.crate}/{self.module}: `{name}` is {sorted(kinds)}')
+            self.unknown.append(f'{self.crate}/{self.module}: `{name}` has several kinds: {sorted(kinds)}')
         return kinds.pop() if len(kinds) == 1 else 'result'
 
 
 def without_allocators(nodes):
-    """calls lose a first argument that is an allocator, and what it was kept in goes"""
+    """Removes each first argument that is an allocator, and each `let` of an allocator."""
     out = []
     for n in nodes:
         if is_group(n, '('):
@@ -79,6 +82,7 @@ def without_allocators(nodes):
 
 
 def without_first(items):
+    """Removes the first argument if it is an allocator."""
     parts = items
     first = []
     for k, n in enumerate(items):
@@ -94,7 +98,7 @@ def without_first(items):
 
 
 def without_lets(nodes):
-    """`let alloc = ..;` goes"""
+    """Removes `let alloc = ..;`."""
     out, i = [], 0
     while i < len(nodes):
         if is_id(nodes[i], 'let') and is_id(nodes[after(nodes, i + 1)], 'alloc'):
@@ -109,7 +113,7 @@ def without_lets(nodes):
 
 
 def without_macros(nodes):
-    """`format!(in alloc; ..)` is `format!(..)`, and so are others"""
+    """Replaces `format!(in alloc; ..)` by `format!(..)`, and other macros in the same way."""
     for n in nodes:
         if isinstance(n, Group) and n.items:
             k = after(n.items, 0)
@@ -121,7 +125,7 @@ def without_macros(nodes):
 
 
 def without_questions(nodes, place):
-    """`?` behind what gives a value goes, and so does `.map_err(|_| ..Memory)` before it, and `.unwrap()`"""
+    """Removes `?` after calls that return a value, `.map_err(|_| ..Memory)` before it, and `.unwrap()`."""
     out = []
     for n in nodes:
         n = Group(n.open, without_questions(n.items, place)) if isinstance(n, Group) else n
@@ -137,6 +141,7 @@ def without_questions(nodes, place):
 
 
 def drop_map_err(out):
+    """Removes `.map_err(|_| ..Memory)` at the end."""
     j = before(out, len(out) - 1)
     if j > 1 and is_group(out[j], '(') and is_id(out[j - 1], 'map_err') and 'Memory' in text(out[j].items):
         del out[before(out, j - 2):]
@@ -145,6 +150,7 @@ def drop_map_err(out):
 
 
 def drop_unwrap(out, place):
+    """Removes `.unwrap()` at the end, after a call that returns a value."""
     if len(out) > 3 and is_group(out[-1], '(') and not out[-1].items and is_id(out[-2], 'unwrap') and is_p(out[-3], '.'):
         j = before(out, len(out) - 4)
         if is_group(out[j], '(') and place.kind(out, j + 1) == 'memory':
@@ -152,7 +158,7 @@ def drop_unwrap(out, place):
 
 
 def without_memory_arms(nodes):
-    """arms for want of memory go"""
+    """Removes match arms for the variant `Memory`."""
     out = []
     for k, n in enumerate(nodes):
         if isinstance(n, Group):
@@ -166,7 +172,7 @@ def without_memory_arms(nodes):
 
 
 def gives_error(body, place):
-    """whether a body, whose kind is `result`, can give an error"""
+    """Returns whether a body of the kind `result` can return an error."""
     for nodes in walk(body):
         for i, n in enumerate(nodes):
             if is_p(n, '?') and place.kind(nodes, i) != 'memory':
@@ -179,18 +185,20 @@ def gives_error(body, place):
 
 
 def is_pattern(nodes, i):
+    """Returns whether the node begins a pattern."""
     j = after(nodes, after(nodes, i + 1) + 1)
     return j < len(nodes) and (is_p(nodes[j], '=>') or is_p(nodes[j], '=') or is_p(nodes[j], '|'))
 
 
 def stop_of(nodes, i):
+    """Returns the index of the next `;` or `,`, or the length."""
     while i < len(nodes) and not (is_p(nodes[i], ';') or is_p(nodes[i], ',')):
         i += 1
     return i
 
 
 def is_fine(value, place):
-    """whether this is `Ok` of something, or a call that gives a value"""
+    """Returns whether a value is `Ok` of something, or a call that returns a value."""
     cs = code(value)
     if not cs:
         return True
@@ -206,19 +214,20 @@ def is_fine(value, place):
 
 
 def without_ok(body, unit, place):
-    """the body of a function that gives a value: no `Ok` where it gives it"""
+    """Removes `Ok` from the results of the body of a function that returns a value."""
     body = [Group(n.open, returns(n.items, unit, place)) if isinstance(n, Group) else n for n in body]
     body = plain_returns(body, unit, place)
     return block_without_ok(body, unit, place)
 
 
 def returns(nodes, unit, place):
+    """Removes `Ok` from the `return` expressions, also in nested groups."""
     nodes = [Group(n.open, returns(n.items, unit, place)) if isinstance(n, Group) else n for n in nodes]
     return plain_returns(nodes, unit, place)
 
 
 def plain_returns(nodes, unit, place):
-    """`return Ok(x)` is `return x`"""
+    """Replaces `return Ok(x)` by `return x`."""
     out, i = [], 0
     while i < len(nodes):
         out.append(nodes[i])
@@ -235,6 +244,7 @@ def plain_returns(nodes, unit, place):
 
 
 def block_without_ok(nodes, unit, place):
+    """Removes `Ok` from the value of a block."""
     list_ = statements(nodes)
     if not list_ or list_[-1][2]:
         return nodes
@@ -249,16 +259,18 @@ def block_without_ok(nodes, unit, place):
 
 
 def without_comma(nodes):
+    """Removes a comma at the end."""
     return trim(nodes[:-1]) if nodes and is_p(nodes[-1], ',') else nodes
 
 
 def is_statement(nodes):
+    """Returns whether an expression needs a `;` when it becomes a statement."""
     cs = code(nodes)
     return bool(cs) and not (is_id(cs[0]) and cs[0][1] in ('if', 'match', 'return', 'loop', 'unreachable'))
 
 
 def without_ok_at(value, unit, place):
-    """the value of an expression that gives `Ok` of it"""
+    """Removes `Ok` from the value of an expression."""
     value = trim(value)
     if len(value) == 1 and is_group(value[0], '{'):
         return [Group('{', block_without_ok(value[0].items, unit, place))]
@@ -274,5 +286,5 @@ def without_ok_at(value, unit, place):
     if len(cs) == 2 and is_id(cs[0], 'Ok') and is_group(cs[1], '('):
         return without_comma(trim(cs[1].items))
     if not is_fine(value, place):
-        place.unknown.append(f'{place.crate}/{place.module}: what gives `{plain(value)[:70]}`?')
+        place.unknown.append(f'{place.crate}/{place.module}: the value `{plain(value)[:70]}`')
     return value

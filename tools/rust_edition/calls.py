@@ -1,4 +1,4 @@
-"""Functions of a file that only copy, compare or hash what they are lent are said where they are called."""
+"""Replaces calls of functions that only copy, compare or hash their arguments by the bodies of the functions."""
 import re
 from .functions import functions
 from .items import drop_notes, parameter_name
@@ -8,7 +8,7 @@ ONLY = re.compile(r'(\w+)\.cloned?\(\)|(\w+) == (\w+)|(\w+)\.hash\((\w+)\);?')
 
 
 def said_at_calls(nodes):
-    """the items of a file, without such functions where each call lends parts"""
+    """Returns the items of a file without such functions, if each of their calls borrows fields."""
     bodies = {f.name: (f, m) for f, m in ((f, only(f)) for f, owner, _ in functions(nodes) if owner is None) if m}
     for name, (f, m) in bodies.items():
         calls = list(calls_of(nodes, name))
@@ -18,7 +18,7 @@ def said_at_calls(nodes):
 
 
 def only(f):
-    """what a function of the file alone does, if it is no more than that"""
+    """Returns the match of the body of a private function that only copies, compares or hashes; otherwise `None`."""
     j = before(f.nodes, f.at - 1)
     if f.body is None or j >= 0 and (is_id(f.nodes[j], 'pub') or is_group(f.nodes[j], '(')):
         return None
@@ -28,6 +28,7 @@ def only(f):
 
 
 def calls_of(nodes, name):
+    """Iterates over the argument groups of all calls of a function."""
     for k, n in enumerate(nodes):
         if isinstance(n, Group):
             yield from calls_of(n.items, name)
@@ -38,14 +39,14 @@ def calls_of(nodes, name):
 
 
 def parts_lent(call, f, m):
-    """whether a call lends parts of values: `&self.part`"""
+    """Returns whether a call borrows fields of values: `&self.part`."""
     lent = [plain(a) for a in split(call.items)]
     count = 1 if m.group(1) or m.group(4) else 2
     return len(lent) == len(f.params) and all(re.fullmatch(r'&\w+(\.\w+)+', a) for a in lent[:count])
 
 
 def without(nodes, name, m, params):
-    """the items, the function taken out and its text put where it is called"""
+    """Returns the items without the function. Each call is replaced by the body."""
     out, k = [], 0
     while k < len(nodes):
         n = nodes[k]
@@ -56,7 +57,7 @@ def without(nodes, name, m, params):
         elif is_id(n, name) and k + 1 < len(nodes) and is_group(nodes[k + 1], '('):
             lent = dict(zip(params, [plain(a).lstrip('&') for a in split(nodes[k + 1].items)]))
             told = re.sub(r'\w+', lambda w: lent.get(w.group(0), w.group(0)), m.group(0).rstrip(';'))
-            told = told.replace('.cloned()', '.clone()')  # of an `&Option`, of which a part is lent
+            told = told.replace('.cloned()', '.clone()')  # an `&Option`, of which the call borrows a field
             negated = out and is_p(out[-1], '!') and ' == ' in told
             if negated:
                 out.pop()

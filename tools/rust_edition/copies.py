@@ -1,4 +1,4 @@
-"""Copies that are made part by part, which `derive(Clone)` says."""
+"""Replaces implementations of `Clone` that copy each part by `derive(Clone)`."""
 import re
 from .functions import Function, header, is_function, owner_of, starts_item
 from .statements import arms, match_parts
@@ -6,7 +6,7 @@ from .trees import Group, after, code, is_id, is_p, plain, split, trim
 
 
 def derived(nodes):
-    """the types of a file whose `Clone` copies each part and nothing else"""
+    """Returns the types of a file whose `Clone` copies each part and does nothing else."""
     parts = dict(types(nodes))
     out = set()
     for i, n in enumerate(nodes):
@@ -23,7 +23,7 @@ def derived(nodes):
 
 
 def types(nodes):
-    """the structs of a file with their fields"""
+    """Iterates over the structs of a file with their fields."""
     for i, n in enumerate(nodes):
         if is_id(n, 'struct'):
             name = nodes[after(nodes, i + 1)][1]
@@ -34,6 +34,7 @@ def types(nodes):
 
 
 def field(part):
+    """Returns the name of a field."""
     cs = code(part)
     while is_p(cs[0], '#'):
         cs = cs[2:]
@@ -41,7 +42,7 @@ def field(part):
 
 
 def copies_all(body, owner, fields):
-    """whether a body of `clone` copies each field, told by its text"""
+    """Returns whether the text of a `clone` body copies each field."""
     told = re.sub(r'\?', '', plain(body))
     made = re.fullmatch(rf'((?:let \w+ = self\.\w+\.clone\(\); )*)Ok\({owner} ?(.*)\)', told)
     if not made:
@@ -56,7 +57,7 @@ def copies_all(body, owner, fields):
 
 
 def copies_each(body):
-    """whether a body of `clone` copies each part of each variant of an `enum`"""
+    """Returns whether a `clone` body copies each part of each variant of an `enum`."""
     found = match_parts(trim(body))
     if found is None or plain(found[0]) != 'self':
         return False
@@ -64,7 +65,7 @@ def copies_each(body):
 
 
 def copied(arm):
-    """what an arm gives, as if its copies were the parts themselves"""
+    """Returns the value of a match arm, with each copy replaced by the copied part."""
     told = plain(arm.body).replace('?', '')
     told = re.sub(r'^\{ (.*) \}$', r'\1', told)
     told = re.sub(r'let (\w+) = \1\.clone\(\); ', '', told)

@@ -1,4 +1,4 @@
-"""The examples of the package's documentation, `examples.txt`, put at the end of the comments of the calls that they show."""
+"""Appends the documentation examples in `examples.txt` to the comments of their calls."""
 import os
 import re
 
@@ -7,7 +7,7 @@ INDENT = re.compile(r'( *)pub fn (\w+)')
 
 
 def entries(path=os.path.join(HERE, 'examples.txt')):
-    """the hidden lines of all, and for each type and call the lines of its example"""
+    """Reads the hidden lines of all examples, and the lines of the example for each type and call."""
     hidden, found, calls, lines = [], {}, [], []
     with open(path, encoding='utf-8') as f:
         rows = f.read().split('\n') + ['@ end: -']
@@ -28,11 +28,12 @@ def entries(path=os.path.join(HERE, 'examples.txt')):
 
 
 def shown(line):
+    """Returns a line as it is written in the comment."""
     return '# ' + line[2:] if line.startswith(': ') else line
 
 
 def comment(lines, hidden, indent):
-    """an example as lines of a comment"""
+    """Returns an example as lines of a comment."""
     code = [shown(line) for line in hidden + lines]
     if any('?' in re.sub(r'"[^"]*"', '', line) for line in lines):
         code.append('# Ok::<(), Box<dyn std::error::Error>>(())')
@@ -40,7 +41,7 @@ def comment(lines, hidden, indent):
 
 
 def with_examples(source, hidden, found, used):
-    """a file with its examples; which entries were used is noted"""
+    """Returns a file with its examples. Adds the entries that it uses to `used`."""
     out, owner = [], '-'
     for line in source.split('\n'):
         impl = re.match(r'impl(?:<.*?>)? (\w+)(?:<.*>)? ?(?:\{|where|$)', line)

@@ -1,12 +1,12 @@
-"""What stands outside of the rules, by name."""
+"""Lists the exceptions to the rules, by name."""
 
 # The crates of the layer, lowest first.
 CRATES = '''cedar_ids cedar_keyed_hash cedar_components cedar_uid_sets cedar_graph cedar_terms cedar_entity cedar_children
-cedar_entity_maps cedar_entities cedar_slice cedar_annotation cedar_scope cedar_binding cedar_action cedar_body
-cedar_policy cedar_policy_maps cedar_policy_set_errors cedar_policy_merge cedar_policy_set cedar_replay cedar_lines
-cedar_entity_lines cedar_policy_lines cedar_store cedar_talk'''.split()
+cedar_entity_maps cedar_entities cedar_slice cedar_trial_edits cedar_annotation cedar_scope cedar_binding
+cedar_action cedar_body cedar_policy cedar_policy_maps cedar_policy_set_errors cedar_policy_merge
+cedar_policy_set cedar_replay cedar_lines cedar_entity_lines cedar_policy_lines cedar_store cedar_talk'''.split()
 
-# Calls that several functions of one name could be: (crate, file, name) and what is answered there.
+# Calls for which there are several functions with the name: (crate, file, name) and the kind of the result.
 CHOICES = {
     ('cedar_replay', 'policies', 'link'): 'result',
     ('cedar_policy_lines', 'making', 'link'): 'result',
@@ -18,14 +18,14 @@ CHOICES = {
     ('cedar_c_sets', 'clauses', 'condition'): 'memory',
 }
 
-# What functions answer by that tell a reason though none may be left: what calls them makes a status of it.
+# The end of the result types that stay results even if no error is possible: the callers convert them to statuses.
 TOLD = ', Reason>'
 
-# Functions that the package does not have, as proofs alone ask for them: (type or file, name).
+# Functions that only proofs use, so the package does not have them: (type or file, name).
 DROPPED = {('KeyedState', 'new'), ('fresh', 'count_ids'), ('fresh', 'size'), ('node', 'listed'),
            ('shared_node', 'listed_pointers'), ('store_text', 'next_entity'), ('store_text', 'is_before'),
            ('store_text', 'write_by_walks')}
-# Functions that the package does not have, as nothing in it asks for them; the layer's tests do.
+# Functions that only the tests of the layer use, so the package does not have them.
 UNASKED = {
     ('PolicySet', 'from_raw_components'), ('PolicyMaps', 'from_raw_components'), ('lists', 'read_policy'),
     ('lists', 'read_policies'), ('maps', 'keep_templates'), ('LineStore', 'new'), ('PolicySets', 'new'),
@@ -33,22 +33,22 @@ UNASKED = {
     ('Entity', 'with_shared_parents'),
     ('UidSet', 'is_ascending'), ('UidSet', 'retain'),
 }
-# Of those what the library for C asks for; what it does without, as proofs alone ask for it; and files of it that go.
+# Functions of `UNASKED` that the C library uses, functions of the C library that only proofs use, and its files that are dropped.
 ASKED_FROM_C = {('Entity', 'with_shared_parents'), ('making', 'static_policy'), ('making', 'slotted_template')}
 UNASKED_FROM_C = {('Held', 'of_parts'), ('Held', 'into_parts')}
 DROPPED_FILES = {('cedar_c', 'parts')}
 DROPPED_TYPES = {'Linked', 'Direct', 'Streams'}
 DROPPED_IMPLS = {('Linked', 'Drop'), ('Linked', 'Deref'), ('Direct', 'Streams')}
 
-# Parameters that contracts alone look at: (file, function) and names.
+# Parameters that only contracts use: (file, function) and names.
 UNUSED = {
     ('component_lists', 'add'): {'n'}, ('component_lists', 'add_range'): {'n'}, ('list_order', 'take_all'): {'n'},
     ('components', 'meet'): {'graph', 'i'}, ('close', 'goes_back'): {'read'},
     ('close', 'listed_for'): {'read'}, ('closed', 'knows_reached'): {'read'},
 }
 
-# Public functions whose parameters take what can be gone through, or what is a text: (type or file, name), and how each
-# of these parameters is used.
+# Public functions with parameters that are anything that can be iterated or read as a text: (type or file, name), and the mode of
+# each of these parameters (see `wide.py`).
 WIDE = {
     ('Eid', 'new'): {'text': 'into'},
     ('PolicyID', 'from_string'): {'text': 'as_ref'},
@@ -81,18 +81,17 @@ WIDE = {
     ('entities', 'replay_entities_with_hasher'): {'calls': 'loop'},
 }
 
-# Public functions of the layer that speak of uids as stores keep them: `pub(crate)` here.
+# Public functions of the layer with shared uids in their signatures, which are `pub(crate)` in the package.
 HIDDEN = {('Entity', name) for name in '''with_shared_parents with_parent_set is_descendant_of_shared shared_parents
 shared_ancestors add_shared_parent add_shared_ancestors remove_ancestors_of remove_parents_of'''.split()}
 
-# Files whose functions are called so often from others that each is to be inlined, into whatever unit of code: hashing,
-# and telling uids apart.
+# Files whose functions are marked `#[inline]`, because other crates call them often: hashing, and comparing uids.
 INLINED = {('cedar_keyed_hash', 'lib'), ('cedar_uid_sets', 'fronts')}
 
-# The crates of tests, and what they stand on.
+# The crates of tests, and the crate of their helpers.
 TESTS = '''cedar_test_helpers cedar_ids_tests cedar_graph_tests cedar_terms_tests
 cedar_store_tests cedar_talk_tests'''.split()
 
 # The crates of the library for C, lowest first.
-CALLERS = '''cedar_trial_edits cedar_c_lists cedar_c_trees cedar_c_bodies cedar_c_refusals cedar_apart cedar_stores_apart cedar_policies_apart
+CALLERS = '''cedar_c_lists cedar_c_trees cedar_c_bodies cedar_c_refusals cedar_apart cedar_stores_apart cedar_policies_apart
 cedar_c_stores cedar_c_sets cedar_c'''.split()

@@ -1,21 +1,22 @@
-"""The functions of the library for C, over the package: one for each that `cedar_c` exports, with its C signature.
+"""Writes the functions of the C library over the package: one for each function that `cedar_c` exports.
 
-A slice crosses as a pointer and a length, and what is borrowed as a pointer. What lends them is written by hand, in
-`lent.rs`. Each signature is compared with the one that `callers/c/cedar.h` declares."""
+A slice is passed as a pointer and a length, and a reference as a pointer. The hand-written `lent.rs` converts them to
+references. Each signature is compared with the declaration in `callers/c/cedar.h`.
+"""
 import os
 import re
 
 from .functions import functions, is_allocator
 from .trees import before, is_id, plain
 
-# Types that cross as they are, types that a pointer may lead to, and how what is borrowed of them is lent: by which function
-# of `lent.rs`, over which pointer, and whether there are many.
+# `PLAIN` has the types that are passed by value, with their types in C. `KEPT` has the types behind pointers. `LENT` has a line for
+# each kind of reference: its pattern, the function of `lent.rs` that creates it, the pointer type, and whether it is a slice.
 PLAIN = {'bool': 'bool', 'u32': 'uint32_t', 'u64': 'uint64_t', 'usize': 'size_t'}
 KEPT = {'u8': 'uint8_t', 'Span': 'cedar_span', 'Edge': 'cedar_edge', 'Term': 'cedar_term', 'Node': 'cedar_node',
         'Body': 'cedar_body', 'AnnotationAt': 'cedar_annotation', 'Store': 'cedar_store', 'Policies': 'cedar_policies'}
 LENT = [(r'&\[(\w+)\]', 'all', '*const', True), (r'&mut \[(\w+)\]', 'all_mut', '*mut', True),
         (r'&mut (\w+)', 'one', '*mut', False), (r'&(\w+)', 'read', '*const', False)]
-HEAD = '''//! The functions of `cedar.h`, each over the function of the layer that has its name.
+HEAD = '''//! The functions of `cedar.h`. Each calls the function of the layer with the same name.
 #![allow(unsafe_code)]
 
 use super::lent;
@@ -29,7 +30,7 @@ use crate::cedar_c_trees::Node;
 
 
 class Export:
-    """A function that C calls: its name, its file, what C hands over, how that is lent on, and what it answers."""
+    """A function for C: its name, its file, its parameters, the arguments of the inner call, and its result."""
 
     def __init__(self, module, f):
         self.module, self.name, self.answer, self.unknown = module, f.name, f.answer, []
@@ -39,10 +40,10 @@ class Export:
                 name, kind = [x.strip() for x in plain(p).split(':', 1)]
                 self.take(name, kind)
         if self.answer and self.answer not in PLAIN:
-            self.unknown.append(f'no rule knows how C is answered `{self.answer}` (in {self.name})')
+            self.unknown.append(f'no rule for the result type `{self.answer}` of {self.name}')
 
     def take(self, name, kind):
-        """one parameter"""
+        """Adds a parameter."""
         if kind in PLAIN:
             self.taken.append(f'{name}: {kind}')
             self.c_types.append(PLAIN[kind])
@@ -58,24 +59,24 @@ class Export:
                     self.taken.append(f'{name}_len: usize')
                     self.c_types.append('size_t')
                 return
-        self.unknown.append(f'no rule knows how C hands over `{name}: {kind}` (in {self.name})')
+        self.unknown.append(f'no rule for the parameter `{name}: {kind}` of {self.name}')
 
     def declared(self):
-        """the types that the header has to say, the answer's first"""
+        """Returns the types that the header must declare, the type of the result first."""
         return [PLAIN.get(self.answer, 'void') if self.answer else 'void', *self.c_types]
 
     def written(self):
-        """the text of the function"""
+        """Returns the text of the function."""
         tail = f' -> {self.answer}' if self.answer else ''
         call = f'super::{self.module}::{self.name}({", ".join(self.lent)})'
         if any('*' in t for t in self.taken):
-            call = f'// SAFETY: the caller keeps the rules at the top of `cedar.h`.\n    unsafe {{ {call} }}'
+            call = f'// SAFETY: the caller follows the rules at the top of `cedar.h`.\n    unsafe {{ {call} }}'
         return (f'\n#[unsafe(no_mangle)]\npub unsafe extern "C" fn {self.name}({", ".join(self.taken)}){tail} {{\n'
                 f'    {call}\n}}\n')
 
 
 def exports(files):
-    """what the files of `cedar_c` export"""
+    """Returns the exports of `cedar_c`."""
     out = []
     for file in files:
         if file.crate == 'cedar_c':
@@ -84,13 +85,13 @@ def exports(files):
 
 
 def is_exported(f):
-    """whether `extern "C"` stands before a function"""
+    """Returns whether a function has `extern "C"`."""
     j = before(f.nodes, f.at - 1)
     return j > 0 and f.nodes[j] == ('str', '"C"') and is_id(f.nodes[before(f.nodes, j - 1)], 'extern')
 
 
 def exported(sources, found):
-    """the files, the exports in one of their own: what they were made of are plain functions then"""
+    """Returns the files with the exports in a file of their own. The exported functions become plain functions."""
     out = dict(sources)
     for name in sources:
         if os.path.dirname(name) == 'cedar_c':
@@ -104,7 +105,7 @@ def exported(sources, found):
 
 
 def declarations(header):
-    """the functions that a header declares: by name the types, the answer's first"""
+    """Returns the types of each function that a header declares, the type of the result first."""
     code = re.sub(r'/\*.*?\*/', '', header, flags=re.S)
     out = {}
     for answer, name, params in re.findall(r'^(\w+) (cedar_\w+)\(([^)]*)\);', code, re.M):
@@ -114,19 +115,19 @@ def declarations(header):
 
 
 def type_of(param):
-    """of a parameter in C the type, without its name"""
+    """Returns the type of a parameter in C, without its name."""
     found = re.fullmatch(r'((?:const )?\w+)\s*(\*?)\s*\w+', ' '.join(param.split()))
     return f'{found.group(1)} *' if found.group(2) else found.group(1)
 
 
 def faults(found, top):
-    """what differs between the exports and the header"""
+    """Returns the differences between the exports and the header."""
     with open(os.path.join(top, 'callers', 'c', 'cedar.h'), encoding='utf-8') as f:
         due = declarations(f.read())
     here = {e.name: e.declared() for e in found}
     out = [u for e in found for u in e.unknown]
     out += [f'cedar.h declares no {name}' for name in sorted(here.keys() - due.keys())]
     out += [f'cedar.h declares {name}, which cedar_c does not export' for name in sorted(due.keys() - here.keys())]
-    out += [f'{name} takes or answers other types than cedar.h says: {here[name]}, {due[name]}'
+    out += [f'{name} has other types than in cedar.h: {here[name]}, {due[name]}'
             for name in sorted(here.keys() & due.keys()) if here[name] != due[name]]
     return out

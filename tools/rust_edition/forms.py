@@ -1,16 +1,16 @@
-"""Forms that a proof asks for, in the words that a Rust programmer has for them."""
+"""Rewrites code whose form only a proof needs to the usual form in Rust."""
 import re
 from .statements import arms, from_arms, match_parts, statements
 from .trees import (Group, after, before, code, identifiers, is_code, is_comment, is_group, is_id, is_p, parse, plain,
                     text, trim, walk)
 
-# what is called for what it says alone
+# functions that only read
 READERS = {'len', 'is_empty', 'is_static', 'env', 'basename', 'name', 'iter', 'count_ids'}
 NOTHING = {'()', '{}', '{ }', '{()}', '{ () }', ''}
 
 
 def natural(body, answer, types):
-    """the body of a function in natural forms"""
+    """Returns the body of a function in its usual form."""
     body = block(body, answer.startswith('Option<'))
     body = by_part(gathered(taken(pushed(body), types), types), types)
     body = without_last_match(body)
@@ -18,7 +18,7 @@ def natural(body, answer, types):
 
 
 def block(nodes, gives_option):
-    """the statements of a block"""
+    """Rewrites the statements of a block."""
     nodes = inner(nodes, gives_option)
     nodes = with_rest(without_readings(nodes))
     nodes = without_empty_else(without_drops(nodes))
@@ -28,7 +28,7 @@ def block(nodes, gives_option):
 
 
 def inner(nodes, gives_option):
-    """what stands in brackets, by its kind"""
+    """Rewrites the contents of brackets, by their kind."""
     out = []
     for k, n in enumerate(nodes):
         if is_group(n, '{'):
@@ -45,11 +45,12 @@ def inner(nodes, gives_option):
 
 
 def is_closure(nodes, k):
+    """Returns whether the group is the body of a closure."""
     return is_p(nodes[before(nodes, k - 1)], '|') if before(nodes, k - 1) >= 0 else False
 
 
 def is_literal(nodes, k):
-    """whether these braces are those of a value or a pattern of a struct"""
+    """Returns whether the braces belong to a value or a pattern of a struct."""
     j = before(nodes, k - 1)
     if j < 0 or not is_id(nodes[j]) or not nodes[j][1][0].isupper():
         return False
@@ -58,6 +59,7 @@ def is_literal(nodes, k):
 
 
 def arms_in(items, gives_option):
+    """Rewrites the arms of a `match`."""
     out = arms(items)
     for a in out:
         a.pattern = unnamed(a.pattern)
@@ -67,13 +69,13 @@ def arms_in(items, gives_option):
 
 
 def unnamed(pattern):
-    """what a pattern binds to a name that says it is not looked at is not bound"""
+    """Replaces names that begin with `_` in a pattern by `_`."""
     return [Group(n.open, unnamed(n.items)) if isinstance(n, Group) else
             ('id', '_') if is_id(n) and n[1].startswith('_') else n for n in pattern]
 
 
 def joined(list_):
-    """arms side by side that give the same are one"""
+    """Merges adjacent arms with the same body."""
     out = []
     for a in list_:
         last = out[-1] if out else None
@@ -86,19 +88,19 @@ def joined(list_):
 
 
 def bound(arm):
-    """the names that a pattern binds"""
+    """Returns the names that the pattern of an arm binds."""
     return {n for n in identifiers(arm.pattern) if n[0].islower()}
 
 
 def drop_in_arm(a):
-    """`None => drop(x)` lets go of what the function lets go of anyway"""
+    """Replaces `None => drop(x)` by `None => ()`, because the function drops `x` anyway."""
     cs = code(a.body)
     if len(cs) == 2 and is_id(cs[0], 'drop') and is_group(cs[1], '('):
         a.body = [Group('(', [])]
 
 
 def without_readings(nodes):
-    """`let _name = ..;` goes where it only reads, with its comment, and else is the call alone"""
+    """Removes `let _name = ..;` with its comment if it only reads. Otherwise keeps only the call."""
     out, last = [], 0
     for start, stop, closed in statements(nodes):
         out += nodes[last:start]
@@ -118,7 +120,7 @@ def without_readings(nodes):
 
 
 def with_rest(nodes):
-    """of `let T { a, b: _ } = x;` the fields that are not looked at are `..`"""
+    """Replaces unused fields of `let T { a, b: _ } = x;` by `..`."""
     for start, stop, _ in statements(nodes):
         cs = code(nodes[start:stop])
         if len(cs) > 3 and is_id(cs[0], 'let') and is_id(cs[1]) and is_group(cs[2], '{') and cs[1][1][0].isupper():
@@ -130,7 +132,7 @@ def with_rest(nodes):
 
 
 def reads_alone(cs):
-    """whether an expression calls readers alone"""
+    """Returns whether an expression only calls readers."""
     names = [cs[k][1] for k in range(len(cs) - 1) if is_id(cs[k]) and is_group(cs[k + 1], '(')]
     inside = [plain(n.items) for n in cs if is_group(n, '(') and n.items]
     if is_p(cs[0], '&'):
@@ -141,7 +143,7 @@ def reads_alone(cs):
 
 
 def without_drops(nodes):
-    """`drop(x);` goes, and what bound x binds it no more; `drop(call(..));` is the call"""
+    """Removes `drop(x);` and the binding of `x`. Replaces `drop(call(..));` by the call."""
     out = list(nodes)
     for start, stop, closed in reversed(statements(nodes)):
         cs = code(out[start:stop])
@@ -159,7 +161,7 @@ def without_drops(nodes):
 
 
 def unbind(before_, out, name):
-    """the `let` that bound a name by a pattern binds it no more"""
+    """Removes a name from the pattern of the `let` that binds it."""
     for start, stop, _ in reversed(statements(before_)):
         part = out[start:stop]
         cs = code(part)
@@ -179,6 +181,7 @@ def unbind(before_, out, name):
 
 
 def parts(items):
+    """Splits nodes at commas. Skips empty parts."""
     out, current = [], []
     for n in items:
         if is_p(n, ','):
@@ -190,7 +193,7 @@ def parts(items):
 
 
 def with_questions(nodes):
-    """`let Some(x) = y else { return None; };` is `let x = y?;` where a function gives an option"""
+    """Replaces `let Some(x) = y else { return None; };` by `let x = y?;` in a function that returns an option."""
     out, last = [], 0
     for start, stop, _ in statements(nodes):
         part = nodes[start:stop]
@@ -202,7 +205,10 @@ def with_questions(nodes):
 
 
 def question(part):
-    """of `match x { None => (return) None, Some(p) => e }`: x, whether it returns, p and e; else None"""
+    """Parses `match x { None => (return) None, Some(p) => e }`.
+
+    Returns `x`, the body of the first arm, `p` and `e`; or `None` if the nodes have another form.
+    """
     found = match_parts(part)
     if found is None:
         return None
@@ -215,7 +221,7 @@ def question(part):
 
 
 def with_last_question(nodes):
-    """`match x { None => None, Some(p) => e }` at the end is `let p = x?; e`"""
+    """Replaces `match x { None => None, Some(p) => e }` at the end by `let p = x?; e`."""
     list_ = statements(nodes)
     if not list_ or list_[-1][2]:
         return nodes
@@ -229,7 +235,7 @@ def with_last_question(nodes):
 
 
 def with_returns(nodes):
-    """`match x { None => return None, Some(p) => f(p) }` is `f(x?)`"""
+    """Replaces `match x { None => return None, Some(p) => f(p) }` by `f(x?)`."""
     out, last = [], 0
     for start, stop, closed in statements(nodes):
         part = nodes[start:stop]
@@ -250,7 +256,7 @@ def with_returns(nodes):
 
 
 def without_last_match(nodes):
-    """`match x { Ok(()) => y, Err(e) => Err(e) }` at the end is `x?; y`"""
+    """Replaces `match x { Ok(()) => y, Err(e) => Err(e) }` at the end by `x?; y`."""
     list_ = statements(nodes)
     if not list_ or list_[-1][2]:
         return nodes
@@ -266,7 +272,7 @@ def without_last_match(nodes):
 
 
 def taken(nodes, types):
-    """`let T { a, .. } = x; a` at the end is `x.a`"""
+    """Replaces `let T { a, .. } = x; a` at the end by `x.a`."""
     list_ = statements(nodes)
     if len(list_) < 2 or list_[-1][2]:
         return nodes
@@ -279,7 +285,7 @@ def taken(nodes, types):
 
 
 def without_last_let(nodes):
-    """`let x = y; x` is `y`"""
+    """Replaces `let x = y; x` by `y`."""
     list_ = statements(nodes)
     if len(list_) < 2 or list_[-1][2]:
         return nodes
@@ -294,7 +300,7 @@ def without_last_let(nodes):
 
 
 def simple_values(nodes):
-    """each statement and what a block gives, said simply"""
+    """Simplifies each statement and the value of a block."""
     out, last = [], 0
     for start, stop, closed in statements(nodes):
         out += nodes[last:start]
@@ -310,7 +316,7 @@ def simple_values(nodes):
 
 
 def let_match(part):
-    """`let x = match ..;` with a simple `match`"""
+    """Simplifies `let x = match ..;`. Returns `None` for any other statement."""
     cs = code(part)
     if not (is_id(cs[0], 'let') and any(is_p(n, '=') for n in part)):
         return None
@@ -321,7 +327,7 @@ def let_match(part):
 
 
 def simple(value):
-    """a `match` that has a shorter form"""
+    """Replaces a `match` by a shorter form, if there is one."""
     first = after(value, 0)
     if first < len(value) and is_id(value[first], 'return') and code(value[first + 1:]):
         return value[:first + 1] + [('ws', ' ')] + trim(simple(trim(value[first + 1:])))
@@ -341,11 +347,12 @@ def simple(value):
 
 
 def is_noted(a):
+    """Returns whether an arm has a comment."""
     return any(not isinstance(n, Group) and n[0] == 'com' for n in a.notes)
 
 
 def as_map(subject, list_, by):
-    """`match x { Some(p) => Some(e), None => None }`"""
+    """Returns the short form of `match x { Some(p) => Some(e), None => None }`."""
     none = by.get('None')
     some = next((a for p, a in by.items() if p.startswith('Some(')), None)
     if none is None or some is None or plain(none.body) != 'None':
@@ -369,13 +376,13 @@ def as_map(subject, list_, by):
 
 
 def reference(subject):
-    """`&x.y` is `x.y.as_ref()`"""
+    """Replaces `&x.y` by `x.y.as_ref()`."""
     m = re.fullmatch(r'&(mut )?([\w.]+)', subject)
     return f'{m.group(2)}.as_{"mut" if m.group(1) else "ref"}()' if m else subject
 
 
 def as_if_let(subject, list_, by):
-    """`match x { p => e, None => () }`"""
+    """Returns the short form of `match x { p => e, None => () }`."""
     nothing = [a for a in list_ if plain(a.body) in NOTHING]
     others = [a for a in list_ if plain(a.body) not in NOTHING]
     if len(nothing) != 1 or not re.fullmatch(r'None|_|Ok\(_\w*\)|Err\(_\w*\)', plain(nothing[0].pattern)):
@@ -391,7 +398,7 @@ def as_if_let(subject, list_, by):
 
 
 def as_ok(subject, list_, by):
-    """`match x { Ok(a) => Some(a), Err(_) => None }`"""
+    """Returns the short form of `match x { Ok(a) => Some(a), Err(_) => None }`."""
     for p, a in by.items():
         m = re.fullmatch(r'Ok\((\w+)\)', p)
         if m and plain(a.body) == f'Some({m.group(1)})' and any(
@@ -401,13 +408,13 @@ def as_ok(subject, list_, by):
 
 
 def as_truth(subject, list_, by):
-    """`match x { Ok(_) => true, Err(_) => false }`"""
+    """Returns the short form of `match x { Ok(_) => true, Err(_) => false }`."""
     shown = {re.sub(r'\(_\w*\)', '', p): plain(a.body) for p, a in by.items()}
     return f'{subject}.is_ok()' if shown == {'Ok': 'true', 'Err': 'false'} else None
 
 
 def without_empty_else(nodes):
-    """`if c {} else { .. }` is `if !c { .. }`, and an empty `else` goes"""
+    """Replaces `if c {} else { .. }` by `if !c { .. }`, and removes an empty `else`."""
     out = []
     for n in nodes:
         j = before(out, len(out) - 1)
@@ -421,7 +428,7 @@ def without_empty_else(nodes):
 
 
 def turned(out, j):
-    """whether an empty block stands before the `else` at j: then its condition is turned round"""
+    """Negates the condition if the block before the `else` at `j` is empty. Returns whether it did."""
     empty = before(out, j - 1)
     start = max((k for k in range(empty) if is_id(out[k], 'if')), default=None)
     if start is None or not is_group(out[empty], '{') or code(out[empty].items) or is_id(out[after(out, start + 1)], 'let'):
@@ -433,7 +440,7 @@ def turned(out, j):
 
 
 def without_last_return(nodes):
-    """`return;` at the end of what a function does last"""
+    """Removes `return;` at the end of a function."""
     list_ = statements(nodes)
     if not list_:
         return nodes
@@ -447,7 +454,7 @@ def without_last_return(nodes):
 
 
 def pushed(nodes):
-    """a vector that one push fills is written as it is"""
+    """Replaces a vector that is filled by one push by `vec![..]`."""
     nodes = [Group(n.open, pushed(n.items)) if isinstance(n, Group) else n for n in nodes]
     if any(is_p(n, '=>') for n in nodes):
         return nodes
@@ -464,7 +471,7 @@ def pushed(nodes):
 
 
 def gathered(nodes, types):
-    """a vector that a loop fills, and that is given then, is collected"""
+    """Replaces a vector that is filled by a loop and then returned by an iterator with `collect`."""
     list_ = statements(nodes)
     if len(list_) < 3 or list_[-1][2]:
         return nodes
@@ -489,7 +496,7 @@ def gathered(nodes, types):
 
 
 def iterator(subject, types):
-    """what goes through a subject of a loop"""
+    """Returns the iterator over the subject of a loop; `None` if there is no rule for it."""
     kind = types.get(subject, '')
     if kind.startswith('&'):
         return f'{subject}.iter()'
@@ -502,7 +509,7 @@ def iterator(subject, types):
 
 
 def mapped(pattern, made):
-    """how each is made of what is gone through"""
+    """Returns the adapter that makes each item."""
     if made == f'{pattern}.clone()':
         return '.cloned()'
     if made == f'*{pattern}':
@@ -514,7 +521,7 @@ def mapped(pattern, made):
 
 
 def by_part(nodes, types):
-    """a loop over the keys or the values of a map that it is lent"""
+    """Replaces a loop over a borrowed map that uses only keys or only values."""
     out = []
     for k, n in enumerate(nodes):
         if isinstance(n, Group):

@@ -1,4 +1,4 @@
-"""Functions: their parts, what they answer, and which of them is meant by a call."""
+"""Parses functions, determines what they return, and resolves calls."""
 import re
 from .trees import Group, after, angle_end, angle_start, before, code, is_group, is_id, is_p, plain, split
 
@@ -7,7 +7,7 @@ RESULT = re.compile(r'(?:std::result::)?Result<.*>')
 
 
 class Function:
-    """A function of a tree: `nodes[start:stop]`, its body in `body`."""
+    """A function of a tree: `nodes[start:stop]`, with its body in `body`."""
 
     def __init__(self, nodes, i):
         self.nodes, self.at = nodes, i
@@ -29,7 +29,7 @@ class Function:
         self.read_tail()
 
     def read_tail(self):
-        """what it answers, and its `where`"""
+        """Reads the type of the result and the `where` clause."""
         tail = [n for n in self.nodes[self.params_at + 1:self.end]]
         where = next((k for k, n in enumerate(tail) if is_id(n, 'where')), len(tail))
         arrow = next((k for k, n in enumerate(tail) if is_p(n, '->')), None)
@@ -52,7 +52,7 @@ def is_allocator(p):
 
 
 def is_function(nodes, i):
-    """whether nodes[i] is the `fn` of an item, and not of a type"""
+    """Returns whether `nodes[i]` is the `fn` of an item, and not of a type."""
     if not is_id(nodes[i], 'fn'):
         return False
     j = after(nodes, i + 1)
@@ -60,7 +60,7 @@ def is_function(nodes, i):
 
 
 def header(nodes, i):
-    """nodes[i] is `impl` or `trait`: the index of its body, and the text before it"""
+    """Returns the index of the body of the `impl` or `trait` at `i`, and the text before the body."""
     j = i
     while not is_group(nodes[j], '{'):
         j += 1
@@ -68,7 +68,7 @@ def header(nodes, i):
 
 
 def owner_of(head):
-    """the type that an `impl` is of, and the trait"""
+    """Returns the type of an `impl`, and its trait."""
     head = re.sub(r"for<[^>]*>", '', head)
     body = re.sub(r'^(impl|trait)\s*', '', head)
     if body.startswith('<'):
@@ -82,7 +82,7 @@ def owner_of(head):
 
 
 def functions(nodes, owner=None, trait=None):
-    """each function of a tree, with the type and the trait that it is of"""
+    """Iterates over the functions of a tree, with their types and traits."""
     i = 0
     while i < len(nodes):
         n = nodes[i]
@@ -109,7 +109,7 @@ def starts_item(nodes, i):
 
 
 def kind_of(answer):
-    """what a function answers: `memory` where want of memory is all that can be wrong"""
+    """Returns the kind of a result: `memory` if the function can fail only by an allocation."""
     if MEMORY.fullmatch(answer):
         return 'memory'
     if RESULT.fullmatch(answer):
@@ -122,7 +122,10 @@ def kind_of(answer):
 
 
 def called(nodes, q):
-    """nodes[q] stands behind a call: its name, what it is called on, and where the name stands"""
+    """Returns the name of the call that ends before `nodes[q]`, its receiver or path, and the index of the name.
+
+    The first item of the result is the form of the call.
+    """
     j = before(nodes, q - 1)
     n = nodes[j]
     if is_id(n):
@@ -154,12 +157,13 @@ def called(nodes, q):
 
 
 class Table:
-    """What each function of the project answers."""
+    """The kinds of the results of all functions of the project."""
 
     def __init__(self):
         self.free, self.owned, self.methods, self.macros, self.crates = {}, {}, {}, {}, []
 
     def note(self, crate, module, f, owner, trait):
+        """Adds a function."""
         kind = kind_of(f.answer)
         if crate not in self.crates:
             self.crates.append(crate)
@@ -173,7 +177,7 @@ class Table:
             self.methods.setdefault(f.name, {}).setdefault(crate, set()).add(kind)
 
     def set_value(self, crate, module, f, owner):
-        """from now on the function gives a value"""
+        """Records that the function cannot fail."""
         if owner is None:
             self.free[crate, f.name][module] = 'memory'
         else:
@@ -183,12 +187,15 @@ class Table:
                 self.methods[f.name][crate] = kinds - {'result'} | {'memory'}
 
     def of_methods(self, crate, name):
-        """the kinds of the methods of a name that a crate may call: its own, and those of crates noted before it"""
+        """Returns the kinds of the methods with a name that a crate can call.
+
+        These are the methods of the crate itself, and of the crates that were added before it.
+        """
         below = self.crates[:self.crates.index(crate) + 1]
         return {kind for of, kinds in self.methods.get(name, {}).items() if of in below for kind in kinds}
 
     def of_free(self, crate, module, name, imports):
-        """the kind of a free function as it is called in a file"""
+        """Returns the kind of a free function, as it is called in a file; `None` if it is not known."""
         at = imports.get(name, (crate, module))
         kinds = self.free.get((at[0], name), {})
         if module in kinds and at[0] == crate and name not in imports:
@@ -200,7 +207,7 @@ class Table:
 
 
 def imports_of(nodes, crate, crates):
-    """the names that a file brings in: from which crate and which of its files"""
+    """Returns the imported names of a file, with the crate and the file from which each comes."""
     out = {}
     i = 0
     while i < len(nodes):
@@ -220,7 +227,7 @@ def imports_of(nodes, crate, crates):
 
 
 def paths_of(nodes):
-    """the paths that a `use` names"""
+    """Returns the paths of a `use`."""
     cs = code(nodes)
     head = []
     for k, n in enumerate(cs):

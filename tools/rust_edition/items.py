@@ -1,4 +1,7 @@
-"""Items of a file: functions with what they answer, errors with their texts, and what the package does not have."""
+"""Rewrites the items of a file: functions with their results, and errors with their messages.
+
+Also removes the items that the package does not have.
+"""
 import re
 from .bodies import Place, without_allocators, without_memory_arms, without_ok, without_questions
 from .functions import Function, functions, header, is_allocator, is_function, kind_of, owner_of, starts_item
@@ -11,7 +14,7 @@ from .wide import widened
 
 
 def drop_notes(out):
-    """takes off the comments and attributes that stand last"""
+    """Removes the comments and attributes at the end."""
     while out:
         if not is_code(out[-1]) and not (is_comment(out[-1]) and out[-1][1].startswith('//!')):
             out.pop()
@@ -25,13 +28,14 @@ def drop_notes(out):
 
 
 class File:
-    """A source as it is read: its tree, and what its functions are."""
+    """A source: its tree, and the data on its functions."""
 
     def __init__(self, crate, module, nodes, imports):
         self.crate, self.module, self.nodes, self.imports = crate, module, nodes, imports
         self.copied = derived(nodes)
 
     def place(self, table, owner, choices):
+        """Returns the place of a function in this file."""
         return Place(table, self.crate, self.module, owner, self.imports, choices)
 
 
@@ -42,7 +46,7 @@ class Writer:
         self.table, self.lists, self.unknown, self.moved = table, lists, [], []
 
     def kind(self, file, f, owner):
-        """what the function answers, once those that can not fail give values"""
+        """Returns the kind of the result of a function, after functions that cannot fail were found."""
         kind = kind_of(f.answer)
         if kind == 'result':
             if owner is None:
@@ -52,6 +56,7 @@ class Writer:
         return kind
 
     def items(self, nodes, file, owner=None, trait=None):
+        """Rewrites items."""
         out, i = [], 0
         while i < len(nodes):
             n = nodes[i]
@@ -78,7 +83,7 @@ class Writer:
         return out
 
     def block(self, nodes, i, file, out):
-        """an `impl` or a `trait`"""
+        """Rewrites an `impl` or a `trait`. Returns the index after it."""
         j, head = header(nodes, i)
         owner, trait = owner_of(head)
         by_hand = (owner, trait) in self.lists.dropped_impls or trait == 'Clone' and owner in file.copied
@@ -100,7 +105,7 @@ class Writer:
         return j + 1
 
     def derive(self, nodes, i, file, out):
-        """`derive` of what std has"""
+        """Rewrites a `derive` so that it has only the traits of std. Returns the index after it."""
         j = after(nodes, i + 1)
         listed = list(code(nodes[j].items)[1].items)
         k = next(k for k in range(j, len(nodes)) if is_id(nodes[k]) and nodes[k][1] in ('struct', 'enum'))
@@ -113,7 +118,9 @@ class Writer:
         return after(nodes, j + 1)
 
     def enum(self, nodes, i, out):
-        """an `enum`, without its variant for want of memory, and with its texts"""
+        """Rewrites an `enum`: removes the variant `Memory`, and adds the messages of an error. Returns the index after
+        it.
+        """
         j = i
         while not is_group(nodes[j], '{'):
             j += 1
@@ -131,7 +138,7 @@ class Writer:
         return j + 1
 
     def without_unused(self, nodes, file):
-        """calls of functions of the file lose what their contracts alone look at"""
+        """Removes arguments that only contracts use from the calls of functions of the file."""
         out = []
         for n in nodes:
             if isinstance(n, Group):
@@ -145,6 +152,7 @@ class Writer:
         return out
 
     def unused_places(self, out, j, file):
+        """Returns the positions of the arguments that only contracts use."""
         names = self.lists.unused.get((file.module, out[j][1]))
         if not names:
             return ()
@@ -153,6 +161,7 @@ class Writer:
         return [k for k, p in enumerate(params) if parameter_name(p) in names]
 
     def function(self, nodes, i, file, owner, trait, out):
+        """Rewrites a function. Returns the index after it."""
         f = Function(nodes, i)
         if f.answer == 'Global' or (owner or file.module, f.name) in self.lists.dropped:
             drop_notes(out)
@@ -191,7 +200,7 @@ class Writer:
         return f.end + 1
 
     def mark(self, f, file, owner, out):
-        """what stands before a function: its visibility, and that it is inlined"""
+        """Sets the visibility of a function, and marks it `#[inline]` if it is listed."""
         if (owner or file.module, f.name) in self.lists.hidden:
             hide(out)
         if (file.crate, file.module) in self.lists.inlined and f.name != 'fmt':
@@ -199,7 +208,7 @@ class Writer:
 
 
 def elided(texts, answer, generics):
-    """a lifetime that is that of the only reference need not be named"""
+    """Removes the lifetime `'a` if the signature has only one reference."""
     joined = ', '.join(texts)
     named = re.fullmatch(r"<'a(?:, (.*))?>", generics.strip(), re.S)
     if not named or joined.count("'a") != 1 or joined.count('&') + joined.count("<'") != 1:
@@ -210,23 +219,25 @@ def elided(texts, answer, generics):
 
 
 def parameter_name(p):
+    """Returns the name of a parameter."""
     return re.sub(r'^mut ', '', plain(p)).split(':')[0].strip()
 
 
 def is_derive(nodes, i):
+    """Returns whether an attribute is a `derive`."""
     g = nodes[after(nodes, i + 1)]
     return is_group(g, '[') and is_id(code(g.items)[0], 'derive')
 
 
 def hide(out):
-    """`pub` before a function becomes `pub(crate)`"""
+    """Replaces `pub` before a function by `pub(crate)`."""
     j = before(out, len(out) - 1)
     if is_id(out[j], 'pub'):
         out.insert(j + 1, Group('(', [('id', 'crate')]))
 
 
 def visibility(out):
-    """where the `pub` or `pub(crate)` that stands last begins, or the end"""
+    """Returns the index of the last `pub` or `pub(crate)`, or the length if there is none at the end."""
     j = before(out, len(out) - 1)
     if j > 0 and is_group(out[j], '(') and is_id(out[j - 1], 'pub'):
         return j - 1
@@ -234,7 +245,7 @@ def visibility(out):
 
 
 def types_of(params):
-    """the types of parameters by their names"""
+    """Returns the types of parameters by name."""
     pairs = [re.sub(r'^mut ', '', plain(p)).split(':', 1) for p in params]
     types = {p[0].strip(): p[1].strip() for p in pairs if len(p) == 2}
     if params and plain(params[0]).startswith('&'):
@@ -243,14 +254,14 @@ def types_of(params):
 
 
 def first_argument(answer):
-    """of `Result<T, E>` the `T`"""
+    """Returns `T` for `Result<T, E>`."""
     nodes = parse(answer)
     o = next(k for k, n in enumerate(nodes) if is_p(n, '<'))
     return plain(split(nodes[o + 1:angle_end(nodes, o)])[0])
 
 
 def variant(part):
-    """name and fields of a variant"""
+    """Returns the name and the fields of a variant."""
     cs = code(part)
     while is_p(cs[0], '#'):
         cs = cs[2:]
@@ -258,7 +269,7 @@ def variant(part):
 
 
 def error_text(part):
-    """what `#[error(..)]` says of a variant"""
+    """Returns the contents of the attribute `#[error(..)]` of a variant; `None` if there is none."""
     cs = code(part)
     for k, n in enumerate(cs):
         if is_group(n, '[') and is_id(code(n.items)[0], 'error'):
@@ -267,6 +278,7 @@ def error_text(part):
 
 
 def without_error(part):
+    """Returns a variant without `#[error(..)]`."""
     out = []
     for n in part:
         if is_group(n, '[') and is_id(code(n.items)[0], 'error'):
@@ -279,7 +291,7 @@ def without_error(part):
 
 
 def display(name, generics, texts):
-    """`Display` and `Error` of an enum whose variants have texts"""
+    """Returns the implementations of `Display` and `Error` for an enum whose variants have messages."""
     arms = []
     for (variant_name, fields), said in texts:
         literal, args = said.items[0][1], plain(said.items[1:])
@@ -300,7 +312,7 @@ impl{generics} Error for {name}{plain_generics} {{}}
 
 
 def arm(path, fields, literal, args):
-    """the arm that writes one variant"""
+    """Returns the match arm that writes a variant."""
     names = [part_name(p) for p in split(fields.items)] if fields is not None and fields.open == '(' else []
     args = re.sub(r'(?<![\w)\]])\.(\d+)', lambda m: names[int(m.group(1))], args)
     args = re.sub(r'(?<![\w)\]])\.([a-z_]\w*)', r'\1', args)
@@ -320,13 +332,14 @@ def arm(path, fields, literal, args):
 
 
 def part_name(part):
-    """what a part of a variant is called, by its type"""
+    """Returns a name for a part of a tuple variant, from its type."""
     kind = re.sub(r'<.*', '', plain([n for n in part if not is_group(n, '[') and not is_p(n, '#')]))
     word = re.findall(r'[A-Z]+(?![a-z])|[A-Z][a-z]+', kind)[-1].lower()
     return {'empty': 'uids', 'string': 'key'}.get(word, word)
 
 
 def field_name(part):
+    """Returns the name of a field."""
     cs = code(part)
     while is_p(cs[0], '#'):
         cs = cs[2:]

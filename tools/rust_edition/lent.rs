@@ -1,59 +1,64 @@
-//! What a caller in C hands over, lent to the layer: the only place where a pointer becomes a reference.
+//! Converts the pointers of a caller in C to references for the layer. This is the only place where that happens.
 //!
-//! The rules at the top of `cedar.h` are the callers': a pointer and a length are those of one array, which is readable,
-//! or writable, whole and initialised; what a call writes overlaps nothing else that it is given; a handle is zeroed
-//! before its first use, and two handles of one call are two. What is lent is not looked at once the call has answered.
+//! The callers must follow the rules at the top of `cedar.h`:
+//!
+//! - A pointer and a length belong to one initialized array, which is readable, or writable if the call writes to it.
+//! - Memory that a call writes overlaps no other argument.
+//! - A handle is zeroed before its first use.
+//! - Two handles of one call are different.
+//!
+//! The layer does not use a reference after the call has returned.
 #![allow(unsafe_code)]
 
 use super::policies::Policies;
 use super::store::Store;
 
-// A handle is what the header says: an address and a mark. `Option<Box<..>>` is an address, and none is null.
+// A handle has the layout of the header: a pointer and a flag. `Option<Box<..>>` is a pointer, and `None` is null.
 const _: () = assert!(size_of::<Store>() == 16 && align_of::<Store>() == 8);
 const _: () = assert!(size_of::<Policies>() == 16 && align_of::<Policies>() == 8);
 
-/// The thing at an address.
+/// Returns a mutable reference to the value at an address.
 ///
 /// # Safety
 ///
-/// The address is that of a thing of this type, which nothing else reads or writes before the call answers.
+/// `at` must point to a value of this type, which nothing else reads or writes before the call returns.
 pub(super) unsafe fn one<'a, T>(at: *mut T) -> &'a mut T {
-    // SAFETY: as is asked for above.
+    // SAFETY: the caller ensures it.
     unsafe { &mut *at }
 }
 
-/// The thing at an address, to be read.
+/// Returns a reference to the value at an address.
 ///
 /// # Safety
 ///
-/// The address is that of a thing of this type, which nothing writes before the call answers.
+/// `at` must point to a value of this type, which nothing writes before the call returns.
 pub(super) unsafe fn read<'a, T>(at: *const T) -> &'a T {
-    // SAFETY: as is asked for above.
+    // SAFETY: the caller ensures it.
     unsafe { &*at }
 }
 
-/// So many things from an address on; none where the length is 0, whatever the address.
+/// Returns a slice of `len` values at an address. If the length is 0, the address can have any value.
 ///
 /// # Safety
 ///
-/// They are one array of things of this type, which nothing writes before the call answers.
+/// `at` must point to an array of `len` values of this type, which nothing writes before the call returns.
 pub(super) unsafe fn all<'a, T>(at: *const T, len: usize) -> &'a [T] {
     if len == 0 {
         return &[];
     }
-    // SAFETY: as is asked for above; an array of C is shorter than 2^63 bytes.
+    // SAFETY: the caller ensures it. An array in C is shorter than 2^63 bytes.
     unsafe { std::slice::from_raw_parts(at, len) }
 }
 
-/// So many things from an address on, to be written; none where the length is 0, whatever the address.
+/// Returns a mutable slice of `len` values at an address. If the length is 0, the address can have any value.
 ///
 /// # Safety
 ///
-/// They are one array of things of this type, which nothing else reads or writes before the call answers.
+/// `at` must point to an array of `len` values of this type, which nothing else reads or writes before the call returns.
 pub(super) unsafe fn all_mut<'a, T>(at: *mut T, len: usize) -> &'a mut [T] {
     if len == 0 {
         return &mut [];
     }
-    // SAFETY: as is asked for above; an array of C is shorter than 2^63 bytes.
+    // SAFETY: the caller ensures it. An array in C is shorter than 2^63 bytes.
     unsafe { std::slice::from_raw_parts_mut(at, len) }
 }

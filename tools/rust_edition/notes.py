@@ -6,81 +6,25 @@ import re
 import textwrap
 
 SPEAKS = re.compile('|'.join([
-    r'\bmemory\b', 'growth', r'\ballocator', '`alloc', r'\b[Cc]ontracts?\b', r'\bghost', r'\.antt\b', r'\bspecs/',
-    r'\bProved\b', 'No effect', '`Memory`', '::Memory', '[Ww]here it is refused,? (?:all|every|the)',
-    '[Rr]efused, the maps', 'A refusal gives no index', 'room for the list of answers', 'nothing is said of',
-    'session is lost', r'A session to which\b', 'what takes none', '[Rr]efused only where (?:that|it) is', r'\bproof',
-    r'\bproved?\b']))
+    r'\bmemory\b', r'\b[Aa]llocat(?:ion|or)s?\b', 'AllocError', '`Memory`', '::Memory', '`_?alloc', r'\b[Cc]ontracts?\b',
+    r'\bghost', r'\.antt\b', r'\bspecs/', r'\b[Pp]roofs?\b', r'\b[Pp]roved?\b', 'No effect at run time']))
 # Said otherwise, before sentences are looked at.
 SAID = [
-    ('; no clause says so, and no member depends on it', ''),
-    (', for memory too,', ''),
-    (r'\(for memory too\) ', ''),
-    ('Takes memory linear in (both texts|the text|the list|the fields), and time linear in (?:it|them)',
-     r'Takes time linear in \1'),
-    ('Takes memory for a copy of the text, and time linear in it', 'Takes time linear in the text'),
-    (r"are (the body\'s|those of the parts), look at no location and take no memory",
-     r'are \1 and look at no location'),
-    (', and is refused only where that is; a refusal [^.;]*', ''),
-    (r' and takes? no memory\.', '.'),
-    ('takes? no memory,? and ', ''),
-    (', and takes no memory', ''),
-    (r' It (?:takes no memory and )?is never refused\.', ''),
-    (' takes no memory and is never refused', ' is never refused'),
-    (r"`clone` shares (.*?), and is refused only where a shared part can\'t be shared once more",
-     r'`clone` shares \1'),
-    (', and is refused only where that is', ''),
-    ('; it is refused only where memory is', ''),
-    (' memory aside', ''),
-    (' but for memory', ''),
-    ('Whatever the graph is, only', 'Only'),
-    (r", and is refused only where a shared part can\'t be shared once more", ''),
-    (r', as \[`UidSet::is_ascending`\] tells', ''),
+    ('The default hasher has a fixed seed\\. If untrusted parties choose the (?:uids|names), they can force collisions and slow '
+     '(?:every call|this function) down\\. Use (\\[`[^`]*`\\]) with a randomly keyed builder in that case\\.',
+     r'The default hasher has a key that is drawn once for the process. \1 takes another.'),
+    ('The (stores|sets|maps) hash (uids|ids) with a fixed seed\\. If untrusted parties choose the (?:uids|ids), use (\\[`[^`]*`\\]) '
+     'with a randomly keyed builder\\.', r'The \1 hash \2 with a key that is drawn once for the process. \3 takes another.'),
     (r'\[`Entity::is_descendant_of_shared`\]', '`Entity::is_descendant_of`'),
-    (r'The text of \[`HELP`\]', 'The text that the line `help` is answered by'),
-    ('No slot may stand in the clause: in a debug build the original looks and panics',
-     'No slot may stand in the clause: a debug build looks and panics'),
-    ('another id than its template; the original asks nothing',
-     'another id than its template: a debug build looks and panics'),
-    (r' The caller sees to it that something was\.', ''),
-    ('; the text is for the reader of the call alone, as nothing stops', ''),
-    (', and by `Memory`; a refusal', '; a refusal'),
-    (r'; and by `Memory`\.', '.'),
-    (', in memory for a pointer each', ''),
-    ('It takes memory, and finds and strips', 'It finds and strips'),
-    ('Key, rest and what adding keeps stay(, whatever the answer)?', 'All else stays'),
-    ('Key, rest and the direct edges stay', 'All else stays'),
-    ('Edges, direct edges, key, rest and what adding keeps stay(, whatever the answer)?', 'Nothing else changes'),
-    ("The map's keys and each node's key, rest and what adding keeps always stay",
-     "The map's keys and what else the nodes hold always stay"),
-    ("each node's key, rest and what adding keeps, the former edges", 'what else the nodes hold, the former edges'),
-    (', which they do not see', ''),
-    (', and nothing is proved of that', ''),
-    (' and `Memory` where a growth was refused, and then', ', and then'),
-    (': their memory is not given back', ': they are not dropped'),
-    (', whose memory goes with it, and saves', ', and saves'),
-    (r'\], \[`EntitiesError::TransitiveClosureError`\] or `Memory`',
-     '] or [`EntitiesError::TransitiveClosureError`]'),
-    (r"Else it takes memory from the set\'s allocator, for a pointer a uid of both, and where that is "
-     r"refused the set stays as it was\. It goes",
-     'Else it goes'),
-    ('By default they have a fixed seed, so that .*? has a random key',
-     'By default they have a key that is drawn once for the process'),
-    ('Its maps hash by a fixed seed, so that .*? has a random key',
-     'Its maps hash by a key that is drawn once for the process'),
+    # names that rustdoc does not find, or finds twice
+    (r'\[`Template::slots`\]', '`Template::slots`'),
+    (r'\[`slice`\](?:\([\w:]+\))?', '`slice`'),
     (r"(?<!project\'s )`docs/PROGRAM\.md`", "the project's `docs/PROGRAM.md`"),
-    ('The set hashes by a fixed seed, so that .*? has a random key', "The set is one of std's own"),
-    ('It hashes by a fixed seed, so that .*? has a random key',
-     'It hashes by a key that is drawn once for the process'),
-    ('hash (ids|uids) by a fixed seed', r'hash \1 by a key that is drawn once for the process'),
-    (': one crate with all public names of the layers below it, and the program over them',
-     ': the program over it, from bytes to bytes and line by line'),
     (r'\bRc\b', 'Arc'),
 ]
 # Sentences that are not true of the package.
-UNTRUE = ['A reader that answers 2^51 reads without coming to its end makes it answer `Read`.',
-          'The original gives hashed sets.', 'The original shares it once more.', 'In the original this is a conversion.',
-          'In the original any iterator of pairs collects into annotations.', 'The original takes no allocator here.']
+UNTRUE = ['The original gives hashed sets.', 'In the original this is a conversion by `From`.',
+          'The original collects annotations from any iterator of pairs.']
 LINE = re.compile(r'^(\s*)(///|//!|//)(?: (.*)|)$')
 
 
@@ -115,12 +59,65 @@ def written(block, mark, is_head):
             kept[-1] = kept[-1][:-1] + [kept[-1][-1][:-1] + '.']
         if is_head:
             break
+    kept = with_content(kept)
     out = []
     for k, lines in enumerate(kept):
         if k and not (lines[0].startswith('- ') and kept[k - 1][0].startswith('- ')):
             out.append(mark)
         out += [f'{mark} {x}'.rstrip() for x in lines]
     return out
+
+
+FUNCTION = re.compile(r'^\s*(?:pub(?:\([a-z]+\))? )?(?:const )?fn \w+')
+
+
+def without_error_sections(source):
+    """the text without the sections `# Errors` of functions that return no `Result` in the package"""
+    lines, out, k = source.split('\n'), [], 0
+    while k < len(lines):
+        if not lines[k].strip().startswith('///'):
+            out.append(lines[k])
+            k += 1
+            continue
+        end = k
+        while end < len(lines) and lines[end].strip().startswith('///'):
+            end += 1
+        at = end
+        while at < len(lines) and lines[at].strip().startswith('#['):
+            at += 1
+        block = lines[k:end]
+        if at < len(lines) and FUNCTION.match(lines[at]) and not re.search(r'->[^{;]*Result\b', head_at(lines, at)):
+            block = without_section(block)
+        out += block
+        k = end
+    return '\n'.join(out)
+
+
+def head_at(lines, at):
+    """the signature that begins at a line"""
+    end = at
+    while end < len(lines) - 1 and not re.search(r'[{;]\s*$', lines[end]):
+        end += 1
+    return ' '.join(lines[at:end + 1])
+
+
+def without_section(block):
+    """a comment without its section `# Errors`"""
+    out, inside = [], False
+    for line in block:
+        if re.match(r'^\s*/// # ', line):
+            inside = line.strip() == '/// # Errors'
+        if not inside:
+            out.append(line)
+    while out and out[-1].strip() == '///':
+        out.pop()
+    return out
+
+
+def with_content(kept):
+    """the paragraphs without the headings that nothing follows any more"""
+    return [lines for k, lines in enumerate(kept)
+            if not lines[0].startswith('# ') or (k + 1 < len(kept) and not kept[k + 1][0].startswith('# '))]
 
 
 def paragraphs(block):

@@ -1,7 +1,9 @@
-"""Texts of sources that are said otherwise in the package: `otherwise.txt`, read.
+"""Replaces texts in the package as `otherwise.txt` specifies.
 
-A line `@ CRATE/FILE` begins the entries of a source, `@ CRATE/FILE after` those of what the rules made of it. An entry is a
-line `~ OLD ~> NEW`, or lines `- OLD` and then lines `+ NEW`; entries are parted by empty lines. A line `#` says why."""
+A line `@ CRATE/FILE` begins the entries of a source. A line `@ CRATE/FILE after` begins the entries of the text that
+the rules made of it. An entry is either a line `~ OLD ~> NEW`, or lines `- OLD` and then lines `+ NEW`. Empty lines
+separate entries. A line with `#` is a comment.
+"""
 import os
 import sys
 
@@ -9,7 +11,7 @@ HERE = os.path.dirname(os.path.abspath(__file__))
 
 
 def entries(path=os.path.join(HERE, 'otherwise.txt')):
-    """for each source, and for each file after the rules, its pairs of texts: two dictionaries"""
+    """Reads the pairs of texts for each source, and for each file after the rules: two dictionaries."""
     before, after = {}, {}
     with open(path, encoding='utf-8') as f:
         lines = f.read().split('\n')
@@ -31,12 +33,16 @@ def entries(path=os.path.join(HERE, 'otherwise.txt')):
 
 
 def pair(old, new):
-    """two texts; where nothing comes in the place of lines, these go with their ends"""
+    """Returns the old and the new text of an entry. Lines without a replacement are removed with their line ends."""
     return ('\n'.join(old) + ('' if new else '\n'), '\n'.join(new))
 
 
 def said(source, pairs, name):
-    """a text with its entries; one that is not found is told"""
+    """Applies the entries to a text.
+
+    Raises:
+        SystemExit: the old text of an entry is not in the text.
+    """
     for old, new in pairs:
         if old not in source:
             print(f'out of date: an entry of {name}: {old[:60]!r}', file=sys.stderr)

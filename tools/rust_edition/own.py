@@ -1,10 +1,10 @@
-"""Inside of an `impl` the type is `Self`."""
+"""Replaces the type of an `impl` by `Self` within the `impl`."""
 import re
 from .trees import Group, after, angle_end, before, is_group, is_id, is_p, plain
 
 
 def self_type(head):
-    """the type that an `impl` is of, as its head writes it"""
+    """Returns the type of an `impl`, as its head writes it."""
     body = re.sub(r'^impl\s*', '', head)
     if body.startswith('<'):
         depth = 0
@@ -17,7 +17,7 @@ def self_type(head):
 
 
 def with_self(nodes, name, kind):
-    """the items of an `impl` of `kind`, whose name is `name`"""
+    """Returns the items of an `impl` of the type `kind` with the name `name`, with `Self` for the type."""
     out, i = [], 0
     while i < len(nodes):
         n = nodes[i]
@@ -35,12 +35,13 @@ def with_self(nodes, name, kind):
 
 
 def follows_path(out):
+    """Returns whether the next name is a part of a path, a method, or the name of a function or a module."""
     j = before(out, len(out) - 1)
     return j >= 0 and (is_p(out[j], '::') or is_p(out[j], '.') or is_id(out[j]) and out[j][1] in ('fn', 'mod'))
 
 
 def own_end(nodes, i, name, kind):
-    """where the type ends that begins at i, if it is the one of the `impl`"""
+    """Returns the index after the type that begins at `i`, if it is the type of the `impl`; otherwise `None`."""
     j = after(nodes, i + 1)
     if j >= len(nodes):
         return i + 1 if kind == name else None

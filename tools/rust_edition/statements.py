@@ -1,11 +1,11 @@
-"""Statements of a block, arms of a `match`, and what a block gives."""
+"""Splits blocks into statements and matches into arms, and finds the values of blocks."""
 from .trees import after, before, is_group, is_id, is_p, trim
 
 BLOCKS = ('if', 'match', 'for', 'while', 'loop', 'unsafe')
 
 
 def statements(nodes):
-    """(start, stop, closed) of each statement; what is not closed is what the block gives"""
+    """Returns (start, stop, closed) for each statement. A statement that is not closed is the value of the block."""
     out, i = [], after(nodes, 0)
     while i < len(nodes):
         start = i
@@ -35,11 +35,12 @@ def statements(nodes):
 
 
 def is_block(n):
+    """Returns whether a node begins an expression that ends with a block."""
     return is_group(n, '{') or is_id(n) and n[1] in BLOCKS
 
 
 def block_end(nodes, i):
-    """nodes[i] begins an expression that ends with a block: the index behind it"""
+    """Returns the index after the expression that begins at `i` and ends with a block."""
     while True:
         while not is_group(nodes[i], '{'):
             i += 1
@@ -51,7 +52,7 @@ def block_end(nodes, i):
 
 
 class Arm:
-    """An arm of a `match`: pattern, body, and the comments before it."""
+    """An arm of a `match`: its pattern, its body, and the comments before it."""
 
     def __init__(self, notes, pattern, body):
         self.notes, self.pattern, self.body = notes, trim(pattern), trim(body)
@@ -65,7 +66,7 @@ class Arm:
 
 
 def arms(nodes):
-    """the arms between the braces of a `match`"""
+    """Returns the arms between the braces of a `match`."""
     out, i = [], 0
     while after(nodes, i) < len(nodes):
         first = after(nodes, i)
@@ -88,6 +89,7 @@ def arms(nodes):
 
 
 def from_arms(list_):
+    """Returns the nodes of arms."""
     out = [('ws', '\n')]
     for arm in list_:
         out += arm.nodes()
@@ -95,7 +97,7 @@ def from_arms(list_):
 
 
 def match_parts(nodes):
-    """of a `match` alone: what it looks at, and the group of its arms; else None"""
+    """Returns the subject and the group of the arms, if the nodes are only a `match`; otherwise `None`."""
     cs = trim(nodes)
     if not cs or not is_id(cs[0], 'match') or not is_group(cs[-1], '{'):
         return None
@@ -105,7 +107,7 @@ def match_parts(nodes):
 
 
 def if_parts(nodes):
-    """of an `if` alone, with all that is `else`: the groups of its blocks; else None"""
+    """Returns the groups of all blocks, if the nodes are only an `if` with its `else` parts; otherwise `None`."""
     cs = trim(nodes)
     if not cs or not is_id(cs[0], 'if'):
         return None
@@ -115,7 +117,7 @@ def if_parts(nodes):
 
 
 def values(nodes):
-    """each expression that an expression may give, as lists of nodes: through `if`, `match` and blocks"""
+    """Iterates over the expressions that can be the value of an expression, through `if`, `match` and blocks."""
     nodes = trim(nodes)
     if len(nodes) == 1 and is_group(nodes[0], '{'):
         yield from values_of_block(nodes[0])
@@ -134,6 +136,7 @@ def values(nodes):
 
 
 def values_of_block(block):
+    """Iterates over the expressions that can be the value of a block."""
     list_ = statements(block.items)
     if list_ and not list_[-1][2]:
         yield from values(block.items[list_[-1][0]:list_[-1][1]])

@@ -1,7 +1,8 @@
-"""The layer's own tests over the package: modules of a copy of it, under `cfg(test)`.
+"""Writes the tests of the layer over the package: modules of a copy of it, under `cfg(test)`.
 
-A test says of each call what the layer answers, so a call of the package that gives a value is written as `Ok` of it, and all
-that looks at the answer stays as it is. What tests make of themselves keeps its allocator."""
+The tests expect the results of the layer. So a call of the package that returns a value is wrapped in `Ok`, and the
+code that checks the result does not change. Functions that a test defines itself keep their allocators.
+"""
 import os
 import re
 
@@ -26,7 +27,7 @@ WORDS = {'if', 'match', 'while', 'return', 'in', 'fn', 'let', 'mut', 'for', 'Som
 
 
 def sources(top):
-    """crate, file and tree of each source of tests"""
+    """Iterates over the crate, the file and the tree of each source of tests."""
     for crate in exceptions.TESTS:
         folder = os.path.join(top, 'crates', crate, 'src')
         for base, _, names in sorted(os.walk(folder)):
@@ -37,7 +38,7 @@ def sources(top):
 
 
 class Library:
-    """What the package answers, and what a crate of tests has of its own."""
+    """The results of the package, and the own types and methods of each crate of tests."""
 
     def __init__(self, table, files, tests):
         self.table, self.methods, self.own_types, self.own_methods = table, {}, {}, {}
@@ -57,7 +58,7 @@ class Library:
                         self.own_methods.setdefault(crate, set()).add(f.name)
 
     def free(self, crate, name):
-        """the kinds of a free function of a crate, or of that name where the crate hands it on"""
+        """Returns the kinds of a free function of a crate, or of any crate if this one re-exports it."""
         kinds = set(self.table.free.get((crate, name), {}).values())
         if not kinds:
             for (_, other), by_file in self.table.free.items():
@@ -66,6 +67,7 @@ class Library:
 
 
 def is_public(f):
+    """Returns whether a function is public."""
     j = before(f.nodes, f.at - 1)
     while j >= 0 and is_id(f.nodes[j]) and f.nodes[j][1] in ('const', 'final'):
         j = before(f.nodes, j - 1)
@@ -73,13 +75,13 @@ def is_public(f):
 
 
 class Test:
-    """A source of tests: its calls are those of the package."""
+    """A source of tests, whose calls are changed to calls of the package."""
 
     def __init__(self, crate, imports, library):
         self.crate, self.imports, self.library = crate, imports, library
 
     def judge(self, out):
-        """of the call that stands last: whether it is the package's or std's, and what its answer is to be in"""
+        """Returns whether the last call is of the package or of std, and the wrapper for its result."""
         how, name, on, _ = called(out, len(out))
         if how == 'path':
             return self.of_path(name, on)
@@ -93,11 +95,13 @@ class Test:
         return False, None
 
     def told(self, kinds, name):
-        if name == 'slice':  # refused for want of memory alone, by an error that tests name
+        """Returns the wrapper for a result of these kinds, or `None`."""
+        if name == 'slice':  # can fail only by an allocation, with an error that tests name
             return 'Ok::<_, crate::entities::EntitiesError>'
         return OK if 'memory' in kinds else None
 
     def of_path(self, name, on):
+        """Does the same as `judge` for a call `on::name(..)`."""
         if on in STD_TYPES:
             return True, OK if STD_MEMORY.fullmatch(f'{on}::{name}') else None
         if on == 'Self' or on in self.library.own_types.get(self.crate, ()):
@@ -110,7 +114,7 @@ class Test:
         return False, None
 
     def of_method(self, name, has):
-        """a method, by its name and whether it is handed an allocator"""
+        """Does the same as `judge` for a method, by its name and whether it has an allocator argument."""
         kinds = {kind for kind, takes in self.library.methods.get(name, ()) if takes == has}
         if name in STD_METHODS:
             kinds = {'memory'} if not has and name != 'insert' else kinds | {'memory'}
@@ -121,7 +125,7 @@ class Test:
         return True, OK if 'memory' in kinds else None
 
     def calls(self, nodes):
-        """the calls of a body"""
+        """Rewrites the calls of a body."""
         out = []
         for n in nodes:
             if not isinstance(n, Group):
@@ -137,12 +141,13 @@ class Test:
         return out
 
     def macro(self, out, start, n):
-        """`format!(in alloc; ..)` and `vec![in alloc; ..]`"""
+        """Rewrites `format!(in alloc; ..)` and `vec![in alloc; ..]`."""
         k = next(k for k, x in enumerate(n.items) if is_p(x, ';'))
         body = out[start:] + [Group(n.open, self.calls(trim(n.items[k + 1:])))]
         out[start:] = parse(OK) + [Group('(', body)]
 
     def call(self, out):
+        """Rewrites the last call: removes the allocator, and wraps the result."""
         is_library, told = self.judge(out)
         if not is_library:
             return
@@ -156,7 +161,7 @@ class Test:
             out[start:] = parse(told) + [Group('(', trim(out[start:]) + listed)]
 
     def functions(self, nodes):
-        """a tree with the bodies of its functions so"""
+        """Rewrites the bodies of the functions of a tree."""
         out, i = [], 0
         while i < len(nodes):
             if is_id(nodes[i]) and nodes[i][1] in ('impl', 'trait') and starts_item(nodes, i):
@@ -173,6 +178,7 @@ class Test:
         return out
 
     def function(self, f):
+        """Rewrites a function."""
         if f.body is None:
             return f.nodes[f.at:f.end + 1]
         body = self.calls(without_library_memory(f.body))
@@ -184,12 +190,13 @@ class Test:
 
 
 def is_id_at(items, name):
+    """Returns whether the first node of code is this identifier."""
     k = after(items, 0)
     return k < len(items) and is_id(items[k], name)
 
 
 def is_call(out, j):
-    """whether a group in parentheses behind out[j] holds the arguments of a call"""
+    """Returns whether the parentheses after `out[j]` are the arguments of a call."""
     if is_id(out[j]):
         p = before(out, j - 1)
         return out[j][1] not in WORDS and not (p >= 0 and is_id(out[p], 'fn'))
@@ -197,6 +204,7 @@ def is_call(out, j):
 
 
 def is_first_allocator(items):
+    """Returns whether the first argument is an allocator."""
     first = []
     for n in items:
         if is_p(n, ','):
@@ -206,7 +214,7 @@ def is_first_allocator(items):
 
 
 def path_start(out, k):
-    """where the path begins that ends with out[k]"""
+    """Returns the index at which the path begins that ends with `out[k]`."""
     while True:
         q = before(out, k - 1)
         if q < 0 or not is_p(out[q], '::'):
@@ -218,7 +226,7 @@ def path_start(out, k):
 
 
 def receiver(out, k):
-    """where what a method is called on begins; out[k] is the method's name"""
+    """Returns the index at which the receiver of a method begins; `out[k]` is the name of the method."""
     j = before(out, before(out, k - 1) - 1)
     while True:
         while is_p(out[j], '?'):
@@ -233,7 +241,7 @@ def receiver(out, k):
 
 
 def callee(out, j):
-    """the name before the arguments at j, or j itself where these are no arguments"""
+    """Returns the index of the name before the arguments at `j`, or `j` if these are not arguments."""
     p = before(out, j - 1)
     if p < 0 or is_group(out[j], '{'):
         return j
@@ -245,7 +253,7 @@ def callee(out, j):
 
 
 def without_library_memory(nodes):
-    """no arm looks for want of memory in an answer of the package"""
+    """Removes match arms for the variant `Memory` of errors of the package."""
     out = []
     for n in nodes:
         if isinstance(n, Group):
@@ -259,7 +267,7 @@ def without_library_memory(nodes):
 
 
 def without_memory(source):
-    """lines that make an error of want of memory answer its text, and assertions of one go"""
+    """Changes arms that create an allocation error to return its text, and removes assertions of one."""
     out = []
     for line in source.split('\n'):
         arm = re.match(r'^(\s*.*?) => .*,$', line)
@@ -286,7 +294,7 @@ NAMES = [
 
 
 def written(crate, name, nodes, library):
-    """the text of a source of tests"""
+    """Returns the text of a source of tests."""
     everything = exceptions.CRATES + exceptions.TESTS
     test = Test(crate, imports_of(nodes, crate, everything), library)
     source = texts.renamed(text(test.functions(nodes)))
@@ -300,11 +308,13 @@ def written(crate, name, nodes, library):
 
 
 def derived(listed):
+    """Returns a `derive` with only the traits of std."""
     names = [n.strip() for n in listed.split(',') if n.strip() not in ('Drop', 'Error')]
     return f'#[derive({", ".join(names)})]' if names else ''
 
 
 def paths(s, crate, everything):
+    """Replaces paths of crates by paths of modules."""
     s = re.sub(r'\bpub\(crate\)', 'pub(CRATE)', s)
     s = re.sub(r'\bcrate::(?!tests_std|Renaming|ordered_map|entities::EntitiesError)', f'crate::{crate}::', s)
     named = '|'.join(sorted(everything, key=len, reverse=True))
@@ -313,7 +323,7 @@ def paths(s, crate, everything):
 
 
 def modules(top, table, files):
-    """the text of each source of tests, by its path below `src`"""
+    """Returns the text of each source of tests, by its path below `src`."""
     tests = list(sources(top))
     library = Library(table, files, tests)
     _, after_ = otherwise.entries(os.path.join(HERE, 'tests_otherwise.txt'))
@@ -326,6 +336,6 @@ def modules(top, table, files):
 
 
 def asked_for(top):
-    """the names that tests ask the heads of crates for"""
+    """Returns the names that tests import from the heads of crates."""
     return {(path[0], path[1].split(' as ')[0]) for _, _, nodes in sources(top) for path in texts.uses_in(nodes)
             if path[0] in exceptions.CRATES and len(path) > 1}

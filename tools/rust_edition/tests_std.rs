@@ -1,4 +1,4 @@
-//! What the layer's tests name of Rattle's std: no memory is refused.
+//! The items of Rattle's std that the tests of the layer use. Allocations do not fail.
 
 pub mod alloc {
     #[derive(Clone, Copy, Debug)]
@@ -81,7 +81,7 @@ pub mod process {
     impl Abort for super::HostRuntime {}
 }
 
-/// What stands for the process.
+/// A replacement for the runtime of the process.
 #[derive(Clone, Copy)]
 pub struct HostRuntime;
 
@@ -93,7 +93,7 @@ impl HostRuntime {
 
 use alloc::{AllocError, Global};
 
-/// The nodes of the tests, as the layer's trait has them: the package's trait stands on what they answer.
+/// The trait for nodes of the layer, which the nodes of the tests implement. The trait of the package is implemented by it.
 pub trait TestNode<K: Eq> {
     fn get_key(&self, alloc: Global) -> Result<K, AllocError>;
     fn add_edge_to(&mut self, alloc: Global, k: K) -> Result<(), AllocError>;
@@ -161,7 +161,7 @@ impl<K: Eq, N: TestNode<K>> crate::transitive_closure::TCNode<K> for N {
     }
 }
 
-// The layer's node for a shared entity, over the package's.
+// The implementation for shared entities of the layer, which uses the one of the package.
 use crate::ast::EntityUID;
 use crate::cedar_entity::node::SharedEntity;
 use crate::transitive_closure::TCNode;
@@ -190,7 +190,7 @@ impl TCNode<EntityUID> for SharedEntity {
     }
 }
 
-// What a test of raw maps asks of an ordered map.
+// A function of ordered maps that a test of raw maps uses.
 use crate::ordered_map::OrderedMap;
 use std::hash::{BuildHasher, Hash};
 

@@ -1,4 +1,4 @@
-"""The text of a file: names as Rust's std has them, and what it brings in."""
+"""Rewrites the text of a file: names become the names of Rust's std, and `use` items are recomputed."""
 import re
 
 from .trees import Group, after, code, identifiers, is_group, is_id, is_p, lex, parse, text
@@ -18,7 +18,7 @@ CODE = [
     (r'\b(?:mem::)?replace\(([^(),]*), Vec::new\(\)\)', r'mem::take(\1)'),
     (r'\buse std::mem::replace;', 'use std::mem;'),
 ]
-# a trait whose methods alone are used in a file is brought in for these
+# a trait is imported if a file uses one of these methods of it
 METHODS = {
     'StaticallyTyped': ['type_of'], 'TCNode': ['add_edge_to', 'add_edges_to', 'out_edges', 'get_key'], 'Hash': ['hash'],
     'Deref': ['deref'], 'Write': ['write_all', 'flush'], 'Read': ['read'],
@@ -26,7 +26,7 @@ METHODS = {
 
 
 def on_code(source, change):
-    """`change` on the stretches of a text that are no comment"""
+    """Applies `change` to the parts of a text that are not comments."""
     out, stretch = [], ''
     for kind, value in lex(source):
         if kind == 'com':
@@ -39,7 +39,7 @@ def on_code(source, change):
 
 
 def renamed(source, patterns=()):
-    """the text with std's names"""
+    """Returns the text with the names of std."""
     def change(s):
         for a, b in list(CODE) + list(patterns):
             s = re.sub(a, b, s)
@@ -51,14 +51,14 @@ def renamed(source, patterns=()):
 
 
 def comment_names(line):
-    """a comment with the names that the package has"""
+    """Returns a comment with the names that the package has."""
     line = re.sub(r'`Rc`', '`Arc`', line)
     line = re.sub(r'\bIndexMap\b', 'OrderedMap', line)
     return re.sub(r'\bIndexSet\b', 'OrderedSet', line)
 
 
 def take_uses(nodes):
-    """a file's tree without its private `use` items, and their paths"""
+    """Returns the tree of a file without its private `use` items, and their paths."""
     out, paths, i = [], [], 0
     while i < len(nodes):
         n = nodes[i]
@@ -79,7 +79,7 @@ def take_uses(nodes):
 
 
 def full_paths(nodes):
-    """the paths of a `use`, each a list with what it is called last where that differs"""
+    """Returns the paths of a `use` as lists. The last item has the form `name as alias` if there is an alias."""
     cs = code(nodes)
     head = []
     for k, n in enumerate(cs):
@@ -93,6 +93,7 @@ def full_paths(nodes):
 
 
 def parts_of(items):
+    """Splits nodes at commas."""
     parts, current = [], []
     for n in items:
         if is_p(n, ','):
@@ -105,7 +106,7 @@ def parts_of(items):
 
 
 def resolved(path, crate, crates):
-    """where a path of a source leads in the package; None where nothing of it is left"""
+    """Returns the path of a source as a path of the package; `None` if the package does not have the item."""
     joined = '::'.join(path)
     if path[0] == 'crate':
         return ['crate', crate] + path[1:]
@@ -125,7 +126,7 @@ def resolved(path, crate, crates):
 
 
 def uses_of(paths, body, crate, crates, more=()):
-    """the `use` lines that a body needs, of these paths"""
+    """Returns the `use` lines that a body needs, from these paths."""
     names = set(identifiers(body))
     wanted = {}
     for path in [resolved(p, crate, crates) for p in paths] + [list(m) for m in more]:
@@ -145,7 +146,7 @@ def uses_of(paths, body, crate, crates, more=()):
 
 
 def public_uses(source, crate, crates):
-    """`pub use` lines and modules with paths of the package"""
+    """Rewrites `pub use` lines and modules to paths of the package."""
     def change(s):
         s = re.sub(r'\bcrate::', f'crate::{crate}::', s)
         named = '|'.join(sorted(crates, key=len, reverse=True))
@@ -158,7 +159,7 @@ def public_uses(source, crate, crates):
 
 
 def uses_in(nodes):
-    """the paths of each `use` of a tree, in modules too"""
+    """Iterates over the paths of each `use` of a tree, also in modules."""
     for i, n in enumerate(nodes):
         if is_group(n, '{'):
             yield from uses_in(n.items)
@@ -170,7 +171,7 @@ def uses_in(nodes):
 
 
 def pruned(nodes, crate, wanted):
-    """the head of a crate, which hands on what others ask it for alone"""
+    """Returns the head of a crate with only the re-exports that other files need."""
     out, i = [], 0
     while i < len(nodes):
         n = nodes[i]
@@ -197,6 +198,7 @@ def pruned(nodes, crate, wanted):
 
 
 def drop_notes(out):
+    """Removes the comments at the end."""
     while out and not isinstance(out[-1], Group) and (
             out[-1][0] == 'ws' or out[-1][0] == 'com' and not out[-1][1].startswith('//!')):
         out.pop()

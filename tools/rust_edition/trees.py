@@ -1,6 +1,7 @@
-"""Texts of programs as tokens, and tokens as trees.
+"""Splits texts of programs into tokens, and tokens into trees.
 
-A leaf is a pair (kind, text), a group what stands between two brackets."""
+A leaf is a pair (kind, text). A group has the nodes between two brackets.
+"""
 import re
 
 TOKEN = re.compile(r'''
@@ -18,7 +19,7 @@ CLOSE = {'{': '}', '(': ')', '[': ']'}
 
 
 class Group:
-    """What stands between two brackets."""
+    """The nodes between two brackets."""
     __slots__ = ('open', 'items')
 
     def __init__(self, open_, items):
@@ -29,7 +30,7 @@ class Group:
 
 
 def lex(source):
-    """the tokens of a text"""
+    """Returns the tokens of a text."""
     out = []
     for m in TOKEN.finditer(source):
         kind = 'str' if m.group('str') else m.lastgroup
@@ -38,7 +39,11 @@ def lex(source):
 
 
 def parse(source):
-    """the tree of a text"""
+    """Returns the tree of a text.
+
+    Raises:
+        AssertionError: the brackets do not match.
+    """
     stack = [[]]
     opened = []
     for kind, value in lex(source):
@@ -55,7 +60,7 @@ def parse(source):
 
 
 def text(nodes):
-    """the text of a tree"""
+    """Returns the text of a tree."""
     out = []
     for n in nodes:
         if isinstance(n, Group):
@@ -66,7 +71,7 @@ def text(nodes):
 
 
 def plain(nodes):
-    """the text on one line, without comments"""
+    """Returns the text on one line, without comments."""
     kept = [n for n in nodes if not is_comment(n)]
     return re.sub(r'\s+', ' ', text(kept)).strip()
 
@@ -92,14 +97,14 @@ def is_group(n, open_):
 
 
 def after(nodes, i):
-    """index of the first node of code at or after i"""
+    """Returns the index of the first node of code at or after `i`."""
     while i < len(nodes) and not is_code(nodes[i]):
         i += 1
     return i
 
 
 def before(nodes, i):
-    """index of the last node of code at or before i, or -1"""
+    """Returns the index of the last node of code at or before `i`, or -1."""
     while i >= 0 and not is_code(nodes[i]):
         i -= 1
     return i
@@ -110,7 +115,7 @@ def code(nodes):
 
 
 def split(nodes, mark=','):
-    """parts between marks that stand in no bracket, angle brackets among them: for types and parameters"""
+    """Splits nodes at marks that are not within brackets. Angle brackets count too, so it is used for types."""
     parts, current, depth = [], [], 0
     for n in nodes:
         if is_p(n, '<'):
@@ -127,7 +132,7 @@ def split(nodes, mark=','):
 
 
 def angle_end(nodes, i):
-    """nodes[i] is `<`: index of its `>`"""
+    """Returns the index of the `>` that closes the `<` at `i`."""
     depth = 0
     while True:
         if is_p(nodes[i], '<'):
@@ -140,7 +145,7 @@ def angle_end(nodes, i):
 
 
 def angle_start(nodes, i):
-    """nodes[i] is `>`: index of its `<`"""
+    """Returns the index of the `<` that opens the `>` at `i`."""
     depth = 0
     while True:
         if is_p(nodes[i], '>'):
@@ -153,7 +158,7 @@ def angle_start(nodes, i):
 
 
 def trim(nodes):
-    """without blanks at both ends"""
+    """Removes blanks at both ends."""
     a, b = 0, len(nodes)
     while a < b and not isinstance(nodes[a], Group) and nodes[a][0] == 'ws':
         a += 1
@@ -163,7 +168,7 @@ def trim(nodes):
 
 
 def walk(nodes):
-    """each list of nodes of a tree, outer ones first"""
+    """Iterates over all lists of nodes of a tree, outer ones first."""
     yield nodes
     for n in nodes:
         if isinstance(n, Group):
@@ -171,7 +176,7 @@ def walk(nodes):
 
 
 def identifiers(nodes):
-    """the identifiers of a tree, in order"""
+    """Iterates over the identifiers of a tree, in order."""
     for n in nodes:
         if isinstance(n, Group):
             yield from identifiers(n.items)

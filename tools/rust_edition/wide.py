@@ -1,13 +1,19 @@
-"""Parameters of public functions as std's own functions have them: whatever can be gone through, whatever is a text."""
+"""Makes parameters of public functions as general as in std: anything that can be iterated or read as a text."""
 import re
 from .trees import Group, after, before, is_id, is_p, parse
 
 
 def widened(params, body, modes):
-    """parameters by their modes, and the body that goes with them
+    """Returns the parameters with the types of their modes, and the adapted body.
 
-    `loop`: the body goes through it by a loop alone; `pass`: it is handed on to what goes through it; `collect`: the
-    body wants a vector; `into`: whatever becomes what is wanted; `as_ref`: whatever can be read as a text."""
+    The modes are:
+
+    - `loop`: the body iterates over the parameter with a loop
+    - `pass`: the body passes the parameter to a function that iterates over it
+    - `collect`: the body needs a vector
+    - `into`: the parameter is anything that can be converted to the type
+    - `as_ref`: the parameter is anything that can be read as a text
+    """
     out = []
     for p in params:
         name, kind = [x.strip() for x in re.sub(r'^mut ', '', p).split(':', 1)] if ':' in p else (p, '')
@@ -27,11 +33,12 @@ def widened(params, body, modes):
 
 
 def replaced(nodes, name, suffix):
-    """`name` with something behind it, where it is handed on first"""
+    """Appends a suffix to the first use of `name`."""
     return first_replaced(nodes, name, suffix)[0]
 
 
 def first_replaced(nodes, name, suffix):
+    """Appends a suffix to the first use of `name`. Also returns whether there was one."""
     out, done = [], False
     for k, n in enumerate(nodes):
         if done:
@@ -50,13 +57,13 @@ def first_replaced(nodes, name, suffix):
 
 
 def is_member(nodes, k):
-    """whether this is the name of a field, or the variable that a `let` makes"""
+    """Returns whether the name is a field, a part of a path, or the variable of a `let`."""
     j = before(nodes, k - 1)
     return j >= 0 and (is_p(nodes[j], '.') or is_p(nodes[j], '::') or is_id(nodes[j], 'let') or is_id(nodes[j], 'mut'))
 
 
 def is_shorthand(nodes, k):
-    """whether this is a field that is given by its name alone"""
+    """Returns whether the name is a field in shorthand form."""
     j, m = before(nodes, k - 1), after(nodes, k + 1)
     alone = (j < 0 or is_p(nodes[j], ',')) and (m >= len(nodes) or is_p(nodes[m], ','))
     return alone and any(is_p(n, ',') or is_p(n, ':') for n in nodes) and not any(is_p(n, '(') for n in nodes)
