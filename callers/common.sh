@@ -1,4 +1,4 @@
-# Functions of callers/run and callers/try. Both source it in callers/. `out` is the folder for their output and has
+# Functions of callers/run and callers/run-unproved. Both source it in callers/. `out` is the folder for their output and has
 # both archives. The last line of a run is `N passed, M failed`, or `N passed, M failed, K skipped`.
 both="$out/libcedar_c.a $out/liblibc_c.a"
 warn="-std=c11 -Wall -Wextra -Wpedantic -Werror"

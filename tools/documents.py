@@ -9,7 +9,7 @@ The last line is `N passed, M failed`. It checks:
 - A file that a row of docs/MAP.md names after a crate belongs to the crate, and no other file of the crate has this
   name.
 - tools/map.py and tools/definitions.py run. Each definition and each file of a crate has a comment at the top.
-- The Rattle code that docs/CALLING.md quotes is in `cedar_uses` or in `main` of the program.
+- The Rattle code that docs/CALLING.md quotes is in `cedar_examples` or in `main` of the program.
 - The code that docs/GUIDE.md quotes is in the guide's program in the same language, or in the output of an example.
 - docs/hierarchy.svg draws the uids and the edges of the quoted output.
 - The crates in the diagram of docs/MAP.md and in the headings of docs/PROVED.md are exactly those in crates.txt,
@@ -126,7 +126,7 @@ def holds_quote(page, block, paths):
 
 
 def check_quotes():
-    sources = [*glob.glob('crates/cedar_uses/src/*.rt'), 'crates/cedar_store_cli/src/main.rt']
+    sources = [*glob.glob('crates/cedar_examples/src/*.rt'), 'crates/cedar_store_cli/src/main.rt']
     for block in re.findall(r'(?s)```rust\n(.*?)```', read('docs/CALLING.md')):
         holds_quote('docs/CALLING.md', block, sources)
 
@@ -189,7 +189,7 @@ def conditions():
     found = {}
     for path in glob.glob('crates/*/src/**/*.rt', recursive=True):
         crate = path.split('/')[1]
-        if crate.endswith('_tests') or crate in ('cedar_test_helpers', 'cedar_refusals'):
+        if crate.endswith('_tests') or crate in ('cedar_test_helpers', 'cedar_alloc_failures'):
             continue
         text = read(path)
         for begin in re.finditer(r'(?m)^ *pub (?:const |unsafe |extern "C" )*fn (\w+)', text):

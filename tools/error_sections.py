@@ -26,7 +26,7 @@ def holds(what, truth):
 def sources():
     """Returns the files whose public functions are checked."""
     found = [path for path in glob.glob('crates/*/src/**/*.rt', recursive=True)
-             if not re.search(r'crates/(\w+_tests|cedar_test_helpers|cedar_refusals)/', path)]
+             if not re.search(r'crates/(\w+_tests|cedar_test_helpers|cedar_alloc_failures)/', path)]
     by_hand = glob.glob('rust/src/handwritten/*.rs') + glob.glob('callers/rust/src/**/*.rs', recursive=True)
     return sorted(found + [path for path in by_hand if not path.endswith('_tests.rs')])
 

@@ -71,7 +71,7 @@ def what_is_wrong(path, crate):
 def check_wrong_bodies():
     for crate in sorted(glob.glob('crates/*')):
         names = collections.Counter()
-        for path in sorted(glob.glob(f'{crate}/must-fail/*.edit') + glob.glob(f'{crate}/wrong-bodies/*.edit')):
+        for path in sorted(glob.glob(f'{crate}/must-fail/*.edit') + glob.glob(f'{crate}/mutants/*.edit')):
             names[os.path.basename(path)] += 1
             why = what_is_wrong(path, crate)
             holds(f'{path}: {why}', not why)

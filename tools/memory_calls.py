@@ -2,7 +2,7 @@
 """Lists the public calls that allocate, and checks that each has a test case in which its allocations fail.
 
 Without an argument, it prints the calls found in the sources: each crate, and below it its calls. The output has to
-equal calls-that-take-memory.txt, except for the mark `- `. The mark precedes a call whose test cases do not
+equal allocating-calls.txt, except for the mark `- `. The mark precedes a call whose test cases do not
 allocate, so that no allocation can fail.
 
 With `--rows FILE`, it compares the list with the sources and with the test cases that the tests reported in FILE.
@@ -16,15 +16,15 @@ import os
 import re
 import sys
 
-LIST = 'calls-that-take-memory.txt'
+LIST = 'allocating-calls.txt'
 
 
 def crates():
     for line in open('crates.txt', encoding='utf-8'):
         name = line.split('#')[0].split(':')[0].strip()
         # callers/run tests the allocation failures of the library for C and of its deep copies, from C
-        if name and not name.endswith('_tests') and name not in ('cedar_uses', 'cedar_test_helpers', 'cedar_refusals'):
-            if not re.match(r'cedar_c(_|\b)|cedar_(\w+_)?apart\b', name):
+        if name and not name.endswith('_tests') and name not in ('cedar_examples', 'cedar_test_helpers', 'cedar_alloc_failures'):
+            if not re.match(r'cedar_c(_|\b)|cedar_deep_copy(_|\b)', name):
                 yield name.split()[0]
 
 
@@ -42,10 +42,10 @@ def shown(crate, texts):
         names |= {(module, name.strip()) for name in listed.split(',') if name.strip()}
     names |= set(re.findall(r'^pub use (\w+)::(\w+);', root, re.M))
 
-    def is_shown(file, name):
+    def has_text(file, name):
         module = os.path.basename(file)[:-3]
         return module in ('lib', 'main') or module in modules or (module, name) in names
-    return is_shown
+    return has_text
 
 
 def functions(text):
@@ -140,10 +140,10 @@ def calls():
     errors = {error for files in texts.values() for error in wanting(files)}
     seen = set()
     for crate, files in texts.items():
-        is_shown = shown(crate, files)
+        has_text = shown(crate, files)
         for file, text in files.items():
             for name in re.findall(r'^pub (?:struct|enum|trait|fn) (\w+)', text, re.M):
-                if is_shown(file, name):
+                if has_text(file, name):
                     seen.add(name)
     for crate, files in texts.items():
         listed = set()

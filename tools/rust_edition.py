@@ -7,7 +7,7 @@ usage: tools/rust_edition.py [--check | --tests FOLDER | --callers FOLDER]
 - `--tests` writes a copy of the package to a folder, with the layer's own tests as modules. Run `cargo test --lib`
   there.
 - `--callers` writes a copy of the package with the crates of the C library as modules. `cargo build` there creates a
-  static library with the functions of `callers/c/cedar.h`; see `callers/try`. A file that is up to date is not written.
+  static library with the functions of `callers/c/cedar.h`; see `callers/run-unproved`. A file that is up to date is not written.
 
 The proved text is the layer in `crates/`. The tool applies these rules to it, in this order:
 

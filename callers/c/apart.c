@@ -98,9 +98,9 @@ static void begin(void) {
 
 static uint32_t add_past(cedar_store *s) {
     content c = with_entities("");
-    c.l.count = put_text(&c.l, PAST) + 1;
-    c.l.edges[c.l.edges_len++] = (cedar_edge){0, put_text(&c.l, U("a"))};
-    c.above[c.above_len++] = (cedar_edge){0, put_text(&c.l, "N::s::T::\"far\"")};
+    c.l.count = push_text(&c.l, PAST) + 1;
+    c.l.edges[c.l.edges_len++] = (cedar_edge){0, push_text(&c.l, U("a"))};
+    c.above[c.above_len++] = (cedar_edge){0, push_text(&c.l, "N::s::T::\"far\"")};
     cedar_span past = put_bytes(&c, PAST, strlen(PAST));
     c.terms[c.terms_len++] = (cedar_term){0, 1, put_bytes(&c, "\xe2\x82\xac", 3), 0, 3};
     put_node(&c, CEDAR_UID, 0, past, 0);
@@ -110,11 +110,11 @@ static uint32_t add_past(cedar_store *s) {
 
 static uint32_t build_whole(cedar_store *s) {
     content c = with_entities("a b;b c;x ac;c");
-    put_term(&c, 0, 0, "k", "'x '10.0.0.1 ip(1 'y 'z @b {2 [2");
-    put_term(&c, 0, 0, "", "'n 2 'r 'm 3 [1 [2");
-    put_term(&c, 0, 1, "k", "'User ~u:1 $0 = @c ^User & *");
-    put_term(&c, 2, 0, "l", "'\xc3\xa9");
-    put_term(&c, 3, 1, "t", "@a");
+    push_term(&c, 0, 0, "k", "'x '10.0.0.1 ip(1 'y 'z @b {2 [2");
+    push_term(&c, 0, 0, "", "'n 2 'r 'm 3 [1 [2");
+    push_term(&c, 0, 1, "k", "'User ~u:1 $0 = @c ^User & *");
+    push_term(&c, 2, 0, "l", "'\xc3\xa9");
+    push_term(&c, 3, 1, "t", "@a");
     uint32_t status = new_store(s);
     if (!status) status = cedar_store_build_with(s, CONTENT(c), CEDAR_COMPUTE);
     return status ? status : add_past(s);
@@ -147,11 +147,11 @@ static void stores_share_nothing(void) {
     CHECK(build_whole(&s) == CEDAR_OK);
     size_t whole = left_of(1);
     now = 2;
-    CHECK(cedar_store_copy_apart(&s, &t) == CEDAR_OK && is_whole(&t));
+    CHECK(cedar_store_deep_copy(&s, &t) == CEDAR_OK && is_whole(&t));
     CHECK(equal(&s, &t) == 1 && entity_equal(&s, PAST, &t) == 1 && is_partial(&t) == 0);
     CHECK(left_of(2) <= whole);
     now = 3;
-    CHECK(cedar_store_partial(&t) == CEDAR_OK && cedar_store_copy_apart(&t, &u) == CEDAR_OK && is_partial(&u) == 1);
+    CHECK(cedar_store_partial(&t) == CEDAR_OK && cedar_store_deep_copy(&t, &u) == CEDAR_OK && is_partial(&u) == 1);
     CHECK(equal(&t, &u) == 1 && equal(&s, &u) == 0 && left_of(3) <= whole);
     cedar_store_free(&s);
     CHECK(left_of(1) == 0 && is_whole(&t) && is_whole(&u));
@@ -179,15 +179,15 @@ static void stores_refuse(void) {
     cedar_store s = {0}, t = {0};
     const uint8_t *text = bytes("A::b");
     cedar_span part = {0, 4}, beyond = {0, 5};
-    CHECK(cedar_store_copy_apart(&s, &t) == CEDAR_CLOSED && sliced_apart(&s, &t, "a") == CEDAR_CLOSED && !t.is_open);
+    CHECK(cedar_store_deep_copy(&s, &t) == CEDAR_CLOSED && sliced_apart(&s, &t, "a") == CEDAR_CLOSED && !t.is_open);
     CHECK(new_store(&t) == CEDAR_OK && build(&t, "q", CEDAR_COMPUTE) == CEDAR_OK);
-    CHECK(cedar_store_copy_apart(&s, &t) == CEDAR_CLOSED && cedar_store_len(&t) == 1);
+    CHECK(cedar_store_deep_copy(&s, &t) == CEDAR_CLOSED && cedar_store_len(&t) == 1);
     CHECK(new_store(&s) == CEDAR_OK && build(&s, "a b;b", CEDAR_COMPUTE) == CEDAR_OK);
     CHECK(build(&t, "m m", CEDAR_COMPUTE) == CEDAR_CYCLE && ancestors(&s, U("a")) == CEDAR_OK);
-    CHECK(cedar_store_slice_apart(&s, &t, text, 4, &part, 1) == CEDAR_NOT_A_UID && t.is_open);
-    CHECK(cedar_store_slice_apart(&s, &t, text, 4, &beyond, 1) == CEDAR_BAD_ARGUMENT);
+    CHECK(cedar_store_slice_deep_copy(&s, &t, text, 4, &part, 1) == CEDAR_NOT_A_UID && t.is_open);
+    CHECK(cedar_store_slice_deep_copy(&s, &t, text, 4, &beyond, 1) == CEDAR_BAD_ARGUMENT);
     CHECK(IS(store_refusal(&t), "cycle at " U("m")) && IS(store_answer(&s), "," U("b")));
-    CHECK(cedar_store_copy_apart(&s, &t) == CEDAR_OK && IS(store_answer(&t), "") && IS(store_refusal(&t), ""));
+    CHECK(cedar_store_deep_copy(&s, &t) == CEDAR_OK && IS(store_answer(&t), "") && IS(store_refusal(&t), ""));
     CHECK(sliced_apart(&s, &t, "") == CEDAR_OK && cedar_store_len(&t) == 0 && IS(store_answer(&s), "," U("b")));
     CHECK(sliced_apart(&s, &t, "zz") == CEDAR_OK && cedar_store_len(&t) == 0);
     cedar_store_free(&s);
@@ -205,9 +205,9 @@ static uint32_t fill_whole(cedar_policies *p) {
     put_annotation(&slots, "if", "\xc3\xa9\"");
     uint32_t status = new_set(p);
     if (!status) status = add_static(p, "s", 1);
-    if (!status) status = join_template(p, "t", &slots);
+    if (!status) status = insert_template_body(p, "t", &slots);
     if (!status) status = link_id(p, "t", "l", PAST, "Action::\"x\"", U("r"));
-    if (!status) status = join_static(p, "w", &whole);
+    if (!status) status = insert_static_body(p, "w", &whole);
     if (!status) status = add_template(p, "\xe2\x82\xac", 1);
     if (!status) status = link_id(p, "t", "m", U("a"), "Action::\"y\"", PAST);
     if (!status) status = link_id(p, "\xe2\x82\xac", "n", PAST, "", "");
@@ -239,13 +239,13 @@ static void sets_share_nothing(void) {
     CHECK(fill_whole(&p) == CEDAR_OK);
     size_t whole = left_of(1);
     now = 2;
-    CHECK(cedar_policies_copy_apart(&p, &q) == CEDAR_OK && sets_equal(&p, &q) == 1 && IS(policies_answer(&q), ""));
+    CHECK(cedar_policies_deep_copy(&p, &q) == CEDAR_OK && sets_equal(&p, &q) == 1 && IS(policies_answer(&q), ""));
     CHECK(left_of(2) <= whole);
     cedar_policies_free(&p);
     CHECK(left_of(1) == 0 && is_full(&q));
     now = 3;
     CHECK(unlink_id(&q, "l") == CEDAR_OK && unlink_id(&q, "m") == CEDAR_OK && remove_template(&q, "t") == CEDAR_OK);
-    CHECK(cedar_policies_copy_apart(&q, &r) == CEDAR_OK && sets_equal(&q, &r) == 1);
+    CHECK(cedar_policies_deep_copy(&q, &r) == CEDAR_OK && sets_equal(&q, &r) == 1);
     cedar_policies_free(&q);
     CHECK(left_of(2) == 0);
     cedar_policies_free(&r);
@@ -262,7 +262,7 @@ static void merges_share_nothing(void) {
         CHECK(new_set(&p) == CEDAR_OK && add_static(&p, "s", 0) == CEDAR_OK && add_template(&p, "o", 1) == CEDAR_OK);
         CHECK(link_id(&p, "o", "policy0", U("a"), "", "") == CEDAR_OK && cedar_policies_copy(&p, &r) == CEDAR_OK);
         uint32_t (*merge)(cedar_policies *, cedar_policies *, bool) =
-            apart ? cedar_policies_merge_apart : cedar_policies_merge;
+            apart ? cedar_policies_merge_deep_copy : cedar_policies_merge;
         CHECK(merge(&p, &q, false) == CEDAR_OCCUPIED && sets_equal(&p, &r) == 1);
         CHECK(strstr(policies_refusal(&p), " s"));
         CHECK(merge(&p, &q, true) == CEDAR_OK && IS(policies_answer(&p), ",s,policy1") && is_full(&q));
@@ -280,12 +280,12 @@ static void merges_share_nothing(void) {
 
 static void sets_refuse(void) {
     cedar_policies p = {0}, q = {0};
-    CHECK(cedar_policies_copy_apart(&p, &q) == CEDAR_CLOSED && !q.is_open);
-    CHECK(cedar_policies_merge_apart(&p, &q, true) == CEDAR_CLOSED);
+    CHECK(cedar_policies_deep_copy(&p, &q) == CEDAR_CLOSED && !q.is_open);
+    CHECK(cedar_policies_merge_deep_copy(&p, &q, true) == CEDAR_CLOSED);
     CHECK(new_set(&q) == CEDAR_OK && add_static(&q, "a", 0) == CEDAR_OK && unlink_id(&q, "z") == CEDAR_NO_LINK);
-    CHECK(cedar_policies_copy_apart(&p, &q) == CEDAR_CLOSED && kind_of(&q, "a") == 1);
-    CHECK(cedar_policies_merge_apart(&q, &p, true) == CEDAR_CLOSED && IS(policies_refusal(&q), "no link z"));
-    CHECK(new_set(&p) == CEDAR_OK && cedar_policies_copy_apart(&p, &q) == CEDAR_OK && sets_equal(&p, &q) == 1);
+    CHECK(cedar_policies_deep_copy(&p, &q) == CEDAR_CLOSED && kind_of(&q, "a") == 1);
+    CHECK(cedar_policies_merge_deep_copy(&q, &p, true) == CEDAR_CLOSED && IS(policies_refusal(&q), "no link z"));
+    CHECK(new_set(&p) == CEDAR_OK && cedar_policies_deep_copy(&p, &q) == CEDAR_OK && sets_equal(&p, &q) == 1);
     CHECK(IS(policies_refusal(&q), "") && kind_of(&q, "a") == 0);
     cedar_policies_free(&p);
     cedar_policies_free(&q);
@@ -309,7 +309,7 @@ static void use(cedar_store *s, unsigned *wrong) {
         *wrong += cedar_store_copy(s, &copy) != CEDAR_OK || sliced(s, &part, "x") != CEDAR_OK;
         *wrong += upsert(&copy, "y x;b", CEDAR_COMPUTE) != CEDAR_OK || descends(&copy, U("y"), U("c")) != 1;
         *wrong += descends(s, U("x"), U("b")) != 1 || cedar_store_ancestors(&part, TEXT(U("x"))) != CEDAR_OK;
-        *wrong += cedar_store_copy_apart(s, &apart) != CEDAR_OK || equal(s, &apart) != 1 || equal(s, &copy) != 0;
+        *wrong += cedar_store_deep_copy(s, &apart) != CEDAR_OK || equal(s, &apart) != 1 || equal(s, &copy) != 0;
         cedar_store_free(&copy);
         cedar_store_free(&part);
         cedar_store_free(&apart);
@@ -319,7 +319,7 @@ static void use(cedar_store *s, unsigned *wrong) {
 static void use_set(cedar_policies *p, unsigned *wrong) {
     for (int k = 0; k < ROUNDS; k++) {
         cedar_policies copy = {0}, apart = {0};
-        *wrong += cedar_policies_copy(p, &copy) != CEDAR_OK || cedar_policies_copy_apart(p, &apart) != CEDAR_OK;
+        *wrong += cedar_policies_copy(p, &copy) != CEDAR_OK || cedar_policies_deep_copy(p, &apart) != CEDAR_OK;
         *wrong += link_id(&copy, "t", "k", U("a"), "Action::\"x\"", U("b")) != CEDAR_OK || kind_of(&copy, "k") != 2;
         *wrong += unlink_id(&apart, "l") != CEDAR_OK || cedar_policies_merge(&apart, p, true) != CEDAR_OK;
         *wrong += kind_of(&apart, "l") != 2 || sets_equal(&apart, p) != 0 || kind_of(p, "k") != 0;
@@ -346,8 +346,8 @@ static void on_threads(void) {
     memset(tasks, 0, sizeof tasks);
     CHECK(build_whole(&s) == CEDAR_OK && fill_whole(&p) == CEDAR_OK);
     for (int k = 0; k < THREADS; k++) {
-        CHECK(cedar_store_copy_apart(&s, &tasks[k].s) == CEDAR_OK);
-        CHECK(cedar_policies_copy_apart(&p, &tasks[k].p) == CEDAR_OK);
+        CHECK(cedar_store_deep_copy(&s, &tasks[k].s) == CEDAR_OK);
+        CHECK(cedar_policies_deep_copy(&p, &tasks[k].p) == CEDAR_OK);
         CHECK(pthread_create(&threads[k], NULL, work, &tasks[k]) == 0);
     }
     use(&s, &wrong);

@@ -12,15 +12,15 @@
 static void whole_bodies(void) {
     cedar_policies p = {0};
     given g = given_whole(), nothing = given_nothing();
-    CHECK(join_static(&p, "s", &g) == CEDAR_CLOSED && join_template(&p, "s", &g) == CEDAR_CLOSED && !p.is_open);
-    CHECK(new_set(&p) == CEDAR_OK && join_static(&p, "s", &g) == CEDAR_OK && join_template(&p, "t", &g) == CEDAR_OK);
+    CHECK(insert_static_body(&p, "s", &g) == CEDAR_CLOSED && insert_template_body(&p, "s", &g) == CEDAR_CLOSED && !p.is_open);
+    CHECK(new_set(&p) == CEDAR_OK && insert_static_body(&p, "s", &g) == CEDAR_OK && insert_template_body(&p, "t", &g) == CEDAR_OK);
     CHECK(kind_of(&p, "s") == 1 && kind_of(&p, "t") == 3 && effect_of(&p, "s") == 1 && slots_of(&p, "t") == 0);
     CHECK(IS(body_text(&p, "s"), WHOLE) && IS(body_text(&p, "t"), WHOLE));
     CHECK(annotated(&p, "s", "why") == 1 && IS(policies_answer(&p), ",thus"));
     CHECK(annotated(&p, "t", "if") == 1 && IS(policies_answer(&p), ","));
     CHECK(annotated(&p, "t", "else") == 0 && IS(policies_answer(&p), ""));
     CHECK(cedar_policies_annotations(&p, TEXT("s")) == CEDAR_OK && IS(policies_answer(&p), ",if,,why,thus"));
-    CHECK(join_static(&p, "", &nothing) == CEDAR_OK && effect_of(&p, "") == 0);
+    CHECK(insert_static_body(&p, "", &nothing) == CEDAR_OK && effect_of(&p, "") == 0);
     CHECK(IS(body_text(&p, ""), "permit(\n  principal,\n  action,\n  resource\n);"));
     cedar_policies_free(&p);
 }
@@ -31,15 +31,15 @@ static void what_stays(void) {
     cedar_policies p = {0};
     given g = given_whole();
     CHECK(new_set(&p) == CEDAR_OK && add_static(&p, "a", 0) == CEDAR_OK && cedar_policies_ids(&p, 0) == CEDAR_OK);
-    CHECK(join_static(&p, "s", &g) == CEDAR_OK && join_template(&p, "t", &g) == CEDAR_OK);
+    CHECK(insert_static_body(&p, "s", &g) == CEDAR_OK && insert_template_body(&p, "t", &g) == CEDAR_OK);
     memset(&g, 0xff, sizeof g);
     CHECK(IS(policies_answer(&p), ",a") && IS(policies_refusal(&p), "") && IS(body_text(&p, "s"), WHOLE));
     g = given_whole();
-    CHECK(join_static(&p, "a", &g) == CEDAR_OCCUPIED && IS(policies_refusal(&p), "occupied a"));
-    CHECK(join_static(&p, "t", &g) == CEDAR_OCCUPIED && IS(policies_refusal(&p), "occupied t"));
-    CHECK(join_template(&p, "s", &g) == CEDAR_OCCUPIED && IS(policies_refusal(&p), "occupied s"));
+    CHECK(insert_static_body(&p, "a", &g) == CEDAR_OCCUPIED && IS(policies_refusal(&p), "occupied a"));
+    CHECK(insert_static_body(&p, "t", &g) == CEDAR_OCCUPIED && IS(policies_refusal(&p), "occupied t"));
+    CHECK(insert_template_body(&p, "s", &g) == CEDAR_OCCUPIED && IS(policies_refusal(&p), "occupied s"));
     CHECK(effect_of(&p, "a") == 0 && kind_of(&p, "s") == 1 && kind_of(&p, "t") == 3);
-    CHECK(remove_static(&p, "s") == CEDAR_OK && join_template(&p, "s", &g) == CEDAR_OK && kind_of(&p, "s") == 3);
+    CHECK(remove_static(&p, "s") == CEDAR_OK && insert_template_body(&p, "s", &g) == CEDAR_OK && kind_of(&p, "s") == 3);
     cedar_policies_free(&p);
 }
 
@@ -48,13 +48,13 @@ static void bodies_alike(void) {
     cedar_policies p = {0}, q = {0};
     given g = given_nothing();
     CHECK(new_set(&p) == CEDAR_OK && new_set(&q) == CEDAR_OK);
-    CHECK(add_static(&p, "s", 0) == CEDAR_OK && join_static(&q, "s", &g) == CEDAR_OK && sets_equal(&p, &q) == 1);
+    CHECK(add_static(&p, "s", 0) == CEDAR_OK && insert_static_body(&q, "s", &g) == CEDAR_OK && sets_equal(&p, &q) == 1);
     g.body.effect = 1;
     g.body.principal.kind = g.body.action.kind = g.body.resource.kind = 2;
-    CHECK(cedar_policies_add_template(&p, TEXT("t"), 1, 7) == CEDAR_OK && join_template(&q, "t", &g) == CEDAR_OK);
+    CHECK(cedar_policies_add_template(&p, TEXT("t"), 1, 7) == CEDAR_OK && insert_template_body(&q, "t", &g) == CEDAR_OK);
     CHECK(sets_equal(&p, &q) == 1);
     put_nodes(&g.c, "t");
-    CHECK(cedar_policies_add_template(&p, TEXT("u"), 1, 7) == CEDAR_OK && join_template(&q, "u", &g) == CEDAR_OK);
+    CHECK(cedar_policies_add_template(&p, TEXT("u"), 1, 7) == CEDAR_OK && insert_template_body(&q, "u", &g) == CEDAR_OK);
     CHECK(sets_equal(&p, &q) == 0);
     cedar_policies_free(&p);
     cedar_policies_free(&q);
@@ -91,15 +91,15 @@ static void kinds_of_constraints(void) {
         bool slotted = kind == 2 || kind == 4 || kind == 7;
         snprintf(id, sizeof id, "p%u", (unsigned)kind);
         g.body.principal = put_scope(&g, kind, U("a"), "B::C");
-        CHECK(join_template(&p, id, &g) == CEDAR_OK && slots_of(&p, id) == (slotted ? 1u : 0u));
+        CHECK(insert_template_body(&p, id, &g) == CEDAR_OK && slots_of(&p, id) == (slotted ? 1u : 0u));
         CHECK(IS(body_text(&p, id), constrained(KINDS[kind], "", "")));
         CHECK(IS(scoped(&p, id, 0), TOLD[kind]) && IS(scoped(&p, id, 1), "0") && IS(scoped(&p, id, 2), "0"));
         snprintf(id, sizeof id, "r%u", (unsigned)kind);
         h.body.resource = put_scope(&h, kind, U("a"), "B::C");
-        CHECK(join_template(&p, id, &h) == CEDAR_OK && slots_of(&p, id) == (slotted ? 4u : 0u));
+        CHECK(insert_template_body(&p, id, &h) == CEDAR_OK && slots_of(&p, id) == (slotted ? 4u : 0u));
         CHECK(IS(body_text(&p, id), constrained("", "", KINDS[kind])));
         CHECK(IS(scoped(&p, id, 0), "0") && IS(scoped(&p, id, 1), "0") && IS(scoped(&p, id, 2), TOLD[kind]));
-        CHECK(join_static(&p, "s", &g) == (slotted ? CEDAR_NOT_STATIC : CEDAR_OK));
+        CHECK(insert_static_body(&p, "s", &g) == (slotted ? CEDAR_NOT_STATIC : CEDAR_OK));
         CHECK(slotted ? IS(policies_refusal(&p), "not a static policy s") : remove_static(&p, "s") == CEDAR_OK);
     }
     for (uint32_t kind = 0; kind < 5; kind++) {
@@ -108,16 +108,16 @@ static void kinds_of_constraints(void) {
         bool slotted = kind == 2 || kind == 4;
         snprintf(id, sizeof id, "a%u", (unsigned)kind);
         g.body.action = put_scope(&g, kind, U("a"), "");
-        put_text(&g.c.l, U("x"));
-        put_text(&g.c.l, U("y"));
-        CHECK(join_template(&p, id, &g) == CEDAR_OK && slots_of(&p, id) == (slotted ? 2u : 0u));
+        push_text(&g.c.l, U("x"));
+        push_text(&g.c.l, U("y"));
+        CHECK(insert_template_body(&p, id, &g) == CEDAR_OK && slots_of(&p, id) == (slotted ? 2u : 0u));
         CHECK(IS(body_text(&p, id), constrained("", ACTIONS[kind], "")) && IS(scoped(&p, id, 1), TOLD_ACTIONS[kind]));
-        CHECK(join_static(&p, "s", &g) == (slotted ? CEDAR_NOT_STATIC : CEDAR_OK));
+        CHECK(insert_static_body(&p, "s", &g) == (slotted ? CEDAR_NOT_STATIC : CEDAR_OK));
         CHECK(slotted || remove_static(&p, "s") == CEDAR_OK);
     }
     given g = given_nothing();
     g.body.action.kind = 3;
-    CHECK(join_static(&p, "none", &g) == CEDAR_OK && IS(body_text(&p, "none"), constrained("", " in []", "")));
+    CHECK(insert_static_body(&p, "none", &g) == CEDAR_OK && IS(body_text(&p, "none"), constrained("", " in []", "")));
     CHECK(IS(scoped(&p, "none", 1), "3"));
     CHECK(link_id(&p, "p7", "l", U("b"), "", "") == CEDAR_OK && link_id(&p, "r4", "m", "", "", U("b")) == CEDAR_OK);
     CHECK(link_id(&p, "a4", "n", "", "Action::\"go\"", "") == CEDAR_OK && IS(scoped(&p, "n", 1), "3,Action::\"go\""));
@@ -156,13 +156,13 @@ static void clauses(void) {
         given g = given_nothing();
         put_nodes(&g.c, words);
         CHECK(new_set(&p) == CEDAR_OK);
-        uint32_t status = join_static(&p, "s", &g);
+        uint32_t status = insert_static_body(&p, "s", &g);
         snprintf(got, sizeof got, "%u", (unsigned)status);
         snprintf(want, sizeof want, "permit(\n  principal,\n  action,\n  resource\n) when {\n  %s\n};", due);
         const char *told = status ? got : body_text(&p, "s");
         if (!IS(told, status ? due : want)) printf("%s is read as %s\n", words, told);
         CHECK(IS(told, status ? due : want) && (status == 0) == (kind_of(&p, "s") == 1));
-        CHECK(join_template(&p, "t", &g) == (status == CEDAR_NOT_STATIC ? CEDAR_OK : status));
+        CHECK(insert_template_body(&p, "t", &g) == (status == CEDAR_NOT_STATIC ? CEDAR_OK : status));
         CHECK(kind_of(&p, "t") == 0 || IS(clause_of(&p, "t"), words));
         cedar_policies_free(&p);
     }
@@ -188,8 +188,8 @@ static void too_deep(void) {
 
 /* Returns the status of both calls. Checks that they leave the set and the text of the last error unchanged. */
 static uint32_t both(cedar_policies *p, const char *id, const given *g) {
-    uint32_t status = join_static(p, id, g);
-    CHECK(join_template(p, id, g) == status && IS(policies_refusal(p), "occupied a"));
+    uint32_t status = insert_static_body(p, id, g);
+    CHECK(insert_template_body(p, id, g) == status && IS(policies_refusal(p), "occupied a"));
     CHECK(cedar_policies_ids(p, 0) == CEDAR_OK && IS(policies_answer(p), ",a"));
     return status;
 }
@@ -251,11 +251,11 @@ static void not_looked_at(void) {
     g.body.action = put_scope(&g, 1, U("a"), "");
     g.body.action.type = out;
     g.c.l.uids[g.c.l.uids_len++] = out;
-    CHECK(new_set(&p) == CEDAR_OK && join_template(&p, "t", &g) == CEDAR_OK);
+    CHECK(new_set(&p) == CEDAR_OK && insert_template_body(&p, "t", &g) == CEDAR_OK);
     CHECK(IS(body_text(&p, "t"), constrained("", " == A::\"a\"", " in ?")));
     g.body.resource.kind = 5;
     g.body.resource.type = put_part(&g, "B");
-    CHECK(join_static(&p, "s", &g) == CEDAR_OK && IS(body_text(&p, "s"), constrained("", " == A::\"a\"", " is B")));
+    CHECK(insert_static_body(&p, "s", &g) == CEDAR_OK && IS(body_text(&p, "s"), constrained("", " == A::\"a\"", " is B")));
     cedar_policies_free(&p);
 }
 
@@ -272,7 +272,7 @@ static void reading(void) {
     h.body.principal.kind = 2;
     g.c.l.uids[0] = put_part(&g, U("q"));
     g.c.l.uids[1] = put_part(&g, U("p"));
-    CHECK(new_set(&p) == CEDAR_OK && join_static(&p, "s", &g) == CEDAR_OK && join_template(&p, "t", &h) == CEDAR_OK);
+    CHECK(new_set(&p) == CEDAR_OK && insert_static_body(&p, "s", &g) == CEDAR_OK && insert_template_body(&p, "t", &h) == CEDAR_OK);
     CHECK(add_static(&p, "a", 0) == CEDAR_OK && link_id(&p, "t", "l", U("a"), "", "") == CEDAR_OK);
     CHECK(IS(set_expr(&p), "") && IS(clause_of(&p, "s"), "$0 @b =") && IS(policies_answer(&p), "," U("b")));
     CHECK(IS(clause_of(&p, "a"), "none") && IS(set_expr(&p), "$0 @b =") && IS(policies_answer(&p), "," U("b")));
@@ -298,7 +298,7 @@ static void reading(void) {
 static void clauses_go_round(void) {
     cedar_policies p = {0};
     given g = given_whole();
-    CHECK(new_set(&p) == CEDAR_OK && join_static(&p, "s", &g) == CEDAR_OK);
+    CHECK(new_set(&p) == CEDAR_OK && insert_static_body(&p, "s", &g) == CEDAR_OK);
     for (int k = 0; k < 2; k++) {
         char id[24], words[ROOM];
         given again = given_nothing();
@@ -307,7 +307,7 @@ static void clauses_go_round(void) {
         snprintf(id, sizeof id, "again%d", k);
         again.c.l.text_len = cedar_policies_answer(&p, 0, again.c.l.text, sizeof again.c.l.text);
         again.c.nodes_len = cedar_policies_answer_nodes(&p, 0, again.c.nodes, MOST_NODES);
-        CHECK(join_static(&p, id, &again) == CEDAR_OK && IS(clause_of(&p, id), words));
+        CHECK(insert_static_body(&p, id, &again) == CEDAR_OK && IS(clause_of(&p, id), words));
     }
     cedar_policies_free(&p);
 }

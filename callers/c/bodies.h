@@ -42,8 +42,8 @@ static inline given given_whole(void) {
     g.body.principal = put_scope(&g, 6, U("group"), "A");
     g.body.action = put_scope(&g, 3, "", "");
     g.body.resource = put_scope(&g, 1, U("file"), "");
-    put_text(&g.c.l, "Action::\"get\"");
-    put_text(&g.c.l, "Action::\"put\"");
+    push_text(&g.c.l, "Action::\"get\"");
+    push_text(&g.c.l, "Action::\"put\"");
     put_annotation(&g, "why", "so");
     put_annotation(&g, "if", "");
     put_annotation(&g, "why", "thus");
@@ -53,11 +53,11 @@ static inline given given_whole(void) {
 
 /* ---- short forms of the calls */
 
-static inline uint32_t join_static(cedar_policies *p, const char *id, const given *g) {
+static inline uint32_t insert_static_body(cedar_policies *p, const char *id, const given *g) {
     return cedar_policies_add_static_with(p, TEXT(id), LISTS(*g));
 }
 
-static inline uint32_t join_template(cedar_policies *p, const char *id, const given *g) {
+static inline uint32_t insert_template_body(cedar_policies *p, const char *id, const given *g) {
     return cedar_policies_add_template_with(p, TEXT(id), LISTS(*g));
 }
 

@@ -112,7 +112,7 @@ static void uids_made(void) {
     CHECK(IS(made("\xff", "a", 2), "... 127") && IS(made("A", "\xff", 2), "... 105"));
 }
 
-static void uids_apart(void) {
+static void deep_copy_uids(void) {
     uint8_t out[32];
     size_t type_len = 9, length = 9;
     memset(out, '.', sizeof out);
@@ -387,8 +387,8 @@ static void modes(void) {
 static void actions(void) {
     cedar_store s = {0};
     list l = uids("");
-    put_text(&l, "Action::\"go\"");
-    put_text(&l, U("a"));
+    push_text(&l, "Action::\"go\"");
+    push_text(&l, U("a"));
     l.count = 1;
     l.edges[l.edges_len++] = (cedar_edge){0, 1};
     CHECK(new_store(&s) == CEDAR_OK && cedar_store_build(&s, ENTITIES(l), CEDAR_COMPUTE) == CEDAR_OK);
@@ -843,7 +843,7 @@ int main(void) {
     uid_lists();
     names_in_texts();
     uids_made();
-    uids_apart();
+    deep_copy_uids();
     what_it_is();
     closed_store();
     closed_store_tells_nothing();

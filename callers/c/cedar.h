@@ -471,9 +471,9 @@ uint32_t cedar_store_copy(cedar_store *from, cedar_store *to);
 /* Do the same as `cedar_store_slice` and `cedar_store_copy`, with a deep copy: `to` shares nothing with another handle,
  * so it may move to another thread. So may `from`, if it could before. They cost memory and time as building that store
  * does, but compute no ancestors. That nothing is shared is tested, not proved. */
-uint32_t cedar_store_slice_apart(cedar_store *from, cedar_store *to, const uint8_t *text, size_t text_len,
+uint32_t cedar_store_slice_deep_copy(cedar_store *from, cedar_store *to, const uint8_t *text, size_t text_len,
                                  const cedar_span *uids, size_t uids_len);
-uint32_t cedar_store_copy_apart(cedar_store *from, cedar_store *to);
+uint32_t cedar_store_deep_copy(cedar_store *from, cedar_store *to);
 
 /* Writes to `answer` whether two stores have the same uids, under each uid an entity with the same attributes, tags and
  * ancestors, and are both partial or both not. Does not compare which ancestors are parents; neither does
@@ -572,7 +572,7 @@ uint32_t cedar_policies_merge(cedar_policies *p, cedar_policies *other, bool ren
 
 /* Does the same as `cedar_policies_merge`, with a deep copy: the added policies and templates share nothing with the
  * other set. Both handles may still move to another thread, if they could before. */
-uint32_t cedar_policies_merge_apart(cedar_policies *p, cedar_policies *other, bool rename);
+uint32_t cedar_policies_merge_deep_copy(cedar_policies *p, cedar_policies *other, bool rename);
 
 /* Stores ids as the answer, in insertion order: for `kind` 0 of the bodies (static policies and templates), for 1 of
  * the policies (static policies and links). Returns CEDAR_OK, CEDAR_CLOSED, CEDAR_BAD_ARGUMENT or CEDAR_NO_MEMORY. */
@@ -662,7 +662,7 @@ uint32_t cedar_policies_copy(cedar_policies *from, cedar_policies *to);
 
 /* Does the same as `cedar_policies_copy`, with a deep copy of the whole set: `to` shares nothing with another handle,
  * so it may move to another thread. That nothing is shared is tested, not proved. */
-uint32_t cedar_policies_copy_apart(cedar_policies *from, cedar_policies *to);
+uint32_t cedar_policies_deep_copy(cedar_policies *from, cedar_policies *to);
 
 /* Writes to `answer` whether two sets have equal bodies and policies in the same order. Returns CEDAR_OK or
  * CEDAR_CLOSED. Does not allocate. */

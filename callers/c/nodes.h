@@ -46,7 +46,7 @@ static inline void put_node(content *c, uint32_t kind, size_t len, cedar_span at
 }
 
 /* Appends the node of one word. */
-static inline void put_word(content *c, const char *word, size_t len) {
+static inline void push_text_word(content *c, const char *word, size_t len) {
     const cedar_span none = {0, 0};
     const char *open = memchr(word, '(', len), *colon = word + len;
     const char *two = strchr("&=<", *word);
@@ -83,13 +83,13 @@ static inline void put_word(content *c, const char *word, size_t len) {
 static inline void put_nodes(content *c, const char *words) {
     while (*words) {
         size_t len = strcspn(words, " ");
-        put_word(c, words, len);
+        push_text_word(c, words, len);
         words += len + (words[len] == ' ');
     }
 }
 
 /* Adds an attribute (`part` 0) or a tag (1) with the value of these words to the entity with index `of`. */
-static inline cedar_term *put_term(content *c, size_t of, uint32_t part, const char *key, const char *words) {
+static inline cedar_term *push_term(content *c, size_t of, uint32_t part, const char *key, const char *words) {
     cedar_term *term = &c->terms[c->terms_len++];
     size_t from = c->nodes_len;
     put_nodes(c, words);

@@ -42,8 +42,8 @@ typedef struct held {
 /* Returns the content of a, b and x, of which a has an attribute and a tag. */
 static content some_content(void) {
     content c = with_entities("a b;b c;x c");
-    put_term(&c, 0, 0, "k", "'x '10.0.0.1 ip(1 'y @b 'z {2 [2");
-    put_term(&c, 0, 1, "k", "'User ~u:1 $0 = @c ^User & *");
+    push_term(&c, 0, 0, "k", "'x '10.0.0.1 ip(1 'y @b 'z {2 [2");
+    push_term(&c, 0, 1, "k", "'User ~u:1 $0 = @c ^User & *");
     return c;
 }
 
@@ -59,7 +59,7 @@ static void set_up_faults(cedar_policies *faulty) {
         given g = given_nothing();
         if (k == 1) g.body.action = put_scope(&g, 1, U("a"), "");
         if (k != 1 && k != 3) put_nodes(&g.c, k ? "'x f(1" : "?0 $0 <");
-        CHECK(new_set(&faulty[k]) == CEDAR_OK && join_template(&faulty[k], "t", &g) == CEDAR_OK);
+        CHECK(new_set(&faulty[k]) == CEDAR_OK && insert_template_body(&faulty[k], "t", &g) == CEDAR_OK);
         CHECK(k != 3 || link_id(&faulty[k], "t", "l", "", "", "") == CEDAR_OK);
         CHECK(unlink_id(&faulty[k], "f") == CEDAR_NO_LINK);
     }
@@ -77,12 +77,12 @@ static void set_up(held *h) {
     CHECK(cedar_store_uid_number(&h->s, TEXT(U("a")), &number) == CEDAR_OK && number == 0);
     given g = given_whole();
     CHECK(new_set(&h->p) == CEDAR_OK && add_static(&h->p, "a", 0) == CEDAR_OK);
-    CHECK(join_static(&h->p, "w", &g) == CEDAR_OK && IS(clause_of(&h->p, "w"), "$0 @b ="));
+    CHECK(insert_static_body(&h->p, "w", &g) == CEDAR_OK && IS(clause_of(&h->p, "w"), "$0 @b ="));
     CHECK(add_template(&h->p, "t", 5) == CEDAR_OK && add_template(&h->p, "u", 2) == CEDAR_OK);
     CHECK(link_id(&h->p, "t", "l", U("a"), "", "B::\"b\"") == CEDAR_OK && cedar_policies_ids(&h->p, 0) == CEDAR_OK);
     given unknown = given_nothing();
     put_nodes(&unknown.c, "'A ~" U("b") ":1 'A ~" U("a") ":1 = 'A ~" U("b") ":1 &");
-    CHECK(join_static(&h->p, "x", &unknown) == CEDAR_OK);
+    CHECK(insert_static_body(&h->p, "x", &unknown) == CEDAR_OK);
     set_up_faults(h->faulty);
     CHECK(new_set(&h->q) == CEDAR_OK && add_static(&h->q, "a", 1) == CEDAR_OK &&
           add_template(&h->q, "t2", 5) == CEDAR_OK);
@@ -249,11 +249,11 @@ static uint32_t gets_tag(held *h) {
 /* Returns content with each kind of node, and an indirect ancestor. */
 static content more_content(const char *spec) {
     content c = with_entities(spec);
-    put_term(&c, 0, 0, "k", "t 1 'one @a {4");
-    put_term(&c, 0, 0, "k", "'p 1 'q 'p f [1 [2");
-    put_term(&c, 0, 1, "j", "'x d(1");
-    put_term(&c, 0, 1, "i", "?0 ! $1 @a < & ~u:0 ^A 1 {1 g(2 {2 *");
-    put_term(&c, 0, 0, "h", "'User ~u:1 2 = *");
+    push_term(&c, 0, 0, "k", "t 1 'one @a {4");
+    push_term(&c, 0, 0, "k", "'p 1 'q 'p f [1 [2");
+    push_term(&c, 0, 1, "j", "'x d(1");
+    push_term(&c, 0, 1, "i", "?0 ! $1 @a < & ~u:0 ^A 1 {1 g(2 {2 *");
+    push_term(&c, 0, 0, "h", "'User ~u:1 2 = *");
     c.above[c.above_len++] = (cedar_edge){0, 1};
     return c;
 }
@@ -270,7 +270,7 @@ static uint32_t builds_cycle_with(held *h) {
 
 static uint32_t builds_of_no_name(held *h) {
     content c = more_content("a b;b a");
-    put_term(&c, 0, 0, "k", "'x 'y 1f(1 {2");
+    push_term(&c, 0, 0, "k", "'x 'y 1f(1 {2");
     return cedar_store_build_with(&h->s, CONTENT(c), CEDAR_COMPUTE);
 }
 
@@ -315,17 +315,17 @@ static uint32_t asks_annotation(held *h) {
 
 static uint32_t joins_whole(held *h) {
     given g = given_whole();
-    return join_static(&h->p, "new", &g);
+    return insert_static_body(&h->p, "new", &g);
 }
 
 static uint32_t joins_whole_template(held *h) {
     given g = given_whole();
-    return join_template(&h->p, "new", &g);
+    return insert_template_body(&h->p, "new", &g);
 }
 
 static uint32_t joins_whole_twice(held *h) {
     given g = given_whole();
-    return join_template(&h->p, "a", &g);
+    return insert_template_body(&h->p, "a", &g);
 }
 
 /* Adds each kind of constraint that allocates and is not in the whole body, and slots. */
@@ -335,20 +335,20 @@ static uint32_t joins_slots(held *h) {
     g.body.action = put_scope(&g, 1, U("a"), "");
     g.body.resource = put_scope(&g, 7, "", "B::C");
     put_nodes(&g.c, "?0 $0 <");
-    return join_template(&h->p, "new", &g);
+    return insert_template_body(&h->p, "new", &g);
 }
 
 static uint32_t joins_slot_as_static(held *h) {
     given g = given_nothing();
     g.body.principal = put_scope(&g, 5, "", "B::C");
     put_nodes(&g.c, "?0 $0 <");
-    return join_static(&h->p, "new", &g);
+    return insert_static_body(&h->p, "new", &g);
 }
 
 static uint32_t joins_no_name(held *h) {
     given g = given_whole();
     g.body.principal.type = put_part(&g, "B::");
-    return join_static(&h->p, "new", &g);
+    return insert_static_body(&h->p, "new", &g);
 }
 
 static uint32_t tells_scope(held *h) {
@@ -421,7 +421,7 @@ CALL(validates, cedar_store_validate(&h->s))
 CALL(slices, sliced(&h->s, &h->t, "ax"))
 CALL(copies, cedar_store_copy(&h->s, &h->t))
 CALL(slices_apart, sliced_apart(&h->s, &h->t, "ax"))
-CALL(copies_apart, cedar_store_copy_apart(&h->s, &h->t))
+CALL(copies_apart, cedar_store_deep_copy(&h->s, &h->t))
 CALL(news_set, new_set(&h->p))
 CALL(adds_static, add_static(&h->p, "new", 1))
 CALL(adds_static_twice, add_static(&h->p, "a", 1))
@@ -459,9 +459,9 @@ CALL(writes_set, cedar_policies_text(&h->p))
 CALL(writes_policy, cedar_policies_policy_text(&h->p, TEXT("l")))
 CALL(writes_template, cedar_policies_template_text(&h->p, TEXT("t")))
 CALL(copies_set, cedar_policies_copy(&h->p, &h->q))
-CALL(copies_set_apart, cedar_policies_copy_apart(&h->p, &h->q))
-CALL(merges_apart, cedar_policies_merge_apart(&h->p, &h->q, true))
-CALL(merges_apart_keeping, cedar_policies_merge_apart(&h->p, &h->q, false))
+CALL(copies_set_apart, cedar_policies_deep_copy(&h->p, &h->q))
+CALL(merges_apart, cedar_policies_merge_deep_copy(&h->p, &h->q, true))
+CALL(merges_apart_keeping, cedar_policies_merge_deep_copy(&h->p, &h->q, false))
 
 typedef uint32_t (*call)(held *);
 

@@ -45,7 +45,7 @@ typedef struct list {
     size_t edges_len;
 } list;
 
-static inline size_t put_text(list *l, const char *text) {
+static inline size_t push_text(list *l, const char *text) {
     size_t len = strlen(text);
     memcpy(l->text + l->text_len, text, len);
     l->uids[l->uids_len] = (cedar_span){l->text_len, l->text_len + len};
@@ -56,7 +56,7 @@ static inline size_t put_text(list *l, const char *text) {
 static inline size_t put_name(list *l, char name) {
     char uid[16];
     snprintf(uid, sizeof uid, U("%c"), name);
-    return put_text(l, uid);
+    return push_text(l, uid);
 }
 
 /* Returns the list of the uids with these names, one character each: `ab` is two uids. */
@@ -118,7 +118,7 @@ static inline uint32_t sliced(cedar_store *from, cedar_store *to, const char *na
 
 static inline uint32_t sliced_apart(cedar_store *from, cedar_store *to, const char *names) {
     list l = uids(names);
-    return cedar_store_slice_apart(from, to, LISTED(l));
+    return cedar_store_slice_deep_copy(from, to, LISTED(l));
 }
 
 static inline uint32_t ancestors(cedar_store *s, const char *uid) { return cedar_store_ancestors(s, TEXT(uid)); }
@@ -234,9 +234,9 @@ static inline uint32_t add_template(cedar_policies *p, const char *id, uint32_t 
 static inline uint32_t link_id(cedar_policies *p, const char *template_id, const char *id, const char *principal,
                                const char *action, const char *resource) {
     list l = uids("");
-    put_text(&l, principal);
-    put_text(&l, action);
-    put_text(&l, resource);
+    push_text(&l, principal);
+    push_text(&l, action);
+    push_text(&l, resource);
     return cedar_policies_link(p, TEXT(template_id), TEXT(id), LISTED(l));
 }
 

@@ -15,8 +15,8 @@ static given given_clause(const char *words) {
 static given given_action(uint32_t kind, const char *uid) {
     given g = given_nothing();
     g.body.action = put_scope(&g, kind, uid, "");
-    put_text(&g.c.l, "Action::\"get\"");
-    put_text(&g.c.l, uid);
+    push_text(&g.c.l, "Action::\"get\"");
+    push_text(&g.c.l, uid);
     return g;
 }
 
@@ -37,8 +37,8 @@ static void nothing_wrong(void) {
     CHECK(new_set(&p) == CEDAR_OK && IS(fault(&p), "ok"));
     CHECK(add_static(&p, "a", 0) == CEDAR_OK && add_template(&p, "t", 7) == CEDAR_OK && IS(fault(&p), "ok"));
     CHECK(link_id(&p, "t", "l", U("a"), "Action::\"get\"", U("b")) == CEDAR_OK && IS(fault(&p), "ok"));
-    CHECK(join_static(&p, "w", &whole) == CEDAR_OK && join_static(&p, "n", &named) == CEDAR_OK);
-    CHECK(join_template(&p, "c", &calls) == CEDAR_OK && add_template(&p, "none", 0) == CEDAR_OK);
+    CHECK(insert_static_body(&p, "w", &whole) == CEDAR_OK && insert_static_body(&p, "n", &named) == CEDAR_OK);
+    CHECK(insert_template_body(&p, "c", &calls) == CEDAR_OK && add_template(&p, "none", 0) == CEDAR_OK);
     CHECK(IS(fault(&p), "ok") && IS(policies_answer(&p), "") && IS(policies_refusal(&p), ""));
     cedar_policies_free(&p);
 }
@@ -47,13 +47,13 @@ static void faults_of_bodies(void) {
     cedar_policies p = {0};
     given slot = given_clause("?0 $0 <"), call = given_clause("'x A::ip(1");
     given one = given_action(1, U("a")), among = given_action(3, U("a"));
-    CHECK(new_set(&p) == CEDAR_OK && join_template(&p, "t", &slot) == CEDAR_OK);
+    CHECK(new_set(&p) == CEDAR_OK && insert_template_body(&p, "t", &slot) == CEDAR_OK);
     CHECK(IS(fault(&p), "29 slot in the clause of t") && remove_template(&p, "t") == CEDAR_OK);
-    CHECK(join_static(&p, "s", &slot) == CEDAR_NOT_STATIC && IS(fault(&p), "ok"));
-    CHECK(join_static(&p, "s", &one) == CEDAR_OK && IS(fault(&p), "30 uid of no action in s"));
-    CHECK(remove_static(&p, "s") == CEDAR_OK && join_template(&p, "", &among) == CEDAR_OK);
+    CHECK(insert_static_body(&p, "s", &slot) == CEDAR_NOT_STATIC && IS(fault(&p), "ok"));
+    CHECK(insert_static_body(&p, "s", &one) == CEDAR_OK && IS(fault(&p), "30 uid of no action in s"));
+    CHECK(remove_static(&p, "s") == CEDAR_OK && insert_template_body(&p, "", &among) == CEDAR_OK);
     CHECK(IS(fault(&p), "30 uid of no action in ") && remove_template(&p, "") == CEDAR_OK);
-    CHECK(join_static(&p, "a b", &call) == CEDAR_OK && IS(fault(&p), "31 unknown function in a b"));
+    CHECK(insert_static_body(&p, "a b", &call) == CEDAR_OK && IS(fault(&p), "31 unknown function in a b"));
     CHECK(remove_static(&p, "a b") == CEDAR_OK && IS(fault(&p), "ok"));
     cedar_policies_free(&p);
 }
@@ -64,8 +64,8 @@ static void first_of_bodies(void) {
     given all = given_action(1, U("a")), two = given_action(1, U("a")), call = given_clause("'x f(1");
     put_nodes(&all.c, "'x f(1 ?2 =");
     put_nodes(&two.c, "'x f(1");
-    CHECK(new_set(&p) == CEDAR_OK && add_static(&p, "a", 0) == CEDAR_OK && join_static(&p, "two", &two) == CEDAR_OK);
-    CHECK(join_template(&p, "all", &all) == CEDAR_OK && join_static(&p, "call", &call) == CEDAR_OK);
+    CHECK(new_set(&p) == CEDAR_OK && add_static(&p, "a", 0) == CEDAR_OK && insert_static_body(&p, "two", &two) == CEDAR_OK);
+    CHECK(insert_template_body(&p, "all", &all) == CEDAR_OK && insert_static_body(&p, "call", &call) == CEDAR_OK);
     CHECK(IS(fault(&p), "30 uid of no action in two") && remove_static(&p, "two") == CEDAR_OK);
     CHECK(IS(fault(&p), "29 slot in the clause of all") && remove_template(&p, "all") == CEDAR_OK);
     CHECK(IS(fault(&p), "31 unknown function in call"));
@@ -76,7 +76,7 @@ static void first_of_bodies(void) {
 static void links_come_first(void) {
     cedar_policies p = {0};
     given call = given_clause("'x f(1");
-    CHECK(new_set(&p) == CEDAR_OK && join_template(&p, "call", &call) == CEDAR_OK);
+    CHECK(new_set(&p) == CEDAR_OK && insert_template_body(&p, "call", &call) == CEDAR_OK);
     CHECK(add_template(&p, "t", 0) == CEDAR_OK && add_template(&p, "u", 0) == CEDAR_OK);
     CHECK(IS(fault(&p), "31 unknown function in call") && link_id(&p, "u", "second u", "", "", "") == CEDAR_OK);
     CHECK(link_id(&p, "t", "l", "", "", "") == CEDAR_OK && IS(fault(&p), "32 link without slots second u"));
@@ -92,9 +92,9 @@ static void links_come_first(void) {
 static void what_validating_leaves(void) {
     cedar_policies p = {0}, q = {0};
     given whole = given_whole(), slot = given_clause("?0 $0 <");
-    CHECK(new_set(&p) == CEDAR_OK && join_static(&p, "w", &whole) == CEDAR_OK && unlink_id(&p, "x") == CEDAR_NO_LINK);
+    CHECK(new_set(&p) == CEDAR_OK && insert_static_body(&p, "w", &whole) == CEDAR_OK && unlink_id(&p, "x") == CEDAR_NO_LINK);
     CHECK(IS(clause_of(&p, "w"), "$0 @b =") && IS(fault(&p), "ok") && IS(policies_refusal(&p), "no link x"));
-    CHECK(IS(set_expr(&p), "$0 @b =") && join_template(&p, "t", &slot) == CEDAR_OK);
+    CHECK(IS(set_expr(&p), "$0 @b =") && insert_template_body(&p, "t", &slot) == CEDAR_OK);
     CHECK(cedar_policies_copy(&p, &q) == CEDAR_OK && IS(fault(&p), "29 slot in the clause of t"));
     CHECK(sets_equal(&p, &q) == 1 && IS(set_expr(&p), "$0 @b =") && IS(fault(&q), "29 slot in the clause of t"));
     cedar_policies_free(&p);
@@ -132,9 +132,9 @@ static void unknown_entities(void) {
     given twice = given_clause(X("b") " " X("a") " = " X("b") " ! & ");
     given others = given_clause("'A ~x:1 ~" U("a") ":0 = 'B ~A::B::\"z\":1 &");
     CHECK(IS(unknown(&p, "a"), "2") && new_set(&p) == CEDAR_OK && IS(unknown(&p, "a"), "26"));
-    CHECK(add_static(&p, "a", 0) == CEDAR_OK && join_static(&p, "none", &none) == CEDAR_OK);
-    CHECK(join_static(&p, "one", &one) == CEDAR_OK && join_template(&p, "twice", &twice) == CEDAR_OK);
-    CHECK(join_static(&p, "others", &others) == CEDAR_OK && link_id(&p, "twice", "l", "", "", "") == CEDAR_OK);
+    CHECK(add_static(&p, "a", 0) == CEDAR_OK && insert_static_body(&p, "none", &none) == CEDAR_OK);
+    CHECK(insert_static_body(&p, "one", &one) == CEDAR_OK && insert_template_body(&p, "twice", &twice) == CEDAR_OK);
+    CHECK(insert_static_body(&p, "others", &others) == CEDAR_OK && link_id(&p, "twice", "l", "", "", "") == CEDAR_OK);
     CHECK(IS(unknown(&p, "a"), "") && IS(unknown(&p, "none"), "") && IS(unknown(&p, "one"), "," U("a")));
     CHECK(IS(unknown(&p, "l"), "," U("a") "," U("b")) && IS(unknown(&p, "twice"), "26"));
     CHECK(IS(policies_answer(&p), "," U("a") "," U("b")) && IS(unknown(&p, "\xff"), "5"));

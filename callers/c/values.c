@@ -14,7 +14,7 @@ static const char *read_as(const char *words) {
     static char text[16];
     cedar_store s = {0};
     content c = with_entities("a");
-    put_term(&c, 0, 0, "k", words);
+    push_term(&c, 0, 0, "k", words);
     CHECK(new_store(&s) == CEDAR_OK);
     uint32_t status = BUILD(&s, c, CEDAR_COMPUTE);
     snprintf(text, sizeof text, "%u", (unsigned)status);
@@ -73,12 +73,12 @@ static void worked_values(void) {
 static void attributes_and_tags(void) {
     cedar_store s = {0};
     content c = with_entities("a b;b");
-    put_term(&c, 1, 0, "k", "1");
-    put_term(&c, 0, 0, "k", "2");
-    put_term(&c, 0, 1, "k", "3");
-    put_term(&c, 0, 0, "", "t");
-    put_term(&c, 0, 1, "z", "'z");
-    put_term(&c, 0, 0, "\xc3\xa9", "f");
+    push_term(&c, 1, 0, "k", "1");
+    push_term(&c, 0, 0, "k", "2");
+    push_term(&c, 0, 1, "k", "3");
+    push_term(&c, 0, 0, "", "t");
+    push_term(&c, 0, 1, "z", "'z");
+    push_term(&c, 0, 0, "\xc3\xa9", "f");
     CHECK(new_store(&s) == CEDAR_OK && BUILD(&s, c, CEDAR_COMPUTE) == CEDAR_OK && cedar_store_len(&s) == 2);
     CHECK(attributes(&s, U("a")) == 3 && tags(&s, U("a")) == 2 && attributes(&s, U("b")) == 1 && tags(&s, U("b")) == 0);
     CHECK(cedar_store_keys(&s, TEXT(U("a"))) == CEDAR_OK && IS(store_answer(&s), ",,k,\xc3\xa9"));
@@ -94,9 +94,9 @@ static void attributes_and_tags(void) {
 static void the_last_of_a_key_counts(void) {
     cedar_store s = {0};
     content c = with_entities("a");
-    put_term(&c, 0, 0, "k", "1");
-    put_term(&c, 0, 1, "k", "2");
-    put_term(&c, 0, 0, "k", "3");
+    push_term(&c, 0, 0, "k", "1");
+    push_term(&c, 0, 1, "k", "2");
+    push_term(&c, 0, 0, "k", "3");
     CHECK(new_store(&s) == CEDAR_OK && BUILD(&s, c, CEDAR_COMPUTE) == CEDAR_OK && attributes(&s, U("a")) == 1);
     CHECK(IS(value_at(&s, U("a"), 0, "k"), "3") && IS(value_at(&s, U("a"), 1, "k"), "2"));
     cedar_store_free(&s);
@@ -106,8 +106,8 @@ static void the_last_of_a_key_counts(void) {
 static void shared_nodes(void) {
     cedar_store s = {0};
     content c = with_entities("a");
-    cedar_term *first = put_term(&c, 0, 0, "k", "'x 1 [1");
-    cedar_term *other = put_term(&c, 0, 1, "j", ""), *inner = put_term(&c, 0, 1, "i", "");
+    cedar_term *first = push_term(&c, 0, 0, "k", "'x 1 [1");
+    cedar_term *other = push_term(&c, 0, 1, "j", ""), *inner = push_term(&c, 0, 1, "i", "");
     other->from = first->from;
     other->to = first->to;
     inner->from = first->from + 1;
@@ -118,17 +118,17 @@ static void shared_nodes(void) {
     cedar_store_free(&s);
 }
 
-static void put_above(content *c, size_t from, size_t to) { c->above[c->above_len++] = (cedar_edge){from, to}; }
+static void push_ancestors_of_rows(content *c, size_t from, size_t to) { c->above[c->above_len++] = (cedar_edge){from, to}; }
 
 static void indirect_ancestors(void) {
     cedar_store s = {0};
     content c = with_entities("a b;b c"); /* the uids are a, b, b, c */
-    put_above(&c, 0, 3);
+    push_ancestors_of_rows(&c, 0, 3);
     CHECK(new_store(&s) == CEDAR_OK && BUILD(&s, c, CEDAR_ENFORCE) == CEDAR_OK);
     CHECK(is_child(&s, U("a"), U("b")) == 1 && is_child(&s, U("a"), U("c")) == 0);
     CHECK(is_far_below(&s, U("a"), U("c")) == 1 && is_far_below(&s, U("a"), U("b")) == 0);
-    put_above(&c, 0, 2); /* b is a parent of a, so this is no indirect ancestor */
-    put_above(&c, 0, 3);
+    push_ancestors_of_rows(&c, 0, 2); /* b is a parent of a, so this is no indirect ancestor */
+    push_ancestors_of_rows(&c, 0, 3);
     CHECK(BUILD(&s, c, CEDAR_ENFORCE) == CEDAR_OK && cedar_store_validate(&s) == CEDAR_OK);
     CHECK(cedar_store_indirect_ancestors(&s, TEXT(U("a"))) == CEDAR_OK && IS(store_answer(&s), "," U("c")));
     CHECK(parents(&s, U("a")) == CEDAR_OK && IS(store_answer(&s), "," U("b")));
@@ -157,8 +157,8 @@ static void no_content(void) {
 static void edits_with_content(void) {
     cedar_store s = {0}, t = {0};
     content c = with_entities("a b"), d = with_entities("a b");
-    put_term(&c, 0, 0, "k", "1");
-    put_term(&d, 0, 0, "k", "2");
+    push_term(&c, 0, 0, "k", "1");
+    push_term(&d, 0, 0, "k", "2");
     CHECK(new_store(&s) == CEDAR_OK && BUILD(&s, c, CEDAR_COMPUTE) == CEDAR_OK && cedar_store_copy(&s, &t) == CEDAR_OK);
     CHECK(ADD(&s, c, CEDAR_COMPUTE) == CEDAR_OK && equal(&s, &t) == 1);
     CHECK(UPSERT(&s, d, CEDAR_COMPUTE) == CEDAR_OK && IS(value_at(&s, U("a"), 0, "k"), "2"));
@@ -167,12 +167,12 @@ static void edits_with_content(void) {
     CHECK(cedar_store_copy(&s, &t) == CEDAR_OK && add(&t, "a b", CEDAR_COMPUTE) == CEDAR_DUPLICATE);
     CHECK(sliced(&s, &t, "a") == CEDAR_OK && IS(value_at(&t, U("a"), 0, "k"), "2"));
     c = with_entities("a;a");
-    put_term(&c, 0, 0, "k", "1");
+    push_term(&c, 0, 0, "k", "1");
     CHECK(BUILD(&s, c, CEDAR_COMPUTE) == CEDAR_DUPLICATE);
-    put_term(&c, 1, 0, "k", "1");
+    push_term(&c, 1, 0, "k", "1");
     CHECK(BUILD(&s, c, CEDAR_COMPUTE) == CEDAR_OK && cedar_store_len(&s) == 1);
     c = with_entities("a");
-    put_term(&c, 0, 1, "k", "'__entity 1 [1");
+    push_term(&c, 0, 1, "k", "'__entity 1 [1");
     CHECK(BUILD(&s, c, CEDAR_COMPUTE) == CEDAR_OK && cedar_store_validate(&s) == CEDAR_RESERVED_KEY);
     CHECK(IS(store_refusal(&s), "reserved key __entity"));
     cedar_store_free(&s);
@@ -187,7 +187,7 @@ static void values_stay(void) {
     uint8_t text[8];
     bool has = true;
     content c = with_entities("a b");
-    put_term(&c, 0, 0, "k", "'xy 1 [1");
+    push_term(&c, 0, 0, "k", "'xy 1 [1");
     CHECK(new_store(&s) == CEDAR_OK && BUILD(&s, c, CEDAR_COMPUTE) == CEDAR_OK);
     CHECK(cedar_store_answer_nodes(&s, 0, nodes, 4) == 0);
     CHECK(IS(value_at(&s, U("a"), 0, "k"), "'xy 1 [1") && IS(store_answer(&s), ",xy"));
@@ -213,7 +213,7 @@ static void values_stay(void) {
     CHECK(BUILD(&s, c, CEDAR_COMPUTE) == CEDAR_OK && cedar_store_copy(&s, &t) == CEDAR_OK);
     CHECK(cedar_store_answer_nodes(&t, 0, nodes, 4) == 0 && cedar_store_answer_nodes(&s, 0, nodes, 4) == 3);
     c = with_entities("a");
-    put_term(&c, 0, 1, "k", "7");
+    push_term(&c, 0, 1, "k", "7");
     CHECK(BUILD(&t, c, CEDAR_COMPUTE) == CEDAR_OK && IS(value_at(&t, U("a"), 1, "k"), "7"));
     CHECK(IS(store_answer(&t), ",") && cedar_store_answer(&t, 0, text, 8) == 0);
     CHECK(sliced(&s, &t, "a") == CEDAR_OK && cedar_store_answer_nodes(&t, 0, nodes, 4) == 0);
@@ -292,7 +292,7 @@ static const struct {
 static void words_that_are_no_value(void) {
     for (size_t k = 0; k < sizeof NONE / sizeof *NONE; k++) {
         content c = with_entities("a");
-        put_term(&c, 0, k & 1, "k", NONE[k].words);
+        push_term(&c, 0, k & 1, "k", NONE[k].words);
         bool so = refused(c, NONE[k].status);
         if (!so) printf("%s: %u\n", NONE[k].words, BUILD(&kept, c, 0));
         CHECK(so);
@@ -301,7 +301,7 @@ static void words_that_are_no_value(void) {
 
 static void fields_that_are_no_value(void) {
     content c = with_entities("a");
-    put_term(&c, 0, 0, "k", "t");
+    push_term(&c, 0, 0, "k", "t");
     c.nodes[0].number = 2;
     CHECK(refused(c, CEDAR_BAD_ARGUMENT));
     c.nodes[0] = (cedar_node){16, 0, {0, 0}, 0};
@@ -321,7 +321,7 @@ static void fields_that_are_no_value(void) {
     CHECK(BUILD(&kept, c, 0) == CEDAR_OK && IS(value_at(&kept, U("a"), 0, ""), "@a"));
     CHECK(build(&kept, "q", 0) == CEDAR_OK);
     c = with_entities("a"); /* the mark of a residual expression must have `len` 1 */
-    put_term(&c, 0, 0, "k", "t *");
+    push_term(&c, 0, 0, "k", "t *");
     c.nodes[1].len = 0;
     CHECK(refused(c, CEDAR_BAD_ARGUMENT));
     c.l.uids[0].end--;
@@ -421,7 +421,7 @@ static content drawn_content(void) {
         if (drawn(30) == 0) term = (cedar_term){drawn(4), drawn(4), any_part(&c), drawn(12), drawn(12)};
         c.terms[c.terms_len++] = term;
     }
-    if (drawn(10) == 0) put_above(&c, drawn(4), drawn(5));
+    if (drawn(10) == 0) push_ancestors_of_rows(&c, drawn(4), drawn(5));
     return c;
 }
 

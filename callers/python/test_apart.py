@@ -48,8 +48,8 @@ class Apart(unittest.TestCase):
         store.partial()
         copies, parts = [], []
         for _ in range(8):
-            copies.append(store.copy_apart())
-            parts.append(store.slice_apart([uid("b")]))
+            copies.append(store.deep_copy())
+            parts.append(store.slice_deep_copy([uid("b")]))
         self.assertEqual(repr(copies[0]), "<Store that no thread has called yet>")
 
         def use(copy, part):
@@ -58,7 +58,7 @@ class Apart(unittest.TestCase):
                 again = copy.copy()
                 again.upsert({uid("x"): [uid("a")]})
                 told.append(again.is_descendant_of(uid("x"), uid("c")) and again != copy)
-                told.append(copy.copy_apart() == copy and part.tags_len(uid("b")) == 1)
+                told.append(copy.deep_copy() == copy and part.tags_len(uid("b")) == 1)
             return told
 
         with concurrent.futures.ThreadPoolExecutor(8) as pool:
@@ -83,16 +83,16 @@ class Apart(unittest.TestCase):
             lambda other: store.entity_equal(uid("a"), other),
             lambda other: other.portable() == store,
             lambda other: pickle.loads(pickle.dumps(other)) == store,
-            lambda other: other.copy_apart().slice_apart([uid("b")]) == store.slice([uid("b")]),
+            lambda other: other.deep_copy().slice_deep_copy([uid("b")]) == store.slice([uid("b")]),
             lambda other: other.close() is None,
         ):
-            other = store.copy_apart()
+            other = store.deep_copy()
             self.assertTrue(call(other))
             with self.assertRaises(WrongThread):
                 on_thread(other.uids)
         taken = []
         for _ in range(50):
-            other, start = store.copy_apart(), threading.Barrier(4)
+            other, start = store.deep_copy(), threading.Barrier(4)
 
             def ask(other=other, start=start):
                 start.wait()
@@ -109,10 +109,10 @@ class Apart(unittest.TestCase):
             self.assertEqual(sorted(taken), [0, 0, 0, 2])
             taken.clear()
         with self.assertRaises(Refused):
-            store.slice_apart(["no uid"])
+            store.slice_deep_copy(["no uid"])
         store.close()
         with self.assertRaises(Closed):
-            store.copy_apart()
+            store.deep_copy()
 
     def test_a_store_apart_is_freed_by_any_thread(self):
         store = Store(self.many)
@@ -123,9 +123,9 @@ class Apart(unittest.TestCase):
             for _ in range(2):
                 before = resident()
                 for _ in range(200):
-                    held = [store.copy_apart()]
+                    held = [store.deep_copy()]
                     held.clear()
-                    held = [store.copy_apart()]
+                    held = [store.deep_copy()]
                     on_thread(held.clear)
         # Four hundred copies take more than eighty megabytes.
         self.assertLess(resident() - before, 8 << 20)
@@ -137,14 +137,14 @@ class Apart(unittest.TestCase):
         policies.add_template("t", principal=True, when=PRINCIPAL.eq(RESOURCE), annotations={"if": "é"})
         policies.link("t", "l", principal=uid("a"))
         policies.add_static("w")
-        copies = [policies.copy_apart() for _ in range(4)]
+        copies = [policies.deep_copy() for _ in range(4)]
 
         def use(copy):
             for _ in range(50):
                 again = copy.copy()
                 again.unlink("l")
                 again.merge(copy)
-                told = copy.bodies(), copy.policies(), str(copy), again.policies(), copy.copy_apart() == copy
+                told = copy.bodies(), copy.policies(), str(copy), again.policies(), copy.deep_copy() == copy
             return told
 
         with concurrent.futures.ThreadPoolExecutor(4) as pool:
@@ -156,4 +156,4 @@ class Apart(unittest.TestCase):
             for call in (copies[0].policies, lambda: policies == copies[0], lambda: policies.merge(copies[0])):
                 with self.assertRaises(WrongThread):
                     call()
-        self.assertTrue(policies.copy_apart() == policies)
+        self.assertTrue(policies.deep_copy() == policies)

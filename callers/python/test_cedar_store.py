@@ -652,11 +652,11 @@ class Memory(unittest.TestCase):
         held, own = [Store(made(("a", "b")))], cedar_store._held.LOCAL.thread
         begins = cedar_store._held.Thread.__init__
 
-        def lets_go(thread):
+        def must_free(thread):
             held.clear()
             begins(thread)
 
-        cedar_store._held.Thread.__init__ = lets_go
+        cedar_store._held.Thread.__init__ = must_free
         try:
             with self.assertWarnsRegex(ResourceWarning, "a store dropped by another thread"):
                 on_thread(lambda: Store(made(("c", "d"))).close())

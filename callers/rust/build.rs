@@ -13,7 +13,7 @@ fn main() {
             path.is_file(),
             "there is no {}. Run callers/run in the checkout, which writes both archives to callers/out. Or set \
              CEDAR_LIBRARY_DIR to a folder with libcedar_c.a and liblibc_c.a, for example callers/out/try, to which \
-             callers/try writes them without proofs",
+             callers/run-unproved writes them without proofs",
             path.display()
         );
     }

@@ -65,9 +65,9 @@ mod cedar_replay;
 mod cedar_scope;
 mod cedar_slice;
 mod cedar_store;
-mod cedar_talk;
+mod cedar_repl;
 mod cedar_terms;
-mod cedar_trial_edits;
+mod cedar_dry_run;
 mod cedar_uid_sets;
 mod handwritten;
 
@@ -75,7 +75,7 @@ use handwritten::ordered_map;
 
 pub use cedar_keyed_hash::{KeyedHasher, KeyedState};
 pub use cedar_slice::slice;
-pub use cedar_trial_edits::{are_bare, would_add, would_upsert};
+pub use cedar_dry_run::{have_no_indirect, would_add, would_upsert};
 pub use handwritten::renaming::{RenamedIds, Renaming};
 
 /// Ids, entities, values, expressions, constraints, policies, templates and policy sets.
@@ -156,7 +156,7 @@ pub mod program {
     pub use crate::cedar_store::{
         RunError, Session, push_not_command, run, run_and_leave, run_and_leave_with, run_with,
     };
-    pub use crate::cedar_talk::{FIELD_HELP, Manner, POLICY_HELP, STORE_HELP, TalkError, help_texts, talk};
+    pub use crate::cedar_repl::{FIELD_HELP, ErrorMode, POLICY_HELP, STORE_HELP, TalkError, help_texts, talk};
 }
 
 /// Lists of calls on a store or a policy set.

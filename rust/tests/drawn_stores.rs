@@ -16,7 +16,7 @@ type Parents = BTreeSet<Name>;
 
 /// The model: the parents of each entity.
 #[derive(Clone, Debug, Default, PartialEq)]
-struct World(BTreeMap<Name, Parents>);
+struct InputStore(BTreeMap<Name, Parents>);
 
 #[derive(Debug, PartialEq)]
 enum Refusal {
@@ -24,7 +24,7 @@ enum Refusal {
     Cycle,
 }
 
-impl World {
+impl InputStore {
     fn reached(&self, from: Name) -> BTreeSet<Name> {
         let mut all = BTreeSet::new();
         let mut open: Vec<Name> = self.0.get(&from).into_iter().flatten().copied().collect();
@@ -36,7 +36,7 @@ impl World {
         all
     }
 
-    fn checked(self) -> Result<World, Refusal> {
+    fn checked(self) -> Result<InputStore, Refusal> {
         if self.0.keys().any(|name| self.reached(*name).contains(name)) {
             Err(Refusal::Cycle)
         } else {
@@ -46,7 +46,7 @@ impl World {
 
     /// Adds entities. A stored entity must have the same ancestors. If several have the same uid, the first one is
     /// used.
-    fn add(&self, list: &[(Name, Parents)]) -> Result<World, Refusal> {
+    fn add(&self, list: &[(Name, Parents)]) -> Result<InputStore, Refusal> {
         let mut next = self.clone();
         for (name, parents) in list {
             let held = match self.0.contains_key(name) {
@@ -64,13 +64,13 @@ impl World {
         next.checked()
     }
 
-    fn upsert(&self, list: &[(Name, Parents)]) -> Result<World, Refusal> {
+    fn upsert(&self, list: &[(Name, Parents)]) -> Result<InputStore, Refusal> {
         let mut next = self.clone();
         next.0.extend(list.iter().cloned());
         next.checked()
     }
 
-    fn remove(&self, list: &[Name]) -> World {
+    fn remove(&self, list: &[Name]) -> InputStore {
         let gone: Vec<_> = list.iter().filter(|name| self.0.contains_key(name)).collect();
         let mut next = self.clone();
         next.0.retain(|name, _| !gone.contains(&name));
@@ -104,7 +104,7 @@ fn shared(list: &[(Name, Parents)]) -> Vec<Arc<Entity>> {
 }
 
 /// Asserts that the store is equal to the model: its uids, parents and ancestors, by each way to query them.
-fn is_that_of(store: &Entities, world: &World) {
+fn is_that_of(store: &Entities, world: &InputStore) {
     assert_eq!(store.len(), world.0.len());
     for entity in store {
         let name = name_of(entity.uid());
@@ -120,7 +120,7 @@ fn is_that_of(store: &Entities, world: &World) {
     }
 }
 
-fn refusal(error: &EntitiesError, world: &World) -> Refusal {
+fn refusal(error: &EntitiesError, world: &InputStore) -> Refusal {
     match error {
         EntitiesError::Duplicate(uid) => Refusal::Duplicate(name_of(uid)),
         EntitiesError::TransitiveClosureError(TcError::HasCycle(cycle)) => {
@@ -134,7 +134,7 @@ fn refusal(error: &EntitiesError, world: &World) -> Refusal {
 
 /// Returns a list of entities with few uids and few parents, so that every kind of error occurs. Most parents have
 /// greater numbers, so that errors are rare.
-fn drawn_list(drawn: &mut Drawn, world: &World, uids: usize) -> Vec<(Name, Parents)> {
+fn drawn_list(drawn: &mut Drawn, world: &InputStore, uids: usize) -> Vec<(Name, Parents)> {
     (0..drawn.below(4))
         .map(|_| {
             let name = drawn.below(uids);
@@ -160,7 +160,7 @@ fn drawn_list(drawn: &mut Drawn, world: &World, uids: usize) -> Vec<(Name, Paren
 }
 
 /// Returns the model after the edit, even if the edit returns an error. It shows whether a uid is on a cycle.
-fn forced(world: &World, list: &[(Name, Parents)], over: bool) -> World {
+fn forced(world: &InputStore, list: &[(Name, Parents)], over: bool) -> InputStore {
     let mut all = world.clone();
     for (name, parents) in list {
         if over || !all.0.contains_key(name) {
@@ -172,7 +172,7 @@ fn forced(world: &World, list: &[(Name, Parents)], over: bool) -> World {
 
 fn one_list_of_calls(seed: u64, uids: usize, calls: usize) -> (usize, usize) {
     let mut drawn = Drawn::new(seed);
-    let (mut store, mut world) = (Entities::new(), World::default());
+    let (mut store, mut world) = (Entities::new(), InputStore::default());
     let (mut made, mut refused) = (0, 0);
     for _ in 0..calls {
         let kind = drawn.below(7);
@@ -194,7 +194,7 @@ fn one_list_of_calls(seed: u64, uids: usize, calls: usize) -> (usize, usize) {
             let before = store.clone();
             let (due, told, over) = match kind {
                 0 => {
-                    let due = World::default().add(&list);
+                    let due = InputStore::default().add(&list);
                     (
                         due,
                         Entities::from_entities(list.iter().map(entity), TCComputation::ComputeNow),
@@ -212,7 +212,7 @@ fn one_list_of_calls(seed: u64, uids: usize, calls: usize) -> (usize, usize) {
                     true,
                 ),
             };
-            let from = if kind == 0 { World::default() } else { world.clone() };
+            let from = if kind == 0 { InputStore::default() } else { world.clone() };
             match (due, told) {
                 (Ok(next), Ok(made_of_it)) => {
                     (world, store) = (next, made_of_it);
@@ -240,17 +240,17 @@ fn one_list_of_calls(seed: u64, uids: usize, calls: usize) -> (usize, usize) {
 }
 
 /// Asserts that a slice contains the requested entities and their ancestors, each with its parents and ancestors.
-fn slices_are_parts(drawn: &mut Drawn, store: &Entities, world: &World, uids: usize) {
+fn slices_are_parts(drawn: &mut Drawn, store: &Entities, world: &InputStore, uids: usize) {
     let most = drawn.below(4);
     is_sliced(drawn, (store, world), uids, most);
 }
 
 /// Returns a slice at `most` uids, which can be repeated, and the model of the slice.
-fn is_sliced(drawn: &mut Drawn, whole: (&Entities, &World), uids: usize, most: usize) -> (Entities, World) {
+fn is_sliced(drawn: &mut Drawn, whole: (&Entities, &InputStore), uids: usize, most: usize) -> (Entities, InputStore) {
     let (store, world) = whole;
     let asked: Vec<Name> = (0..most).map(|_| drawn.below(uids + 2)).collect();
     let part = slice(store, &asked.iter().map(|name| uid(*name)).collect::<Vec<_>>());
-    let mut due = World::default();
+    let mut due = InputStore::default();
     for name in asked.iter().filter(|name| world.0.contains_key(name)) {
         for held in world.reached(*name).into_iter().chain([*name]) {
             if let Some(parents) = world.0.get(&held) {
@@ -290,7 +290,7 @@ fn one_list_of_edits(seed: u64, uids: usize, calls: usize) {
     let first: Vec<(Name, Parents)> = (0..uids)
         .map(|name| (name, (0..drawn.below(3)).map(|_| name + 1 + drawn.below(12)).collect()))
         .collect();
-    let mut world = World::default().add(&first).expect("parents have greater names");
+    let mut world = InputStore::default().add(&first).expect("parents have greater names");
     let mut store = Entities::from_entities(first.iter().map(entity), TCComputation::ComputeNow).unwrap();
     for _ in 0..calls {
         let name = drawn.below(uids);
@@ -332,9 +332,9 @@ fn every_edit_of(size: usize, has_edge: &dyn Fn(usize, usize) -> bool) {
         .map(|from| (from, (0..size).filter(|to| has_edge(from, *to)).collect()))
         .collect();
     let built = Entities::from_entities(rows.iter().map(entity), TCComputation::ComputeNow);
-    let Ok(world) = World::default().add(&rows) else {
+    let Ok(world) = InputStore::default().add(&rows) else {
         assert_eq!(
-            refusal(&built.unwrap_err(), &forced(&World::default(), &rows, false)),
+            refusal(&built.unwrap_err(), &forced(&InputStore::default(), &rows, false)),
             Refusal::Cycle
         );
         return;

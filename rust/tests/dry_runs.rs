@@ -3,7 +3,7 @@ mod common;
 
 use cedar_store::ast::{Entity, EntityUID};
 use cedar_store::entities::{Entities, EntitiesError, TCComputation};
-use cedar_store::{are_bare, would_add, would_upsert};
+use cedar_store::{have_no_indirect, would_add, would_upsert};
 use common::{Drawn, child, with_eid};
 use std::sync::Arc;
 
@@ -42,7 +42,7 @@ fn a_dry_run_returns_the_error_of_the_edit() {
         let mut store = Entities::new();
         for _ in 0..12 {
             let list = list(&mut drawn, 7);
-            assert!(are_bare(&list));
+            assert!(have_no_indirect(&list));
             let (before, now) = (store.clone(), TCComputation::ComputeNow);
             let is_upsert = drawn.below(2) == 0;
             let (dry, edited) = if is_upsert {
@@ -78,5 +78,5 @@ fn a_dry_run_returns_the_error_of_the_edit() {
 fn are_bare_finds_an_indirect_ancestor() {
     let mut entity = child("1", &["2"]);
     entity.add_indirect_ancestor(with_eid("3"));
-    assert!(!are_bare(&[Arc::new(child("4", &[])), Arc::new(entity)]));
+    assert!(!have_no_indirect(&[Arc::new(child("4", &[])), Arc::new(entity)]));
 }

@@ -4,7 +4,7 @@ mod common;
 
 use cedar_store::ast::{Entity, EntityUID, Expr, PartialValue, StaticType, Value};
 use cedar_store::entities::{Dereference, Entities, EntitiesError, TCComputation};
-use cedar_store::{are_bare, would_add, would_upsert};
+use cedar_store::{have_no_indirect, would_add, would_upsert};
 use common::{shared, uid};
 use std::collections::HashSet;
 use std::sync::Arc;
@@ -57,7 +57,7 @@ fn a_dry_run_changes_nothing_and_returns_the_error_of_the_edit() {
         (9, &[9], false, false),
     ] {
         let list = list(number, parents);
-        assert!(are_bare(&list));
+        assert!(have_no_indirect(&list));
         let (add, upsert) = (would_add(&store, &list), would_upsert(&store, &list));
         assert_eq!((add.is_ok(), upsert.is_ok()), (adds, upserts), "{number} {parents:?}");
         let added = store.clone().add_entities(list.clone(), now);
@@ -68,7 +68,7 @@ fn a_dry_run_changes_nothing_and_returns_the_error_of_the_edit() {
     assert!(store.deep_eq(&before));
     let mut closed = under(4, &[1]);
     closed.add_indirect_ancestor(node(2));
-    assert!(!are_bare(&[Arc::new(under(5, &[])), Arc::new(closed)]));
+    assert!(!have_no_indirect(&[Arc::new(under(5, &[])), Arc::new(closed)]));
 }
 
 /// The kind of an error: a duplicate, with its uid, or a cycle.

@@ -2,9 +2,9 @@
 
 # The crates of the layer, lowest first.
 CRATES = '''cedar_ids cedar_keyed_hash cedar_components cedar_uid_sets cedar_graph cedar_terms cedar_entity cedar_children
-cedar_entity_maps cedar_entities cedar_slice cedar_trial_edits cedar_annotation cedar_scope cedar_binding
+cedar_entity_maps cedar_entities cedar_slice cedar_dry_run cedar_annotation cedar_scope cedar_binding
 cedar_action cedar_body cedar_policy cedar_policy_maps cedar_policy_set_errors cedar_policy_merge
-cedar_policy_set cedar_replay cedar_lines cedar_entity_lines cedar_policy_lines cedar_store cedar_talk'''.split()
+cedar_policy_set cedar_replay cedar_lines cedar_entity_lines cedar_policy_lines cedar_store cedar_repl'''.split()
 
 # Calls for which there are several functions with the name: (crate, file, name) and the kind of the result.
 CHOICES = {
@@ -12,9 +12,9 @@ CHOICES = {
     ('cedar_policy_lines', 'making', 'link'): 'result',
     ('cedar_c_stores', 'listing', 'add'): 'memory',
     ('cedar_c_stores', 'reads', 'entity'): 'memory',
-    ('cedar_c_stores', 'watched', 'entity'): 'memory',
-    ('cedar_c_sets', 'kept_set', 'link'): 'result',
-    ('cedar_policies_apart', 'set', 'link'): 'result',
+    ('cedar_c_stores', 'cached_store', 'entity'): 'memory',
+    ('cedar_c_sets', 'set_state', 'link'): 'result',
+    ('cedar_deep_copy_policies', 'set', 'link'): 'result',
     ('cedar_c_sets', 'clauses', 'condition'): 'memory',
 }
 
@@ -28,7 +28,7 @@ DROPPED = {('KeyedState', 'new'), ('fresh', 'count_ids'), ('fresh', 'size'), ('n
 # Functions that only the tests of the layer use, so the package does not have them.
 UNASKED = {
     ('PolicySet', 'from_raw_components'), ('PolicyMaps', 'from_raw_components'), ('lists', 'read_policy'),
-    ('lists', 'read_policies'), ('maps', 'keep_templates'), ('LineStore', 'new'), ('PolicySets', 'new'),
+    ('lists', 'read_policies'), ('maps', 'filter_templates'), ('LineStore', 'new'), ('PolicySets', 'new'),
     ('command', 'read_policy_command'), ('making', 'static_policy'), ('making', 'slotted_template'),
     ('Entity', 'with_shared_parents'),
     ('UidSet', 'is_ascending'), ('UidSet', 'retain'),
@@ -43,7 +43,7 @@ DROPPED_IMPLS = {('Linked', 'Drop'), ('Linked', 'Deref'), ('Direct', 'Streams')}
 # Parameters that only contracts use: (file, function) and names.
 UNUSED = {
     ('component_lists', 'add'): {'n'}, ('component_lists', 'add_range'): {'n'}, ('list_order', 'take_all'): {'n'},
-    ('components', 'meet'): {'graph', 'i'}, ('close', 'goes_back'): {'read'},
+    ('components', 'meet'): {'graph', 'i'}, ('close', 'reaches_itself'): {'read'},
     ('close', 'listed_for'): {'read'}, ('closed', 'knows_reached'): {'read'},
 }
 
@@ -70,7 +70,7 @@ WIDE = {
     ('Entities', 'upsert_entities'): {'list': 'pass'},
     ('incoming', 'with_uids'): {'list': 'loop'},
     ('Entities', 'remove_entities'): {'list': 'pass'},
-    ('edits', 'take_all_out'): {'list': 'pass'},
+    ('edits', 'remove_and_finalize'): {'list': 'pass'},
     ('lists', 'held_uids'): {'list': 'loop'},
     ('ActionConstraint', 'is_in'): {'euids': 'pass'},
     ('action', 'shared'): {'euids': 'loop'},
@@ -90,8 +90,8 @@ INLINED = {('cedar_keyed_hash', 'lib'), ('cedar_uid_sets', 'fronts')}
 
 # The crates of tests, and the crate of their helpers.
 TESTS = '''cedar_test_helpers cedar_ids_tests cedar_graph_tests cedar_terms_tests
-cedar_store_tests cedar_talk_tests'''.split()
+cedar_store_tests cedar_repl_tests'''.split()
 
 # The crates of the library for C, lowest first.
-CALLERS = '''cedar_c_lists cedar_c_trees cedar_c_bodies cedar_c_refusals cedar_apart cedar_stores_apart cedar_policies_apart
+CALLERS = '''cedar_c_lists cedar_c_trees cedar_c_bodies cedar_c_errors cedar_deep_copy cedar_deep_copy_stores cedar_deep_copy_policies
 cedar_c_stores cedar_c_sets cedar_c'''.split()

@@ -216,7 +216,7 @@ class Held:
         self._call(self._copy, fresh._at)
         return fresh
 
-    def copy_apart(self: _Kind) -> _Kind:
+    def deep_copy(self: _Kind) -> _Kind:
         """Returns a deep copy with the same key, for use by another thread.
 
         The copy shares nothing with the original. It belongs to the first thread that calls one of its methods. Until

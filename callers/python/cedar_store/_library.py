@@ -75,7 +75,7 @@ for _kind in ("store_", "policies_"):
     _DECLARED[_kind + "new"] = (_U, [_P] + _KEY)
     _DECLARED[_kind + "free"] = (None, [_P])
     _DECLARED[_kind + "copy"] = (_U, [_P, _P])
-    _DECLARED[_kind + "copy_apart"] = (_U, [_P, _P])
+    _DECLARED[_kind + "deep_copy"] = (_U, [_P, _P])
     _DECLARED[_kind + "equal"] = (_U, [_P, _P, _P])
     _DECLARED[_kind + "refusal"] = (_N, [_P, _P, _N])
 
@@ -94,7 +94,7 @@ def _path() -> str:
     if os.path.exists(os.path.join(callers, "c", "cedar.h")) and os.path.exists(left):
         return left
     raise ImportError("cannot find libcedar.so: run callers/run in the checkout, or set CEDAR_LIBRARY to its path "
-                      "(callers/try builds one without the proofs, in callers/out/try)")
+                      "(callers/run-unproved builds one without the proofs, in callers/out/try)")
 
 
 _LIBRARY = ctypes.CDLL(_path())

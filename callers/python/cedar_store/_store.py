@@ -594,7 +594,7 @@ class Store(Held):
         self._call_listed(_slice, laid, fresh._at, *laid.arguments())
         return fresh
 
-    def slice_apart(self, uids: Iterable[str]) -> Store:
+    def slice_deep_copy(self, uids: Iterable[str]) -> Store:
         """Returns a deep copy of `slice`. It belongs to the first thread that calls one of its methods.
 
         Raises:

@@ -1,15 +1,15 @@
 //! Deep copies of stores and policy sets, which share nothing with their originals and can be sent to other threads.
 use crate::errors::PolicySetError;
-use crate::ffi::{Apart, Sets, Stores};
+use crate::ffi::{DeepCopyHandle, Sets, Stores};
 use crate::policies_read::Renaming;
 use crate::policy::PolicyID;
 use crate::policy_set::PolicySet;
 use crate::refusal::Refusal;
 use crate::stored::Entities;
 
-/// A deep copy of a store, which shares nothing with any other store. [`Entities::copy_apart`] and
-/// [`Entities::slice_apart`] create it. It can be sent to another thread, which unwraps it with
-/// [`ApartEntities::into_inner`]. Until then it cannot be queried.
+/// A deep copy of a store, which shares nothing with any other store. [`Entities::deep_copy`] and
+/// [`Entities::slice_deep_copy`] create it. It can be sent to another thread, which unwraps it with
+/// [`EntitiesDeepCopy::into_inner`]. Until then it cannot be queried.
 ///
 /// ```
 /// use cedar_store_proved::ast::{Entity, EntityUID};
@@ -18,7 +18,7 @@ use crate::stored::Entities;
 /// let (a, b) = (uid(r#"A::"a""#), uid(r#"A::"b""#));
 /// let child = Entity::with_uid(a.clone()).with_parent(b.clone());
 /// let store = Entities::from_entities([child], TCComputation::ComputeNow).unwrap();
-/// let apart = store.copy_apart().unwrap();
+/// let apart = store.deep_copy().unwrap();
 /// let other = std::thread::spawn(move || apart.into_inner().is_descendant_of(&a, &b).unwrap());
 /// assert!(other.join().unwrap());
 /// ```
@@ -27,15 +27,15 @@ use crate::stored::Entities;
 ///
 /// ```compile_fail
 /// fn shares<T: Sync>(_: T) {}
-/// shares(cedar_store_proved::entities::Entities::new().copy_apart().unwrap());
+/// shares(cedar_store_proved::entities::Entities::new().deep_copy().unwrap());
 /// ```
-pub struct ApartEntities {
-    held: Apart<Stores>,
+pub struct EntitiesDeepCopy {
+    held: DeepCopyHandle<Stores>,
 }
 
-impl ApartEntities {
-    pub(crate) fn of(held: Apart<Stores>) -> ApartEntities {
-        ApartEntities { held }
+impl EntitiesDeepCopy {
+    pub(crate) fn of(held: DeepCopyHandle<Stores>) -> EntitiesDeepCopy {
+        EntitiesDeepCopy { held }
     }
 
     /// Returns the store, which from now on belongs to the current thread.
@@ -44,14 +44,14 @@ impl ApartEntities {
     }
 }
 
-/// A deep copy of a policy set, which shares nothing with any other set. [`PolicySet::copy_apart`] creates it. It can
-/// be sent to another thread, which unwraps it with [`ApartPolicySet::into_inner`].
+/// A deep copy of a policy set, which shares nothing with any other set. [`PolicySet::deep_copy`] creates it. It can
+/// be sent to another thread, which unwraps it with [`PolicySetDeepCopy::into_inner`].
 ///
 /// ```
 /// use cedar_store_proved::ast::{Effect, PolicySet};
 /// let mut set = PolicySet::new();
 /// set.bind_static("p", Effect::Permit).unwrap();
-/// let apart = set.copy_apart().unwrap();
+/// let apart = set.deep_copy().unwrap();
 /// let other = std::thread::spawn(move || apart.into_inner().to_string());
 /// assert_eq!(other.join().unwrap(), set.to_string());
 /// ```
@@ -60,15 +60,15 @@ impl ApartEntities {
 ///
 /// ```compile_fail
 /// fn shares<T: Sync>(_: T) {}
-/// shares(cedar_store_proved::ast::PolicySet::new().copy_apart().unwrap());
+/// shares(cedar_store_proved::ast::PolicySet::new().deep_copy().unwrap());
 /// ```
-pub struct ApartPolicySet {
-    held: Apart<Sets>,
+pub struct PolicySetDeepCopy {
+    held: DeepCopyHandle<Sets>,
 }
 
-impl ApartPolicySet {
-    pub(crate) fn of(held: Apart<Sets>) -> ApartPolicySet {
-        ApartPolicySet { held }
+impl PolicySetDeepCopy {
+    pub(crate) fn of(held: DeepCopyHandle<Sets>) -> PolicySetDeepCopy {
+        PolicySetDeepCopy { held }
     }
 
     /// Merges a deep copy of the policies and templates of another set into this one. Otherwise works like
@@ -85,7 +85,7 @@ impl ApartPolicySet {
     /// let (mut one, mut other) = (PolicySet::new(), PolicySet::new());
     /// one.bind_static("p", Effect::Permit).unwrap();
     /// other.bind_static("p", Effect::Forbid).unwrap();
-    /// let mut apart = one.copy_apart().unwrap();
+    /// let mut apart = one.deep_copy().unwrap();
     /// assert!(apart.merge_policyset(&other, false).is_err());
     /// assert_eq!(apart.merge_policyset(&other, true).unwrap().len(), 1);
     /// one.merge_policyset(&other, true).unwrap();

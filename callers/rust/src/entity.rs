@@ -310,7 +310,7 @@ impl Hash for Entity {
 }
 
 // Writes items with a separator between them.
-fn write_joined<T: fmt::Display>(
+fn write_separated<T: fmt::Display>(
     things: impl Iterator<Item = T>,
     mark: &str,
     f: &mut fmt::Formatter<'_>,
@@ -329,9 +329,9 @@ impl fmt::Display for Entity {
     fn fmt(&self, f: &mut fmt::Formatter<'_>) -> fmt::Result {
         write!(f, "{}:\n  attrs:", self.uid)?;
         let pair = |(key, value): (&str, &PartialValue)| format!("{key}: {value}");
-        write_joined(self.attrs().map(pair), "; ", f)?;
+        write_separated(self.attrs().map(pair), "; ", f)?;
         f.write_str("\n  ancestors:")?;
-        write_joined(self.ancestors_in_order(), ", ", f)
+        write_separated(self.ancestors_in_order(), ", ", f)
     }
 }
 

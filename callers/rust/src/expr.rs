@@ -256,7 +256,7 @@ impl Expr {
     }
 
     // Returns whether the expression is written without parentheses as an operand.
-    fn stands_bare(&self) -> bool {
+    fn is_unparenthesized(&self) -> bool {
         !matches!(
             self.head,
             Head::Not | Head::And | Head::Eq | Head::In | Head::Is(_)
@@ -266,7 +266,7 @@ impl Expr {
 
 // Moves the operands of an expression onto a list. Shared operands are only released, because other expressions use
 // them.
-fn take_below(expr: &mut Expr, pending: &mut Vec<Expr>) {
+fn push_operands(expr: &mut Expr, pending: &mut Vec<Expr>) {
     if let Some(below) = expr.below.take() {
         pending.extend(Arc::into_inner(below).unwrap_or_default());
     }
@@ -276,9 +276,9 @@ impl Drop for Expr {
     /// Drops the tree without recursion.
     fn drop(&mut self) {
         let mut pending = Vec::new();
-        take_below(self, &mut pending);
+        push_operands(self, &mut pending);
         while let Some(mut expr) = pending.pop() {
-            take_below(&mut expr, &mut pending);
+            push_operands(&mut expr, &mut pending);
         }
     }
 }
@@ -321,7 +321,7 @@ enum Piece<'a> {
 
 // Pushes an operand, in parentheses if it needs them.
 fn push_operand<'a>(expr: &'a Expr, pieces: &mut Vec<Piece<'a>>) {
-    match expr.stands_bare() {
+    match expr.is_unparenthesized() {
         true => pieces.push(Piece::Expr(expr)),
         false => pieces.extend([Piece::Mark("("), Piece::Expr(expr), Piece::Mark(")")]),
     }
@@ -346,7 +346,7 @@ fn push_all<'a>(
 
 // Writes the part of a node before its operands, or pushes its parts in reverse order, so that the first part is popped
 // first.
-fn show_node<'a>(
+fn write_node<'a>(
     expr: &'a Expr,
     pending: &mut Vec<Piece<'a>>,
     f: &mut fmt::Formatter<'_>,
@@ -390,7 +390,7 @@ impl fmt::Display for Expr {
             match piece {
                 Piece::Mark(mark) => f.write_str(mark)?,
                 Piece::Type(ty) => write!(f, "{ty}")?,
-                Piece::Expr(expr) => show_node(expr, &mut pending, f)?,
+                Piece::Expr(expr) => write_node(expr, &mut pending, f)?,
             }
         }
         Ok(())

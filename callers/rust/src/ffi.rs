@@ -2,7 +2,7 @@
 //! this file and in `ffi/apart.rs`. It keeps the rules of the header as follows:
 //!
 //! - A handle starts as zeroes, and only the library writes its bytes. It is not copied. Because it contains a pointer,
-//!   it is neither sent to another thread nor shared with one, except in an [`Apart`]. The library does not store the
+//!   it is neither sent to another thread nor shared with one, except in an [`DeepCopyHandle`]. The library does not store the
 //!   address of a handle, so a handle may be moved.
 //! - Pointers and lengths are pointers and lengths of slices. The pointer of a slice is never null and its length is
 //!   below 2^63. Memory that a call writes does not overlap memory that it reads: the first is borrowed mutably, and
@@ -22,7 +22,7 @@ use std::cell::UnsafeCell;
 use std::marker::PhantomData;
 use std::os::raw::c_void;
 
-pub(crate) use apart::Apart;
+pub(crate) use apart::DeepCopyHandle;
 
 /// The library's handle of a store or a set. All zeroes are a closed handle.
 #[repr(C)]
@@ -45,7 +45,7 @@ macro_rules! declared {
 declared!(Opens(s: *mut Handle, seed: u64, key: u64) -> u32: cedar_store_new cedar_policies_new);
 declared!(Frees(s: *mut Handle) -> (): cedar_store_free cedar_policies_free);
 declared!(Copies(from: *mut Handle, to: *mut Handle) -> u32: cedar_store_copy cedar_policies_copy
-    cedar_store_copy_apart cedar_policies_copy_apart);
+    cedar_store_deep_copy cedar_policies_deep_copy);
 declared!(Compares(one: *mut Handle, other: *mut Handle, answer: *mut bool) -> u32:
     cedar_store_equal cedar_policies_equal);
 declared!(Tells(s: *mut Handle, from: usize, out: *mut u8, room: usize) -> usize:
@@ -104,7 +104,7 @@ declared!((
 ) -> u32: cedar_store_remove);
 declared!((
     from: *mut Handle, to: *mut Handle, text: *const u8, text_len: usize, uids: *const Span, uids_len: usize
-) -> u32: cedar_store_slice cedar_store_slice_apart);
+) -> u32: cedar_store_slice cedar_store_slice_deep_copy);
 declared!((s: *mut Handle, uid: *const u8, len: usize, other: *mut Handle, answer: *mut bool) -> u32:
     cedar_store_entity_equal);
 declared!((p: *mut Handle, id: *const u8, len: usize, effect: u32) -> u32: cedar_policies_add_static);
@@ -114,7 +114,7 @@ declared!((
     text: *const u8, text_len: usize, values: *const Span, values_len: usize
 ) -> u32: cedar_policies_link);
 declared!((p: *mut Handle, other: *mut Handle, rename: bool) -> u32:
-    cedar_policies_merge cedar_policies_merge_apart);
+    cedar_policies_merge cedar_policies_merge_deep_copy);
 declared!((p: *mut Handle, kind: u32) -> u32: cedar_policies_ids);
 declared!((p: *mut Handle, id: *const u8, len: usize, which: u32, kind: *mut u32) -> u32: cedar_policies_scope);
 
@@ -236,7 +236,7 @@ pub(crate) struct Calls {
     new: Opens,
     free: Frees,
     copy: Copies,
-    copy_apart: Copies,
+    deep_copy: Copies,
     equal: Compares,
     answer: Tells,
     spans: Places,
@@ -257,7 +257,7 @@ impl Kind for Stores {
         new: cedar_store_new,
         free: cedar_store_free,
         copy: cedar_store_copy,
-        copy_apart: cedar_store_copy_apart,
+        deep_copy: cedar_store_deep_copy,
         equal: cedar_store_equal,
         answer: cedar_store_answer,
         spans: cedar_store_answer_spans,
@@ -274,7 +274,7 @@ impl Kind for Sets {
         new: cedar_policies_new,
         free: cedar_policies_free,
         copy: cedar_policies_copy,
-        copy_apart: cedar_policies_copy_apart,
+        deep_copy: cedar_policies_deep_copy,
         equal: cedar_policies_equal,
         answer: cedar_policies_answer,
         spans: cedar_policies_answer_spans,

@@ -42,7 +42,7 @@ mod nodes;
 mod numbers;
 mod policies_iters;
 mod policies_read;
-mod policies_told;
+mod policies_queries;
 mod policy;
 mod policy_set;
 mod refusal;
@@ -55,13 +55,13 @@ mod uid;
 mod value;
 mod value_walk;
 
-pub use apart::{ApartEntities, ApartPolicySet};
+pub use apart::{EntitiesDeepCopy, PolicySetDeepCopy};
 pub use ast::{Effect, Entity, EntityUID, PolicyID, PolicySet, SlotEnv, SlotId, Value};
 pub use entities::{Dereference, Entities, TCComputation};
 pub use key::Key;
 pub use numbers::UidNumber;
 pub use policies_read::Renaming;
-pub use policies_told::Bound;
+pub use policies_queries::Bound;
 pub use policy::Slots;
 pub use refusal::{Reason, Refusal};
 

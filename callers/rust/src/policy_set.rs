@@ -1,5 +1,5 @@
 //! Policy sets.
-use crate::apart::ApartPolicySet;
+use crate::apart::PolicySetDeepCopy;
 use crate::body::TemplateBody;
 use crate::body_lists::BodyLists;
 use crate::errors::{
@@ -14,7 +14,7 @@ use crate::policies_iters::{
     AllTemplates, IntoPolicies, LinkedIds, Policies, StaticPolicies, Templates,
 };
 use crate::policies_read::{kept, Read, Renaming};
-use crate::policies_told::Bound;
+use crate::policies_queries::Bound;
 use crate::policy::{Effect, Policy, PolicyID, Slots};
 use crate::refusal::Refusal;
 use crate::slots::{SlotEnv, SlotId};
@@ -64,7 +64,7 @@ const MEMORY: &str = "cannot allocate the result of a query";
 /// ```
 ///
 /// A set belongs to the thread that created it: it is neither `Send` nor `Sync`. The result of
-/// [`PolicySet::copy_apart`] is `Send`.
+/// [`PolicySet::deep_copy`] is `Send`.
 ///
 /// ```compile_fail
 /// fn sends<T: Send>(_: T) {}
@@ -176,11 +176,11 @@ impl PolicySet {
     /// assert_eq!(refusal, PolicySetError::Occupied { id: PolicyID::from_string("p") });
     /// ```
     pub fn add_static(&mut self, policy: StaticPolicy) -> Result<(), PolicySetError> {
-        self.join_static(policy.body())
+        self.insert_static_body(policy.body())
     }
 
     // Adds a static policy with this body. The library returns an error if the body contains a slot.
-    fn join_static(&mut self, body: &TemplateBody) -> Result<(), PolicySetError> {
+    fn insert_static_body(&mut self, body: &TemplateBody) -> Result<(), PolicySetError> {
         let id = body.id().as_ref();
         let status = self.held.add_static_with(id, &BodyLists::of(body));
         self.static_joined(status, id)
@@ -203,10 +203,10 @@ impl PolicySet {
     /// - `Occupied`: the id is already bound.
     /// - `Refused`: the clause has more than 1,000 levels, or an allocation failed.
     pub fn add_template(&mut self, template: Template) -> Result<(), PolicySetError> {
-        self.join_template(template.body())
+        self.insert_template_body(template.body())
     }
 
-    fn join_template(&mut self, body: &TemplateBody) -> Result<(), PolicySetError> {
+    fn insert_template_body(&mut self, body: &TemplateBody) -> Result<(), PolicySetError> {
         let id = body.id().as_ref();
         let status = self.held.add_template_with(id, &BodyLists::of(body));
         self.template_joined(status, id)
@@ -231,7 +231,7 @@ impl PolicySet {
     /// - `Refused`: a clause has more than 1,000 levels, a static policy contains a slot, or an allocation failed.
     pub fn add(&mut self, policy: Policy) -> Result<(), PolicySetError> {
         if policy.is_static() {
-            return self.join_static(policy.template().body());
+            return self.insert_static_body(policy.template().body());
         }
         let (id, template_id) = (policy.id(), policy.template().id());
         let held = match self.bound(template_id)? {
@@ -251,16 +251,16 @@ impl PolicySet {
             return Err(PolicySetError::Occupied { id: id.clone() });
         }
         match is_held {
-            true => Ok(self.join_link(template_id, id, policy.env())?),
-            false => self.join_with_template(&policy),
+            true => Ok(self.insert_link_body(template_id, id, policy.env())?),
+            false => self.insert_with_template(&policy),
         }
     }
 
     // Adds a link and its template. Merges a set of these two, so that either both are added or none.
-    fn join_with_template(&mut self, link: &Policy) -> Result<(), PolicySetError> {
+    fn insert_with_template(&mut self, link: &Policy) -> Result<(), PolicySetError> {
         let (template, id) = (link.template(), link.id());
         let mut both = PolicySet::with_key(Key::drawn())?;
-        both.join_template(template.body())?;
+        both.insert_template_body(template.body())?;
         both.bind_link(template.id(), id, link.env())?;
         let status = self.held.merge(&both.held, false);
         self.judged(status)?;
@@ -345,13 +345,13 @@ impl PolicySet {
     ) -> Result<&Policy, LinkingError> {
         let template_id = PolicyID::from_string(template_id);
         let new_id = PolicyID::from_string(new_id);
-        self.join_link(&template_id, &new_id, &values)?;
+        self.insert_link_body(&template_id, &new_id, &values)?;
         Ok(self.get(&new_id).expect("the set contains the new link"))
     }
 
     // Adds a link, and caches it. Reads the template first, so that nothing can fail after the library has added the
     // link.
-    fn join_link(
+    fn insert_link_body(
         &mut self,
         template_id: &PolicyID,
         id: &PolicyID,
@@ -485,14 +485,14 @@ impl PolicySet {
 
     fn try_body(&self, id: &PolicyID) -> Result<Option<&Arc<Template>>, Refusal> {
         let body = self.try_read()?.bodies.at(id);
-        body.map(|body| kept(body, || Ok(Arc::new(self.told_body(id)?))))
+        body.map(|body| kept(body, || Ok(Arc::new(self.encoded_body(id)?))))
             .transpose()
     }
 
     fn try_policy(&self, id: &PolicyID) -> Result<Option<&Policy>, Refusal> {
         let policy = self.try_read()?.policies.at(id);
         policy
-            .map(|policy| kept(policy, || self.told_policy(id)))
+            .map(|policy| kept(policy, || self.read_policy(id)))
             .transpose()
     }
 
@@ -501,7 +501,7 @@ impl PolicySet {
     }
 
     // Reads a policy of the set.
-    fn told_policy(&self, id: &PolicyID) -> Result<Policy, Refusal> {
+    fn read_policy(&self, id: &PolicyID) -> Result<Policy, Refusal> {
         let template_id = PolicyID::from_smolstr(self.template_id(id)?);
         let template = self.try_body(&template_id)?.expect("a policy has a body");
         let link = (template_id != *id).then(|| id.clone());
@@ -679,9 +679,9 @@ impl PolicySet {
     /// # Errors
     ///
     /// - `Memory`: an allocation failed.
-    pub fn copy_apart(&self) -> Result<ApartPolicySet, Refusal> {
-        match self.held.copy_apart() {
-            Ok(held) => Ok(ApartPolicySet::of(held)),
+    pub fn deep_copy(&self) -> Result<PolicySetDeepCopy, Refusal> {
+        match self.held.deep_copy() {
+            Ok(held) => Ok(PolicySetDeepCopy::of(held)),
             Err(status) => Err(Refusal::new(status, Vec::new)),
         }
     }

@@ -248,7 +248,7 @@ mod tests {
     use super::*;
 
     #[test]
-    fn what_has_no_text_has_words() {
+    fn reasons_without_text_have_messages() {
         for (status, reason, text) in [
             (1, Reason::Memory, "out of memory"),
             (4, Reason::NotAUid, "not a uid"),

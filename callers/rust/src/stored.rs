@@ -1,9 +1,9 @@
 //! Stores of entities.
-use crate::apart::ApartEntities;
+use crate::apart::EntitiesDeepCopy;
 use crate::entity::Entity;
 use crate::errors::EntitiesError;
 use crate::expr::Expr;
-use crate::ffi::{Apart, Change, Held, Stores};
+use crate::ffi::{DeepCopyHandle, Change, Held, Stores};
 use crate::key::Key;
 use crate::lists::{Content, Lists};
 use crate::nodes;
@@ -65,7 +65,7 @@ pub enum TCComputation {
 /// ```
 ///
 /// A store belongs to the thread that created it: it is neither `Send` nor `Sync`. The result of
-/// [`Entities::copy_apart`] is `Send`.
+/// [`Entities::deep_copy`] is `Send`.
 ///
 /// ```compile_fail
 /// fn sends<T: Send>(_: T) {}
@@ -674,11 +674,11 @@ impl Entities {
     ///
     /// - `NotAUid`: a text is not a uid.
     /// - `Memory`: an allocation failed.
-    pub fn slice_apart<U: AsRef<str>>(
+    pub fn slice_deep_copy<U: AsRef<str>>(
         &self,
         uids: impl IntoIterator<Item = U>,
-    ) -> Result<ApartEntities, Refusal> {
-        Entities::apart(self.held.slice_apart(&Lists::of_texts(uids)))
+    ) -> Result<EntitiesDeepCopy, Refusal> {
+        Entities::apart(self.held.slice_deep_copy(&Lists::of_texts(uids)))
     }
 
     /// Returns a deep copy of the store, which can be sent to another thread. Copies the whole content of the store.
@@ -686,13 +686,13 @@ impl Entities {
     /// # Errors
     ///
     /// - `Memory`: an allocation failed.
-    pub fn copy_apart(&self) -> Result<ApartEntities, Refusal> {
-        Entities::apart(self.held.copy_apart())
+    pub fn deep_copy(&self) -> Result<EntitiesDeepCopy, Refusal> {
+        Entities::apart(self.held.deep_copy())
     }
 
-    fn apart(held: Result<Apart<Stores>, u32>) -> Result<ApartEntities, Refusal> {
+    fn apart(held: Result<DeepCopyHandle<Stores>, u32>) -> Result<EntitiesDeepCopy, Refusal> {
         match held {
-            Ok(held) => Ok(ApartEntities::of(held)),
+            Ok(held) => Ok(EntitiesDeepCopy::of(held)),
             Err(status) => Err(Refusal::new(status, Vec::new)),
         }
     }

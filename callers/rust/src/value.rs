@@ -109,7 +109,7 @@ impl Value {
 }
 
 // Moves the parts of a value onto a list. Shared parts are only released, because other values use them.
-fn take_below(kind: &mut ValueKind, pending: &mut Vec<Value>) {
+fn push_operands(kind: &mut ValueKind, pending: &mut Vec<Value>) {
     if matches!(kind, ValueKind::Lit(_) | ValueKind::ExtensionValue(_)) {
         return;
     }
@@ -126,9 +126,9 @@ impl Drop for Value {
     /// Drops the value without recursion.
     fn drop(&mut self) {
         let mut pending = Vec::new();
-        take_below(&mut self.value, &mut pending);
+        push_operands(&mut self.value, &mut pending);
         while let Some(mut value) = pending.pop() {
-            take_below(&mut value.value, &mut pending);
+            push_operands(&mut value.value, &mut pending);
         }
     }
 }

@@ -119,7 +119,7 @@ enum Piece<'a> {
 }
 
 // Pushes the parts of a value in reverse order, so that the first part is popped first.
-fn push_below<'a>(kind: &'a ValueKind, pending: &mut Vec<Piece<'a>>) {
+fn push_elements<'a>(kind: &'a ValueKind, pending: &mut Vec<Piece<'a>>) {
     let first = pending.len();
     match kind {
         ValueKind::Set(elements) => {
@@ -151,7 +151,7 @@ pub(crate) fn show(kind: &ValueKind, f: &mut fmt::Formatter<'_>) -> fmt::Result 
             Piece::Key(key) => write!(f, "\"{}\": ", escaped(key))?,
             Piece::Kind(ValueKind::Lit(literal)) => write!(f, "{literal}")?,
             Piece::Kind(ValueKind::ExtensionValue(extension)) => write!(f, "{extension}")?,
-            Piece::Kind(kind) => push_below(kind, &mut pending),
+            Piece::Kind(kind) => push_elements(kind, &mut pending),
         }
     }
     Ok(())

@@ -1,7 +1,7 @@
 //! Tests of deep copies of stores and policy sets in other threads.
 mod short;
 use cedar_store_proved::ast::{Eid, Entity, EntityType, EntityUID, PolicySet, Value};
-use cedar_store_proved::{ApartEntities, ApartPolicySet, Entities, Reason, TCComputation};
+use cedar_store_proved::{EntitiesDeepCopy, PolicySetDeepCopy, Entities, Reason, TCComputation};
 use std::sync::mpsc;
 use std::thread;
 
@@ -27,9 +27,9 @@ fn sends<T: Send>(_: &T) {}
 #[test]
 fn a_copy_goes_to_another_thread() {
     let store = chain(20);
-    let apart = store.copy_apart().unwrap();
+    let apart = store.deep_copy().unwrap();
     sends(&apart);
-    let (give, take) = mpsc::channel::<ApartEntities>();
+    let (give, take) = mpsc::channel::<EntitiesDeepCopy>();
     let other = thread::spawn(move || {
         let mut store = take.recv().unwrap().into_inner();
         assert!(store.is_descendant_of(uid("0"), uid("20")).unwrap());
@@ -39,7 +39,7 @@ fn a_copy_goes_to_another_thread() {
         );
         store.remove([uid("5")], TCComputation::ComputeNow).unwrap();
         assert!(!store.is_descendant_of(uid("0"), uid("20")).unwrap());
-        store.copy_apart().unwrap()
+        store.deep_copy().unwrap()
     });
     give.send(apart).unwrap();
     let back = other.join().unwrap().into_inner();
@@ -57,8 +57,8 @@ fn each_of_many_threads_has_one() {
     let store = chain(60).partial();
     thread::scope(|scope| {
         for from in 0..8usize {
-            let copy = store.copy_apart().unwrap();
-            let part = store.slice_apart([uid(&(from * 7).to_string())]).unwrap();
+            let copy = store.deep_copy().unwrap();
+            let part = store.slice_deep_copy([uid(&(from * 7).to_string())]).unwrap();
             scope.spawn(move || {
                 let (copy, part) = (copy.into_inner(), part.into_inner());
                 assert!(copy.is_partial() && !part.is_partial());
@@ -67,7 +67,7 @@ fn each_of_many_threads_has_one() {
                     let again = copy.try_clone().unwrap();
                     assert!(
                         again.deep_eq(&copy)
-                            && again.deep_eq(&copy.copy_apart().unwrap().into_inner())
+                            && again.deep_eq(&copy.deep_copy().unwrap().into_inner())
                     );
                     let parents: Vec<_> = part.uids().unwrap();
                     assert!(parents.iter().all(|uid| copy.contains(uid).unwrap()));
@@ -91,7 +91,7 @@ fn each_character_of_an_eid_is_copied() {
             .with_parent(uid(&text[..some[0].len_utf8()]))
     });
     let store = Entities::from_entities(entities, TCComputation::ComputeNow).unwrap();
-    let copy = store.copy_apart().unwrap().into_inner();
+    let copy = store.deep_copy().unwrap().into_inner();
     assert!(copy.deep_eq(&store));
     for uid in store.uids().unwrap() {
         assert_eq!(copy.parents(&uid).unwrap(), store.parents(&uid).unwrap());
@@ -101,10 +101,10 @@ fn each_character_of_an_eid_is_copied() {
 #[test]
 fn one_that_no_thread_takes_is_freed() {
     let store = chain(3);
-    drop(store.copy_apart().unwrap());
-    let apart = store.copy_apart().unwrap();
+    drop(store.deep_copy().unwrap());
+    let apart = store.deep_copy().unwrap();
     thread::spawn(move || drop(apart)).join().unwrap();
-    let refused = store.slice_apart(["no uid"]).map(|_| ()).unwrap_err();
+    let refused = store.slice_deep_copy(["no uid"]).map(|_| ()).unwrap_err();
     assert_eq!(refused.reason(), Reason::NotAUid);
 }
 
@@ -124,7 +124,7 @@ fn some_policies() -> PolicySet {
 #[test]
 fn a_policy_set_goes_to_another_thread() {
     let set = some_policies();
-    let mut apart: ApartPolicySet = set.copy_apart().unwrap();
+    let mut apart: PolicySetDeepCopy = set.deep_copy().unwrap();
     sends(&apart);
     let more = short::set(&["forbid s", "template o p", "link o k p"]);
     assert_eq!(apart.merge_policyset(&more, true).unwrap().len(), 1);
@@ -135,7 +135,7 @@ fn a_policy_set_goes_to_another_thread() {
         set.unlink(&short::id("k")).unwrap();
         set.remove_template(&short::id("o")).unwrap();
         set.remove_static(&short::id("policy0")).unwrap();
-        (renamed, set.to_string(), set.copy_apart().unwrap())
+        (renamed, set.to_string(), set.deep_copy().unwrap())
     });
     let (renamed, told, back) = other.join().unwrap();
     assert_eq!(renamed, cedar_store_proved::ast::Effect::Forbid);
@@ -146,21 +146,21 @@ fn a_policy_set_goes_to_another_thread() {
 #[test]
 fn orders_are_copied() {
     let mut set = some_policies();
-    assert!(set.copy_apart().unwrap().into_inner() == set);
+    assert!(set.deep_copy().unwrap().into_inner() == set);
     set.remove_static(&short::id("w")).unwrap();
     short::join(&mut set, "permit w").unwrap();
     set.unlink(&short::id("l")).unwrap();
     short::join(&mut set, "link t l pr").unwrap();
-    assert!(set.copy_apart().unwrap().into_inner() == set);
+    assert!(set.deep_copy().unwrap().into_inner() == set);
     // items of both sets keep their positions, and new items are last
     let mut other = short::set(&["template t pr", "forbid v", "link t i pr"]);
     let merged = other.merge_policyset(&set, true).unwrap();
     assert!(merged.is_empty());
-    let copy = other.copy_apart().unwrap().into_inner();
+    let copy = other.deep_copy().unwrap().into_inner();
     assert!(copy == other && copy != set);
     assert_eq!(copy.policy_ids().unwrap(), other.policy_ids().unwrap());
     assert_eq!(copy.body_ids().unwrap(), other.body_ids().unwrap());
-    assert!(PolicySet::new().copy_apart().unwrap().into_inner() == PolicySet::new());
+    assert!(PolicySet::new().deep_copy().unwrap().into_inner() == PolicySet::new());
 }
 
 // A generator of pseudorandom numbers.
@@ -204,7 +204,7 @@ fn drawn_sets_are_copied() {
             }
         }
         for set in [&one, &other] {
-            assert!(set.copy_apart().unwrap().into_inner() == *set);
+            assert!(set.deep_copy().unwrap().into_inner() == *set);
         }
     }
 }

@@ -74,7 +74,7 @@ pub enum ActionConstraint {
 #[derive(Debug, Drop, Error)]
 pub enum ActionTypesError {
     /// These uids are not actions. They are in the order of the list.
-    #[error("the action constraint holds uids that are not actions: {}", JoinedUids(.0))]
+    #[error("the action constraint holds uids that are not actions: {}", UidPairs(.0))]
     NotActions(NonEmpty<Rc<EntityUID>>),
     /// An allocation failed.
     #[error("out of memory")]
@@ -99,9 +99,9 @@ impl<T: Drop> From<AllocFailed<T>> for ActionTypesError {
 
 /// The uids of an error as its message shows them: separated by commas, without spaces. Writing does not allocate.
 #[derive(Debug, Drop)]
-pub struct JoinedUids<'a>(pub &'a NonEmpty<Rc<EntityUID>>);
+pub struct UidPairs<'a>(pub &'a NonEmpty<Rc<EntityUID>>);
 
-impl fmt::Display for JoinedUids<'_> {
+impl fmt::Display for UidPairs<'_> {
     ghost output = { λ j. uids_output (map (λ u. uid_parts u.value) (all_of j.0.now)) };
 
     fn fmt<W: fmt::Write>(&self, f: &mut fmt::Formatter<W>) -> fmt::Result {

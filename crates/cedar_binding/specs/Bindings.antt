@@ -23,12 +23,12 @@ abbrev pub binds : EnvParts → SlotId → Bool
 binds e s = is_some (bound_to e s)
 
 -- Whether an id is among some slots.
-abbrev pub is_among : List SlotId → SlotId → Bool
-is_among slots s = list_any (same_slot s) slots
+abbrev pub is_listed_id : List SlotId → SlotId → Bool
+is_listed_id slots s = list_any (same_slot s) slots
 
 -- Whether the bound ids are exactly the ids of the slots.
 abbrev pub BindsExactly : List SlotId → EnvParts → Type 0
-BindsExactly slots e = (s : SlotId) → binds e s ≡ is_among slots s
+BindsExactly slots e = (s : SlotId) → binds e s ≡ is_listed_id slots s
 
 -- The uid, if it is not an action.
 abbrev pub unless_action : UidParts → Option UidParts
@@ -50,4 +50,4 @@ unbound slots e = filter (λ s. not (binds e s)) slots
 
 -- The bound ids that are not slots, in the order of ids.
 abbrev pub extra : List SlotId → EnvParts → List SlotId
-extra slots e = filter (λ s. binds e s && not (is_among slots s)) all_slots
+extra slots e = filter (λ s. binds e s && not (is_listed_id slots s)) all_slots

@@ -2,7 +2,7 @@
 ghost use Rattle.std.specs.Prelude.{◌≡◌, ◌&&◌, ◌↔◌, [], not, IfOk, OnErr, IsTrue};
 ghost use Rattle.std.specs.Option.{option_copied, option_map};
 ghost use Rattle.cedar_ids.specs.UidOf.{uid_parts};
-ghost use Rattle.cedar_binding.specs.Bindings.{binds, is_among, unbound, extra, wrong_action};
+ghost use Rattle.cedar_binding.specs.Bindings.{binds, is_listed_id, unbound, extra, wrong_action};
 ghost use Rattle.cedar_binding.specs.Checks.{Binds};
 ghost use Rattle.cedar_binding.specs.Views.{env_of};
 
@@ -45,7 +45,7 @@ pub fn check_bindings(alloc: Global, slots: &[Slot], values: &SlotEnv) -> Result
 
 // Returns whether one of the slots has this id.
 fn has_slot(slots: &[Slot], id: SlotId) -> bool
-    ensures { result ≡ is_among slots.now id }
+    ensures { result ≡ is_listed_id slots.now id }
 {
     slots.iter().any(|slot| id == slot.id)
 }
@@ -66,7 +66,7 @@ fn unbound(alloc: Global, slots: &[Slot], values: &SlotEnv) -> Result<Vec<SlotId
 
 // Returns whether an id is bound but is not one of the slots.
 fn is_extra(slots: &[Slot], values: &SlotEnv, id: SlotId) -> bool
-    ensures { result ≡ (binds (env_of values.now) id && not (is_among slots.now id)) }
+    ensures { result ≡ (binds (env_of values.now) id && not (is_listed_id slots.now id)) }
 {
     !has_slot(slots, id) && is_bound(values, id)
 }

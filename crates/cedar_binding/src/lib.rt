@@ -15,6 +15,5 @@ pub mod slot_env;
 pub use check::check_bindings;
 pub use err::LinkingError;
 pub use slot_env::{
-    JoinedBindings, SlotEnv, bound_to, copy_of_bindings, fitted_bindings, no_bindings,
-    same_bindings,
+    BindingPairs, SlotEnv, bound_to, copy_of_bindings, fitted_bindings, no_bindings, same_bindings,
 };

@@ -73,9 +73,9 @@ pub fn same_bindings(one: &SlotEnv, other: &SlotEnv) -> bool
 ///
 /// An eid that is not ASCII is written as by `str::escape_debug`. Writing does not allocate.
 #[derive(Debug, Drop)]
-pub struct JoinedBindings<'a>(pub &'a SlotEnv);
+pub struct BindingPairs<'a>(pub &'a SlotEnv);
 
-impl fmt::Display for JoinedBindings<'_> {
+impl fmt::Display for BindingPairs<'_> {
     ghost output = { λ b. env_output (env_of b.0.now) };
 
     fn fmt<W: fmt::Write>(&self, f: &mut fmt::Formatter<W>) -> fmt::Result {

@@ -1,6 +1,6 @@
 pub mod Checks
 pub mod Copying
-pub mod PoliciesHeld
+pub mod PoliciesHandles
 pub mod PolicyCalls
 pub mod PolicyReads
 pub mod RefusalCalls
@@ -8,7 +8,7 @@ pub mod Runs
 pub mod StatusCalls
 pub mod Statuses
 pub mod StoreCalls
-pub mod StoreHeld
+pub mod StoreHandles
 pub mod StoreNumbers
 pub mod StoreReads
 pub mod StoreValues

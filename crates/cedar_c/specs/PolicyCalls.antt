@@ -6,10 +6,10 @@ use Rattle.std.specs.Option.{IsSomeAnd}
 use Rattle.cedar_policy_set.specs.SetEquality.{same_policy_set}
 use Rattle.cedar_policy_maps.specs.PolicySets.{SetParts}
 use Rattle.cedar_c_lists.specs.Answers.{spans_from}
-use Rattle.cedar_c_lists.specs.Reasons.{status_of, Tells}
+use Rattle.cedar_c_lists.specs.Reasons.{status_of, WritesBool}
 use Rattle.cedar_c_trees.specs.declared.node.Node.{Node}
 use Rattle.cedar_c_sets.specs.Sets.{IsUntold}
-use Rattle.cedar_c_sets.specs.declared.kept_set.KeptSet.{KeptSet}
+use Rattle.cedar_c_sets.specs.declared.set_state.SetState.{SetState}
 use Rattle.cedar_keyed_hash.specs.declared.KeyedHasher.{KeyedHasher}
 use Rattle.cedar_keyed_hash.specs.declared.KeyedState.{KeyedState}
 use Rattle.cedar_c_lists.specs.declared.layout.Span.{Span}
@@ -20,8 +20,8 @@ use Rattle.cedar_c.specs.Statuses.{ok, closed}
 use Rattle.cedar_c.specs.declared.policies_handle.Inner.{Inner}
 
 -- The contents of an open handle: a policy set that hashes with a key, and its last results.
-abbrev pub Kept : Type 0
-Kept = KeptSet KeyedState KeyedHasher
+abbrev pub HandleState : Type 0
+HandleState = SetState KeyedState KeyedHasher
 
 -- Holds if the handle is open and has this policy set.
 abbrev pub HasSet : SetParts → Option Inner → Type 0
@@ -33,30 +33,30 @@ HasNoTexts o = IsSomeAnd o (λ i. IsUntold i.kept)
 
 -- Holds for a call with the effect P on the contents of a handle. n is the status of its result. On a closed handle the
 -- status is `closed`, and nothing changes.
-abbrev pub Changes : (Result (Unit {0}) Reason → Kept → Kept → Type 0) → Option Inner → ℕ → Option Inner → Type 0
+abbrev pub Changes : (Result (Unit {0}) Reason → HandleState → HandleState → Type 0) → Option Inner → ℕ → Option Inner → Type 0
 Changes P None n new = (n ≡ closed) × (new ≡ None)
 Changes P (Some i) n new = (r : Result (Unit {0}) Reason) × (n ≡ status_of r)
     × ((j : Inner) × (new ≡ Some j) × P r i.kept j.kept)
 
 -- Holds if the handle has a new result, or if there was an error and the handle is unchanged.
-abbrev pub IsFilled : Result Kept Reason → Option Inner → Option Inner → Type 0
+abbrev pub IsFilled : Result HandleState Reason → Option Inner → Option Inner → Type 0
 IsFilled (Ok k) old new = (j : Inner) × (new ≡ Some j) × (j.kept ≡ k)
 IsFilled (Err w) old new = new ≡ old
 
 -- Holds if a handle is filled with a result and n is the status. If an allocation fails, n is the status of that, and
 -- the handle is unchanged.
-abbrev pub FillsBy : Result Kept Reason → Option Inner → ℕ → Option Inner → Type 0
-FillsBy made old n new = (r : Result Kept Reason) × (n ≡ status_of r) × IsFilled r old new
+abbrev pub FillsBy : Result HandleState Reason → Option Inner → ℕ → Option Inner → Type 0
+FillsBy made old n new = (r : Result HandleState Reason) × (n ≡ status_of r) × IsFilled r old new
     × ((r ≡ made) ⊎ (r ≡ Err NoMemory))
 
 -- Holds for a call that fills a handle with a result of the policy set of another handle. If the other handle is
 -- closed, the status is `closed`, and nothing changes.
-abbrev pub Fills : (SetParts → Result Kept Reason → Type 0) → Option Inner → ℕ → Option Inner → Option Inner → Type 0
+abbrev pub Fills : (SetParts → Result HandleState Reason → Type 0) → Option Inner → ℕ → Option Inner → Option Inner → Type 0
 Fills P None n old new = (n ≡ closed) × (new ≡ old)
-Fills P (Some i) n old new = (r : Result Kept Reason) × (n ≡ status_of r) × IsFilled r old new × P i.kept.set r
+Fills P (Some i) n old new = (r : Result HandleState Reason) × (n ≡ status_of r) × IsFilled r old new × P i.kept.set r
 
 -- Holds if a result was moved to a box. Otherwise w is the error of the result, or `NoMemory`.
-abbrev pub Boxes : Result Kept Reason → Result (Box Inner) Reason → Type 0
+abbrev pub Boxes : Result HandleState Reason → Result (Box Inner) Reason → Type 0
 Boxes made (Ok b) = made ≡ Ok b.value.kept
 Boxes made (Err w) = (made ≡ Err w) ⊎ (w ≡ NoMemory)
 
@@ -69,7 +69,7 @@ Compares (Some i) (Some j) n old new = (n ≡ ok) × (new ≡ same_policy_set i.
 
 -- Holds for a call with an effect that depends on the policy set of another handle. If one of the handles is closed,
 -- the status is `closed`, and nothing changes.
-abbrev pub ChangesBy : (SetParts → Result (Unit {0}) Reason → Kept → Kept → Type 0) → Option Inner → Option Inner → ℕ
+abbrev pub ChangesBy : (SetParts → Result (Unit {0}) Reason → HandleState → HandleState → Type 0) → Option Inner → Option Inner → ℕ
     → Option Inner → Type 0
 ChangesBy P other None n new = (n ≡ closed) × (new ≡ None)
 ChangesBy P None (Some i) n new = (n ≡ closed) × (new ≡ Some i)
@@ -91,6 +91,6 @@ CopiesNodes None from old told new = (told ≡ 0) × (new ≡ old)
 CopiesNodes (Some i) from old told new = CopiesOut i.kept.nodes.items from old told new
 
 -- Holds for a call that copies the text of the last error. A closed handle has none.
-abbrev pub CopiesRefusal : Option Inner → List ℕ → ℕ → List ℕ → Type 0
-CopiesRefusal None old told new = (told ≡ 0) × (new ≡ old)
-CopiesRefusal (Some i) old told new = CopiesOut i.kept.refusal.items 0 old told new
+abbrev pub CopiesErrorText : Option Inner → List ℕ → ℕ → List ℕ → Type 0
+CopiesErrorText None old told new = (told ≡ 0) × (new ≡ old)
+CopiesErrorText (Some i) old told new = CopiesOut i.kept.refusal.items 0 old told new

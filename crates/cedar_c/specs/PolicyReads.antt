@@ -2,31 +2,31 @@
 -- contents.
 use Rattle.std.specs.Prelude.{◌≡◌, ℕ, Bool, Option, Some, None, Result}
 use Rattle.cedar_policy_maps.specs.PolicySets.{SetParts}
-use Rattle.cedar_c_lists.specs.Reasons.{Tells}
-use Rattle.cedar_c_lists.specs.StatusTexts.{TellsValue}
+use Rattle.cedar_c_lists.specs.Reasons.{WritesBool}
+use Rattle.cedar_c_lists.specs.StatusTexts.{WritesValue}
 use Rattle.cedar_c_lists.specs.declared.reason.Reason.{Reason}
 use Rattle.cedar_c.specs.Statuses.{closed}
-use Rattle.cedar_c.specs.PolicyCalls.{Kept}
+use Rattle.cedar_c.specs.PolicyCalls.{HandleState}
 use Rattle.cedar_c.specs.declared.policies_handle.Inner.{Inner}
 
 -- Holds for a call that writes a number about the policy set of a handle. On a closed handle the status is `closed`.
 -- After an error nothing is written.
 abbrev pub CountsHandle : (SetParts → Result ℕ Reason → Type 0) → Option Inner → ℕ → ℕ → ℕ → Type 0
 CountsHandle P None n old new = (n ≡ closed) × (new ≡ old)
-CountsHandle P (Some i) n old new = (r : Result ℕ Reason) × TellsValue r n old new × P i.kept.set r
+CountsHandle P (Some i) n old new = (r : Result ℕ Reason) × WritesValue r n old new × P i.kept.set r
 
 -- Holds for a call with the effect P on the contents of a handle, which also writes a Boolean. On a closed handle the
 -- status is `closed`. After an error no Boolean is written.
-abbrev pub ChangesAndTells : (Result Bool Reason → Kept → Kept → Type 0) → Option Inner → ℕ → Option Inner → Bool → Bool
+abbrev pub ChangesAndReports : (Result Bool Reason → HandleState → HandleState → Type 0) → Option Inner → ℕ → Option Inner → Bool → Bool
     → Type 0
-ChangesAndTells P None n new before told = (n ≡ closed) × (new ≡ None) × (told ≡ before)
-ChangesAndTells P (Some i) n new before told = (r : Result Bool Reason) × Tells r n before told
+ChangesAndReports P None n new before told = (n ≡ closed) × (new ≡ None) × (told ≡ before)
+ChangesAndReports P (Some i) n new before told = (r : Result Bool Reason) × WritesBool r n before told
     × ((j : Inner) × (new ≡ Some j) × P r i.kept j.kept)
 
 -- Holds for a call with the effect P on the contents of a handle, which also writes a number. On a closed handle the
 -- status is `closed`. After an error no number is written.
-abbrev pub ChangesAndCounts : (Result ℕ Reason → Kept → Kept → Type 0) → Option Inner → ℕ → Option Inner → ℕ → ℕ
+abbrev pub ChangesAndCounts : (Result ℕ Reason → HandleState → HandleState → Type 0) → Option Inner → ℕ → Option Inner → ℕ → ℕ
     → Type 0
 ChangesAndCounts P None n new before told = (n ≡ closed) × (new ≡ None) × (told ≡ before)
-ChangesAndCounts P (Some i) n new before told = (r : Result ℕ Reason) × TellsValue r n before told
+ChangesAndCounts P (Some i) n new before told = (r : Result ℕ Reason) × WritesValue r n before told
     × ((j : Inner) × (new ≡ Some j) × P r i.kept j.kept)

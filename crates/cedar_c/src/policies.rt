@@ -3,16 +3,16 @@ ghost use Rattle.std.specs.Prelude.{◌≡◌, ◌≢◌, Option, Some, None};
 ghost use Rattle.std.specs.Option.{is_some, option_map};
 ghost use Rattle.cedar_policy_maps.specs.PolicySets.{empty_set};
 ghost use Rattle.cedar_policy_set.specs.Steps.{remove_static_step, remove_template_step, unlink_step};
-ghost use Rattle.cedar_c_sets.specs.Sets.{AddsStatic, AddsTemplate, CopiesSet, Links, ListsIds, MergesSet, Takes};
+ghost use Rattle.cedar_c_sets.specs.Sets.{AddsStatic, AddsTemplate, CopiesSet, Links, ListsIds, MergesSet, RemovesById};
 ghost use Rattle.cedar_c.specs.Statuses.{ok, no_memory};
-ghost use Rattle.cedar_c.specs.PolicyCalls.{Boxes, Changes, ChangesBy, Compares, CopiesAnswer, CopiesRefusal};
+ghost use Rattle.cedar_c.specs.PolicyCalls.{Boxes, Changes, ChangesBy, Compares, CopiesAnswer, CopiesErrorText};
 ghost use Rattle.cedar_c.specs.PolicyCalls.{CopiesSpans, Fills, FillsBy, HasSet, HasNoTexts};
 
 use crate::copying::copy_out;
 use crate::keys::hasher_of;
 use crate::policies_handle::{Held, Inner};
 use cedar_c_lists::{Reason, Span, status_of};
-use cedar_c_sets::KeptSet;
+use cedar_c_sets::SetState;
 use cedar_keyed_hash::KeyedState;
 use std::alloc::Global;
 use std::boxed::Box;
@@ -66,7 +66,7 @@ pub(crate) fn take(alloc: Global, handle: &mut Policies) -> Option<Box<Inner, Gl
 // Moves a result to a box.
 fn boxed(
     alloc: Global,
-    made: Result<KeptSet<KeyedState>, Reason>,
+    made: Result<SetState<KeyedState>, Reason>,
 ) -> Result<Box<Inner, Global>, Reason>
     ensures { Boxes made result }
 {
@@ -78,7 +78,7 @@ fn boxed(
 pub(crate) fn fill(
     alloc: Global,
     handle: &mut Policies,
-    made: Result<KeptSet<KeyedState>, Reason>,
+    made: Result<SetState<KeyedState>, Reason>,
 ) -> u32
     ensures { FillsBy made handle.old.held.value result handle.new.held.value }
 {
@@ -111,7 +111,8 @@ pub extern "C" fn cedar_policies_new(
     ensures untold { result ≡ ok → HasNoTexts handle.new.held.value }
     ensures err { result ≢ ok → (result ≡ no_memory) × (handle.new.held.value ≡ handle.old.held.value) }
 {
-    fill(alloc, handle, Ok(KeptSet::new(alloc, hasher_of(seed, key))))
+    let state = SetState::new(alloc, hasher_of(seed, key));
+    fill(alloc, handle, Ok(state))
 }
 
 /// Frees the contents of the handle, and closes it. A closed handle stays closed.
@@ -229,7 +230,7 @@ pub extern "C" fn cedar_policies_link(
 /// After an error only the text of the last error can have changed.
 #[unsafe(no_mangle)]
 pub extern "C" fn cedar_policies_unlink(alloc: Global, handle: &mut Policies, id: &[u8]) -> u32
-    ensures { Changes (Takes unlink_step id.now) handle.old.held.value result handle.new.held.value }
+    ensures { Changes (RemovesById unlink_step id.now) handle.old.held.value result handle.new.held.value }
 {
     let Some(mut inner) = take(alloc, handle) else {
         return CLOSED;
@@ -256,7 +257,7 @@ pub extern "C" fn cedar_policies_remove_static(
     handle: &mut Policies,
     id: &[u8],
 ) -> u32
-    ensures { Changes (Takes remove_static_step id.now) handle.old.held.value result handle.new.held.value }
+    ensures { Changes (RemovesById remove_static_step id.now) handle.old.held.value result handle.new.held.value }
 {
     let Some(mut inner) = take(alloc, handle) else {
         return CLOSED;
@@ -284,7 +285,7 @@ pub extern "C" fn cedar_policies_remove_template(
     handle: &mut Policies,
     id: &[u8],
 ) -> u32
-    ensures { Changes (Takes remove_template_step id.now) handle.old.held.value result handle.new.held.value }
+    ensures { Changes (RemovesById remove_template_step id.now) handle.old.held.value result handle.new.held.value }
 {
     let Some(mut inner) = take(alloc, handle) else {
         return CLOSED;
@@ -450,7 +451,7 @@ pub extern "C" fn cedar_policies_refusal(
     out: &mut [u8],
 ) -> usize
     ensures same { handle.new.held.value ≡ handle.old.held.value }
-    ensures copies { CopiesRefusal handle.old.held.value out.old result out.new }
+    ensures copies { CopiesErrorText handle.old.held.value out.old result out.new }
 {
     let Some(inner) = take(alloc, handle) else {
         return 0;

@@ -4,12 +4,12 @@ ghost use Rattle.cedar_c_sets.specs.BodyCalls.{AddsStaticWith, AddsTemplateWith}
 ghost use Rattle.cedar_c_sets.specs.Clauses.{AnswersClause, AnswersCondition};
 ghost use Rattle.cedar_c_sets.specs.Scopes.{AnswersScope};
 ghost use Rattle.cedar_c.specs.PolicyCalls.{Changes, CopiesNodes};
-ghost use Rattle.cedar_c.specs.PolicyReads.{ChangesAndCounts, ChangesAndTells};
+ghost use Rattle.cedar_c.specs.PolicyReads.{ChangesAndCounts, ChangesAndReports};
 
 use crate::copying::copy_out;
 use crate::policies::{CLOSED, Policies, opened, take};
 use cedar_c_bodies::{AnnotationAt, Body, BodyLists};
-use cedar_c_lists::{Span, status_of, tell, tell_value};
+use cedar_c_lists::{Span, status_of, write_bool, write_result};
 use cedar_c_trees::Node;
 use std::alloc::Global;
 
@@ -132,7 +132,7 @@ pub extern "C" fn cedar_policies_scope(
     };
     let answer = inner.kept.scope(alloc, id, which);
     *handle = opened(inner);
-    tell_value(answer, kind)
+    write_result(answer, kind)
 }
 
 /// Writes to `has` whether the policy or template with an id has a clause. If it has, stores the nodes of the clause,
@@ -153,7 +153,7 @@ pub extern "C" fn cedar_policies_clause(
     id: &[u8],
     has: &mut bool,
 ) -> u32
-    ensures { ChangesAndTells (AnswersClause id.now)
+    ensures { ChangesAndReports (AnswersClause id.now)
         handle.old.held.value result handle.new.held.value has.old has.new }
 {
     let Some(mut inner) = take(alloc, handle) else {
@@ -161,7 +161,7 @@ pub extern "C" fn cedar_policies_clause(
     };
     let answer = inner.kept.clause(alloc, id);
     *handle = opened(inner);
-    tell(answer, has)
+    write_bool(answer, has)
 }
 
 /// Stores the nodes of the condition of the policy or template with an id, and their text as the answer.

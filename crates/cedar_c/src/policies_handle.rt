@@ -1,10 +1,10 @@
 // A policy set at an address that can be passed to C.
 ghost use Rattle.std.specs.Prelude.{◌≡◌, Option, Some, None, IsSome};
 ghost use Rattle.cedar_c.specs.declared.policies_handle.Inner.{Inner as Inside};
-ghost use Rattle.cedar_c.specs.PoliciesHeld.{held_owns, held_coded};
+ghost use Rattle.cedar_c.specs.PoliciesHandles.{held_owns, held_coded};
 
 use crate::parts::Parts;
-use cedar_c_sets::KeptSet;
+use cedar_c_sets::SetState;
 use cedar_keyed_hash::KeyedState;
 use std::alloc::Global;
 use std::boxed::Box;
@@ -15,7 +15,7 @@ use std::ptr;
 #[derive(Drop)]
 pub struct Inner {
     /// A policy set that hashes with the key of the caller, with its last results.
-    pub kept: KeptSet<KeyedState>,
+    pub kept: SetState<KeyedState>,
 }
 
 /// A box, or nothing.

@@ -1,15 +1,15 @@
 //! Calls that read the policy set of a handle: the policy or template with an id, texts, and validation.
 ghost use Rattle.std.specs.Prelude.{◌≡◌};
 ghost use Rattle.cedar_c_sets.specs.Reads.{AnswersAnnotation, AnswersAt, AnswersLinked, AnswersText, AreAnnotations};
-ghost use Rattle.cedar_c_sets.specs.Reads.{AreBoundIn, AsksAt, IsBodyText, IsEffectOf, IsPolicyText, IsSlotsOf};
+ghost use Rattle.cedar_c_sets.specs.Reads.{AreBoundIn, ReadsAt, IsBodyText, IsEffectOf, IsPolicyText, IsSlotsOf};
 ghost use Rattle.cedar_c_sets.specs.Reads.{IsTemplateId, KindAt, body_at, bound_body, policy_at};
 ghost use Rattle.cedar_c_sets.specs.Unknowns.{AreUnknownIn};
 ghost use Rattle.cedar_c_sets.specs.Validity.{Validates};
 ghost use Rattle.cedar_c.specs.PolicyCalls.{Changes};
-ghost use Rattle.cedar_c.specs.PolicyReads.{ChangesAndTells, CountsHandle};
+ghost use Rattle.cedar_c.specs.PolicyReads.{ChangesAndReports, CountsHandle};
 
 use crate::policies::{CLOSED, Policies, opened, take};
-use cedar_c_lists::{status_of, tell, tell_value};
+use cedar_c_lists::{status_of, write_bool, write_result};
 use std::alloc::Global;
 
 /// Writes the kind of an id to `told`: 1 for a static policy, 2 for a link, 3 for a template, and 0 if the id is not in
@@ -37,7 +37,7 @@ pub extern "C" fn cedar_policies_get(
     };
     let answer = inner.kept.kind(alloc, id);
     *handle = opened(inner);
-    tell_value(answer, told)
+    write_result(answer, told)
 }
 
 /// Writes the effect of the policy or template with an id to `told`: 0 is permit, 1 is forbid.
@@ -58,7 +58,7 @@ pub extern "C" fn cedar_policies_effect(
     told: &mut u32,
 ) -> u32
     ensures same { handle.new.held.value ≡ handle.old.held.value }
-    ensures tells { CountsHandle (λ b r. AsksAt bound_body IsEffectOf b id.now r)
+    ensures tells { CountsHandle (λ b r. ReadsAt bound_body IsEffectOf b id.now r)
         handle.old.held.value result told.old told.new }
 {
     let Some(inner) = take(alloc, handle) else {
@@ -66,7 +66,7 @@ pub extern "C" fn cedar_policies_effect(
     };
     let answer = inner.kept.effect(alloc, id);
     *handle = opened(inner);
-    tell_value(answer, told)
+    write_result(answer, told)
 }
 
 /// Writes the slots of the static policy or the template with an id to `told`, as a sum: 1 for the principal, 2 for the
@@ -88,7 +88,7 @@ pub extern "C" fn cedar_policies_slots(
     told: &mut u32,
 ) -> u32
     ensures same { handle.new.held.value ≡ handle.old.held.value }
-    ensures tells { CountsHandle (λ b r. AsksAt body_at IsSlotsOf b id.now r)
+    ensures tells { CountsHandle (λ b r. ReadsAt body_at IsSlotsOf b id.now r)
         handle.old.held.value result told.old told.new }
 {
     let Some(inner) = take(alloc, handle) else {
@@ -96,7 +96,7 @@ pub extern "C" fn cedar_policies_slots(
     };
     let answer = inner.kept.slots(alloc, id);
     *handle = opened(inner);
-    tell_value(answer, told)
+    write_result(answer, told)
 }
 
 /// Writes to `has` whether the policy or template with an id has an annotation with a key. Stores its value as the
@@ -119,7 +119,7 @@ pub extern "C" fn cedar_policies_annotation(
     key: &[u8],
     has: &mut bool,
 ) -> u32
-    ensures { ChangesAndTells (AnswersAnnotation id.now key.now)
+    ensures { ChangesAndReports (AnswersAnnotation id.now key.now)
         handle.old.held.value result handle.new.held.value has.old has.new }
 {
     let Some(mut inner) = take(alloc, handle) else {
@@ -127,7 +127,7 @@ pub extern "C" fn cedar_policies_annotation(
     };
     let answer = inner.kept.annotation(alloc, id, key);
     *handle = opened(inner);
-    tell(answer, has)
+    write_bool(answer, has)
 }
 
 /// Stores the annotations of the policy or template with an id as the answer, in order of key: each key, followed by

@@ -1,8 +1,8 @@
 //! Calls on the text of an error, and the position of an invalid uid in a list. They need no handle.
-ghost use Rattle.cedar_c.specs.RefusalCalls.{ChecksUids, TellsPart};
+ghost use Rattle.cedar_c.specs.RefusalCalls.{ChecksUids, ReportsPart};
 
+use cedar_c_errors::{first_unread, part_of};
 use cedar_c_lists::Span;
-use cedar_c_refusals::{first_unread, part_of};
 use std::alloc::Global;
 
 /// Writes the span of the name at position `place` in the text of an error with a status to `part`. Returns whether
@@ -15,7 +15,7 @@ pub extern "C" fn cedar_refusal_part(
     place: usize,
     part: &mut Span,
 ) -> bool
-    ensures { TellsPart status text.now place result part.old part.new }
+    ensures { ReportsPart status text.now place result part.old part.new }
 {
     match part_of(status, text, place) {
         Some(found) => {

@@ -1,19 +1,19 @@
 //! Calls on handles of stores of entities.
 ghost use Rattle.std.specs.Prelude.{◌≡◌, ◌≢◌, Option, Some, None};
 ghost use Rattle.std.specs.Option.{is_some, option_map};
-ghost use Rattle.cedar_entity_maps.specs.World.{empty_world};
+ghost use Rattle.cedar_entity_maps.specs.InputStore.{empty_input};
 ghost use Rattle.cedar_entity.specs.View.{has_ancestor};
-ghost use Rattle.cedar_c_stores.specs.Stores.{AddsListed, Asks, AsksFor, BuildsListed, Copies, IsAbove, IsParent};
+ghost use Rattle.cedar_c_stores.specs.Stores.{AddsListed, ReadsAncestry, ReadsPresence, BuildsListed, Copies, IsAncestorIn, IsParent};
 ghost use Rattle.cedar_c_stores.specs.Stores.{Listing, RemovesListed, SlicesAt, UpsertsListed, Validates, has_parent};
 ghost use Rattle.cedar_c.specs.Statuses.{ok, no_memory};
-ghost use Rattle.cedar_c.specs.StoreCalls.{AsksHandle, Boxes, Changes, Compares, CopiesAnswer, CopiesRefusal};
-ghost use Rattle.cedar_c.specs.StoreCalls.{CopiesSpans, Counts, Fills, FillsBy, HasNoTexts, HasWorld};
+ghost use Rattle.cedar_c.specs.StoreCalls.{ReadsBoolOfStore, Boxes, Changes, Compares, CopiesAnswer, CopiesErrorText};
+ghost use Rattle.cedar_c.specs.StoreCalls.{CopiesSpans, Counts, Fills, FillsBy, HasNoTexts, HasInputStore};
 
 use crate::copying::copy_out;
 use crate::keys::hasher_of;
 use crate::store_handle::{Held, Inner};
-use cedar_c_lists::{Edge, Reason, Span, status_of, tell};
-use cedar_c_stores::{EntityLists, KeptStore};
+use cedar_c_lists::{Edge, Reason, Span, status_of, write_bool};
+use cedar_c_stores::{EntityLists, StoreState};
 use cedar_keyed_hash::KeyedState;
 use std::alloc::Global;
 use std::boxed::Box;
@@ -67,7 +67,7 @@ pub(crate) fn take(alloc: Global, handle: &mut Store) -> Option<Box<Inner, Globa
 // Moves a result to a box.
 fn boxed(
     alloc: Global,
-    made: Result<KeptStore<KeyedState>, Reason>,
+    made: Result<StoreState<KeyedState>, Reason>,
 ) -> Result<Box<Inner, Global>, Reason>
     ensures { Boxes made result }
 {
@@ -79,7 +79,7 @@ fn boxed(
 pub(crate) fn fill(
     alloc: Global,
     handle: &mut Store,
-    made: Result<KeptStore<KeyedState>, Reason>,
+    made: Result<StoreState<KeyedState>, Reason>,
 ) -> u32
     ensures { FillsBy made handle.old.held.value result handle.new.held.value }
 {
@@ -103,14 +103,14 @@ pub(crate) fn fill(
 /// After an error the handle is unchanged.
 #[unsafe(no_mangle)]
 pub extern "C" fn cedar_store_new(alloc: Global, handle: &mut Store, seed: u64, key: u64) -> u32
-    ensures new { result ≡ ok → HasWorld empty_world handle.new.held.value }
+    ensures new { result ≡ ok → HasInputStore empty_input handle.new.held.value }
     ensures untold { result ≡ ok → HasNoTexts handle.new.held.value }
     ensures err { result ≢ ok → (result ≡ no_memory) × (handle.new.held.value ≡ handle.old.held.value) }
 {
     fill(
         alloc,
         handle,
-        Ok(KeptStore::new(alloc, hasher_of(seed, key))),
+        Ok(StoreState::new(alloc, hasher_of(seed, key))),
     )
 }
 
@@ -310,14 +310,14 @@ pub extern "C" fn cedar_store_has(
     answer: &mut bool,
 ) -> u32
     ensures same { handle.new.held.value ≡ handle.old.held.value }
-    ensures asks { AsksHandle (λ S r. AsksFor S uid.now r) handle.old.held.value result answer.old answer.new }
+    ensures asks { ReadsBoolOfStore (λ S r. ReadsPresence S uid.now r) handle.old.held.value result answer.old answer.new }
 {
     let Some(mut inner) = take(alloc, handle) else {
         return CLOSED;
     };
     let told = inner.kept.has(alloc, uid);
     *handle = opened(inner);
-    tell(told, answer)
+    write_bool(told, answer)
 }
 
 /// Writes to `answer` whether the entity with the uid in `child` is a descendant of the uid in `ancestor`.
@@ -339,15 +339,15 @@ pub extern "C" fn cedar_store_is_descendant_of(
     answer: &mut bool,
 ) -> u32
     ensures same { handle.new.held.value ≡ handle.old.held.value }
-    ensures asks { AsksHandle
-        (λ S r. Asks S child.now ancestor.now r) handle.old.held.value result answer.old answer.new }
+    ensures asks { ReadsBoolOfStore
+        (λ S r. ReadsAncestry S child.now ancestor.now r) handle.old.held.value result answer.old answer.new }
 {
     let Some(mut inner) = take(alloc, handle) else {
         return CLOSED;
     };
     let told = inner.kept.is_descendant_of(alloc, child, ancestor);
     *handle = opened(inner);
-    tell(told, answer)
+    write_bool(told, answer)
 }
 
 /// Stores the ancestors of the entity with a uid as the answer, in ascending order of uid.
@@ -362,7 +362,7 @@ pub extern "C" fn cedar_store_is_descendant_of(
 /// After an error nothing has changed.
 #[unsafe(no_mangle)]
 pub extern "C" fn cedar_store_ancestors(alloc: Global, handle: &mut Store, uid: &[u8]) -> u32
-    ensures { Changes (Listing has_ancestor IsAbove uid.now) handle.old.held.value result handle.new.held.value }
+    ensures { Changes (Listing has_ancestor IsAncestorIn uid.now) handle.old.held.value result handle.new.held.value }
 {
     let Some(mut inner) = take(alloc, handle) else {
         return CLOSED;
@@ -547,7 +547,7 @@ pub extern "C" fn cedar_store_answer_spans(
 #[unsafe(no_mangle)]
 pub extern "C" fn cedar_store_refusal(alloc: Global, handle: &mut Store, out: &mut [u8]) -> usize
     ensures same { handle.new.held.value ≡ handle.old.held.value }
-    ensures copies { CopiesRefusal handle.old.held.value out.old result out.new }
+    ensures copies { CopiesErrorText handle.old.held.value out.old result out.new }
 {
     let Some(inner) = take(alloc, handle) else {
         return 0;

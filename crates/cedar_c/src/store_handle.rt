@@ -1,10 +1,10 @@
 // A store of entities at an address that can be passed to C.
 ghost use Rattle.std.specs.Prelude.{◌≡◌, Option, Some, None, IsSome};
 ghost use Rattle.cedar_c.specs.declared.store_handle.Inner.{Inner as Inside};
-ghost use Rattle.cedar_c.specs.StoreHeld.{held_owns, held_coded};
+ghost use Rattle.cedar_c.specs.StoreHandles.{held_owns, held_coded};
 
 use crate::parts::Parts;
-use cedar_c_stores::KeptStore;
+use cedar_c_stores::StoreState;
 use cedar_keyed_hash::KeyedState;
 use std::alloc::Global;
 use std::boxed::Box;
@@ -15,7 +15,7 @@ use std::ptr;
 #[derive(Drop)]
 pub struct Inner {
     /// A store that hashes with the key of the caller, with its last results.
-    pub kept: KeptStore<KeyedState>,
+    pub kept: StoreState<KeyedState>,
 }
 
 /// A box, or nothing.

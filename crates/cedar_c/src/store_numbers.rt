@@ -1,11 +1,11 @@
 //! Calls on handles of stores by the numbers of uids.
 ghost use Rattle.std.specs.Prelude.{◌≡◌};
-ghost use Rattle.cedar_c_stores.specs.Numbers.{AsksForNumber, AsksNumbers, GivesNumber, NamesNumber};
+ghost use Rattle.cedar_c_stores.specs.Numbers.{ReadsPresenceByNumber, ReadsAncestryByNumbers, ReturnsNumber, NamesNumber};
 ghost use Rattle.cedar_c.specs.StoreCalls.{Changes};
-ghost use Rattle.cedar_c.specs.StoreNumbers.{AsksKept, GivesFrom};
+ghost use Rattle.cedar_c.specs.StoreNumbers.{ReadsBoolOfState, WritesNumber};
 
 use crate::store::{CLOSED, Store, opened, take};
-use cedar_c_lists::{status_of, tell, tell_value};
+use cedar_c_lists::{status_of, write_bool, write_result};
 use std::alloc::Global;
 
 /// Writes the number of a uid to `number`. Later calls with the same uid write the same number.
@@ -24,7 +24,7 @@ pub extern "C" fn cedar_store_uid_number(
     uid: &[u8],
     number: &mut usize,
 ) -> u32
-    ensures { GivesFrom (GivesNumber uid.now)
+    ensures { WritesNumber (ReturnsNumber uid.now)
         handle.old.held.value result handle.new.held.value number.old number.new }
 {
     let Some(mut inner) = take(alloc, handle) else {
@@ -32,7 +32,7 @@ pub extern "C" fn cedar_store_uid_number(
     };
     let told = inner.kept.uid_number(alloc, uid);
     *handle = opened(inner);
-    tell_value(told, number)
+    write_result(told, number)
 }
 
 /// Stores the text of the uid of a number as the answer.
@@ -72,7 +72,7 @@ pub extern "C" fn cedar_store_has_number(
     answer: &mut bool,
 ) -> u32
     ensures same { handle.new.held.value ≡ handle.old.held.value }
-    ensures asks { AsksKept (λ k r. AsksForNumber k.store k.numbers number r)
+    ensures asks { ReadsBoolOfState (λ k r. ReadsPresenceByNumber k.store k.numbers number r)
         handle.old.held.value result answer.old answer.new }
 {
     let Some(inner) = take(alloc, handle) else {
@@ -80,7 +80,7 @@ pub extern "C" fn cedar_store_has_number(
     };
     let told = inner.kept.has_number(number);
     *handle = opened(inner);
-    tell(told, answer)
+    write_bool(told, answer)
 }
 
 /// Writes to `answer` whether the entity with the uid of the number `child` is a descendant of the uid of the number
@@ -102,7 +102,7 @@ pub extern "C" fn cedar_store_is_descendant_of_numbers(
     answer: &mut bool,
 ) -> u32
     ensures same { handle.new.held.value ≡ handle.old.held.value }
-    ensures asks { AsksKept (λ k r. AsksNumbers k.store k.numbers child ancestor r)
+    ensures asks { ReadsBoolOfState (λ k r. ReadsAncestryByNumbers k.store k.numbers child ancestor r)
         handle.old.held.value result answer.old answer.new }
 {
     let Some(inner) = take(alloc, handle) else {
@@ -110,5 +110,5 @@ pub extern "C" fn cedar_store_is_descendant_of_numbers(
     };
     let told = inner.kept.is_descendant_of_numbers(child, ancestor);
     *handle = opened(inner);
-    tell(told, answer)
+    write_bool(told, answer)
 }

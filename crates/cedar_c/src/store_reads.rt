@@ -1,14 +1,14 @@
 //! Calls that read the store of a handle or one of its entities.
 ghost use Rattle.std.specs.Prelude.{◌≡◌};
 ghost use Rattle.cedar_c_stores.specs.Stores.{Listing, has_parent};
-ghost use Rattle.cedar_c_stores.specs.Reads.{AnswersAt, AnswersOf, AreAllUids, AreKeysOf, AsksAbove, AsksOne};
-ghost use Rattle.cedar_c_stores.specs.Reads.{ComparesAt, FindsAt, IsFarAbove, IsOneText, attrs_count, attrs_of};
+ghost use Rattle.cedar_c_stores.specs.Reads.{AnswersAt, AnswersOf, AreAllUids, AreKeysOf, ReadsRelation, ReadsValue};
+ghost use Rattle.cedar_c_stores.specs.Reads.{ComparesAt, FindsAt, IsIndirectAncestorIn, IsOneText, attrs_count, attrs_of};
 ghost use Rattle.cedar_c_stores.specs.Reads.{has_indirect, tags_count, tags_of};
-ghost use Rattle.cedar_c.specs.StoreCalls.{AsksHandle, Changes};
-ghost use Rattle.cedar_c.specs.StoreReads.{AsksBoth, AsksPartial, BecomesPartial, CountsHandle};
+ghost use Rattle.cedar_c.specs.StoreCalls.{ReadsBoolOfStore, Changes};
+ghost use Rattle.cedar_c.specs.StoreReads.{ReadsBoolOfBoth, ReadsPartial, BecomesPartial, CountsHandle};
 
 use crate::store::{CLOSED, Store, opened, take};
-use cedar_c_lists::{status_of, tell, tell_value};
+use cedar_c_lists::{status_of, write_bool, write_result};
 use std::alloc::Global;
 
 /// Stores the uids of all entities as the answer, in an unspecified order.
@@ -56,7 +56,7 @@ pub extern "C" fn cedar_store_entity(
     };
     let told = inner.kept.entity(alloc, uid);
     *handle = opened(inner);
-    tell_value(told, found)
+    write_result(told, found)
 }
 
 /// Makes the store partial. A missing entity is then unknown.
@@ -90,7 +90,7 @@ pub extern "C" fn cedar_store_is_partial(
     answer: &mut bool,
 ) -> u32
     ensures same { handle.new.held.value ≡ handle.old.held.value }
-    ensures asks { AsksPartial handle.old.held.value result answer.old answer.new }
+    ensures asks { ReadsPartial handle.old.held.value result answer.old answer.new }
 {
     let Some(inner) = take(alloc, handle) else {
         return CLOSED;
@@ -116,7 +116,7 @@ pub extern "C" fn cedar_store_indirect_ancestors(
     handle: &mut Store,
     uid: &[u8],
 ) -> u32
-    ensures { Changes (Listing has_indirect IsFarAbove uid.now) handle.old.held.value result handle.new.held.value }
+    ensures { Changes (Listing has_indirect IsIndirectAncestorIn uid.now) handle.old.held.value result handle.new.held.value }
 {
     let Some(mut inner) = take(alloc, handle) else {
         return CLOSED;
@@ -145,7 +145,7 @@ pub extern "C" fn cedar_store_is_child_of(
     answer: &mut bool,
 ) -> u32
     ensures same { handle.new.held.value ≡ handle.old.held.value }
-    ensures asks { AsksHandle (λ S r. AsksAbove has_parent S child.now parent.now r)
+    ensures asks { ReadsBoolOfStore (λ S r. ReadsRelation has_parent S child.now parent.now r)
         handle.old.held.value result answer.old answer.new }
 {
     let Some(mut inner) = take(alloc, handle) else {
@@ -153,7 +153,7 @@ pub extern "C" fn cedar_store_is_child_of(
     };
     let told = inner.kept.is_child_of(alloc, child, parent);
     *handle = opened(inner);
-    tell(told, answer)
+    write_bool(told, answer)
 }
 
 /// Writes to `answer` whether the uid in `ancestor` is an indirect ancestor of the entity with the uid in `child`.
@@ -175,7 +175,7 @@ pub extern "C" fn cedar_store_is_indirect_descendant_of(
     answer: &mut bool,
 ) -> u32
     ensures same { handle.new.held.value ≡ handle.old.held.value }
-    ensures asks { AsksHandle (λ S r. AsksAbove has_indirect S child.now ancestor.now r)
+    ensures asks { ReadsBoolOfStore (λ S r. ReadsRelation has_indirect S child.now ancestor.now r)
         handle.old.held.value result answer.old answer.new }
 {
     let Some(mut inner) = take(alloc, handle) else {
@@ -183,7 +183,7 @@ pub extern "C" fn cedar_store_is_indirect_descendant_of(
     };
     let told = inner.kept.is_indirect_descendant_of(alloc, child, ancestor);
     *handle = opened(inner);
-    tell(told, answer)
+    write_bool(told, answer)
 }
 
 /// Stores the keys of the attributes of the entity with a uid as the answer, in byte order.
@@ -249,14 +249,14 @@ pub extern "C" fn cedar_store_attrs_len(
 ) -> u32
     ensures same { handle.new.held.value ≡ handle.old.held.value }
     ensures tells { CountsHandle
-        (λ S r. AsksOne attrs_count S uid.now r) handle.old.held.value result count.old count.new }
+        (λ S r. ReadsValue attrs_count S uid.now r) handle.old.held.value result count.old count.new }
 {
     let Some(mut inner) = take(alloc, handle) else {
         return CLOSED;
     };
     let told = inner.kept.attrs_len(alloc, uid);
     *handle = opened(inner);
-    tell_value(told, count)
+    write_result(told, count)
 }
 
 /// Writes the number of tags of the entity with a uid to `count`.
@@ -278,14 +278,14 @@ pub extern "C" fn cedar_store_tags_len(
 ) -> u32
     ensures same { handle.new.held.value ≡ handle.old.held.value }
     ensures tells { CountsHandle
-        (λ S r. AsksOne tags_count S uid.now r) handle.old.held.value result count.old count.new }
+        (λ S r. ReadsValue tags_count S uid.now r) handle.old.held.value result count.old count.new }
 {
     let Some(mut inner) = take(alloc, handle) else {
         return CLOSED;
     };
     let told = inner.kept.tags_len(alloc, uid);
     *handle = opened(inner);
-    tell_value(told, count)
+    write_result(told, count)
 }
 
 /// Writes to `answer` whether the entities with a uid are deeply equal in both stores.
@@ -308,7 +308,7 @@ pub extern "C" fn cedar_store_entity_equal(
 ) -> u32
     ensures one { handle.new.held.value ≡ handle.old.held.value }
     ensures other { other.new.held.value ≡ other.old.held.value }
-    ensures asks { AsksBoth (λ S T r. ComparesAt S T uid.now r)
+    ensures asks { ReadsBoolOfBoth (λ S T r. ComparesAt S T uid.now r)
         handle.old.held.value other.old.held.value result answer.old answer.new }
 {
     let Some(mut inner) = take(alloc, handle) else {
@@ -321,7 +321,7 @@ pub extern "C" fn cedar_store_entity_equal(
     let told = inner.kept.entity_is_equal(alloc, uid, &beside.kept);
     *handle = opened(inner);
     *other = opened(beside);
-    tell(told, answer)
+    write_bool(told, answer)
 }
 
 /// Stores the text of the store, from its `Display`, as the answer.

@@ -1,7 +1,7 @@
 //! Calls on handles of stores with the content of entities: attributes, tags and indirect ancestors. Values are encoded
 //! as nodes.
 ghost use Rattle.std.specs.Prelude.{◌≡◌};
-ghost use Rattle.cedar_c_stores.specs.Contents.{AddsLaid, BuildsLaid, UpsertsLaid};
+ghost use Rattle.cedar_c_stores.specs.Contents.{AddsFromLists, BuildsFromLists, UpsertsFromLists};
 ghost use Rattle.cedar_c_stores.specs.Reads.{attrs_of, tags_of};
 ghost use Rattle.cedar_c_stores.specs.Values.{GetsAt};
 ghost use Rattle.cedar_c.specs.StoreCalls.{Changes};
@@ -9,7 +9,7 @@ ghost use Rattle.cedar_c.specs.StoreValues.{CopiesNodes, GetsFrom};
 
 use crate::copying::copy_out;
 use crate::store::{CLOSED, Store, opened, take};
-use cedar_c_lists::{Edge, Span, status_of, tell};
+use cedar_c_lists::{Edge, Span, status_of, write_bool};
 use cedar_c_stores::{Content, EntityLists, Term};
 use cedar_c_trees::Node;
 use std::alloc::Global;
@@ -44,7 +44,7 @@ pub extern "C" fn cedar_store_build_with(
     nodes: &[Node],
     mode: u32,
 ) -> u32
-    ensures { Changes (BuildsLaid (record {
+    ensures { Changes (BuildsFromLists (record {
       text = text.now;
       uids = uids.now;
       count = count;
@@ -104,7 +104,7 @@ pub extern "C" fn cedar_store_add_with(
     nodes: &[Node],
     mode: u32,
 ) -> u32
-    ensures { Changes (AddsLaid (record {
+    ensures { Changes (AddsFromLists (record {
       text = text.now;
       uids = uids.now;
       count = count;
@@ -162,7 +162,7 @@ pub extern "C" fn cedar_store_upsert_with(
     nodes: &[Node],
     mode: u32,
 ) -> u32
-    ensures { Changes (UpsertsLaid (record {
+    ensures { Changes (UpsertsFromLists (record {
       text = text.now;
       uids = uids.now;
       count = count;
@@ -219,7 +219,7 @@ pub extern "C" fn cedar_store_get(
     };
     let told = inner.kept.get(alloc, uid, key);
     *handle = opened(inner);
-    tell(told, has)
+    write_bool(told, has)
 }
 
 /// Writes to `has` whether the entity with a uid has a tag at a key. Stores the nodes and their text as
@@ -250,7 +250,7 @@ pub extern "C" fn cedar_store_get_tag(
     };
     let told = inner.kept.get_tag(alloc, uid, key);
     *handle = opened(inner);
-    tell(told, has)
+    write_bool(told, has)
 }
 
 /// Copies the nodes of the last value, from position `from` on, as many as fit. Returns the number of all nodes, which

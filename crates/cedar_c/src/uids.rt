@@ -1,5 +1,5 @@
 //! Calls that create the text of a uid from a type and an id, and split it into both. They need no handle.
-ghost use Rattle.cedar_c.specs.UidCalls.{MakesUidText, TakesUidApart};
+ghost use Rattle.cedar_c.specs.UidCalls.{WritesUidText, SplitsUid};
 
 use crate::copying::copy_out;
 use cedar_c_lists::{parts_of, uid_text};
@@ -22,7 +22,7 @@ pub extern "C" fn cedar_uid_make(
     out: &mut [u8],
     told: &mut usize,
 ) -> u32
-    ensures { MakesUidText ty.now id.now result out.old out.new told.old told.new }
+    ensures { WritesUidText ty.now id.now result out.old out.new told.old told.new }
 {
     match uid_text(alloc, ty, id) {
         Ok(text) => {
@@ -50,7 +50,7 @@ pub extern "C" fn cedar_uid_parts(
     type_len: &mut usize,
     told: &mut usize,
 ) -> u32
-    ensures { TakesUidApart text.now result out.old out.new told.old told.new type_len.old type_len.new }
+    ensures { SplitsUid text.now result out.old out.new told.old told.new type_len.old type_len.new }
 {
     match parts_of(alloc, text) {
         Ok(parts) => {

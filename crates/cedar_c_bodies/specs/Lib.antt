@@ -1,4 +1,4 @@
 pub mod Annotated
 pub mod Bodies
 pub mod Scopes
-pub mod Told
+pub mod Encoded

@@ -15,8 +15,8 @@ use Rattle.cedar_c_trees.specs.Reads.{IsNameAt}
 use Rattle.cedar_c_bodies.specs.declared.layout.Scope.{Scope}
 
 -- Holds if a part of a text is parsed as this uid.
-abbrev pub SaysUid : List ℕ → Span → UidParts → Type 0
-SaysUid text at u = (e : EntityUID) × IsReadAt text e at × (uid_parts e ≡ u)
+abbrev pub EncodesUid : List ℕ → Span → UidParts → Type 0
+EncodesUid text at u = (e : EntityUID) × IsReadAt text e at × (uid_parts e ≡ u)
 
 -- Holds if w is the reason why a part of a text is not the name of a type.
 abbrev pub IsNoTypeAt : List ℕ → Span → Reason → Type 0
@@ -38,12 +38,12 @@ IsNoTypeAt text at w =
 -- - 7: of a type and in the uid bound to the slot
 abbrev pub IsConstraintAt : List ℕ → Scope → Constraint → Type 0
 IsConstraintAt text s any = s.kind ≡ 0
-IsConstraintAt text s (equals (to_uid u)) = (s.kind ≡ 1) × SaysUid text s.uid u
+IsConstraintAt text s (equals (to_uid u)) = (s.kind ≡ 1) × EncodesUid text s.uid u
 IsConstraintAt text s (equals to_slot) = s.kind ≡ 2
-IsConstraintAt text s (within (to_uid u)) = (s.kind ≡ 3) × SaysUid text s.uid u
+IsConstraintAt text s (within (to_uid u)) = (s.kind ≡ 3) × EncodesUid text s.uid u
 IsConstraintAt text s (within to_slot) = s.kind ≡ 4
 IsConstraintAt text s (of_type t) = (s.kind ≡ 5) × IsNameAt text s.ty t
-IsConstraintAt text s (of_type_within t (to_uid u)) = (s.kind ≡ 6) × IsNameAt text s.ty t × SaysUid text s.uid u
+IsConstraintAt text s (of_type_within t (to_uid u)) = (s.kind ≡ 6) × IsNameAt text s.ty t × EncodesUid text s.uid u
 IsConstraintAt text s (of_type_within t to_slot) = (s.kind ≡ 7) × IsNameAt text s.ty t
 
 -- Holds if the kind has a uid.
@@ -71,7 +71,7 @@ IsNoConstraintAt text s w =
 -- - 4: in the uid bound to the slot
 abbrev pub IsRuleAt : List ℕ → List Span → Scope → ActionRule → Type 0
 IsRuleAt text uids s any_action = s.kind ≡ 0
-IsRuleAt text uids s (just u) = (s.kind ≡ 1) × SaysUid text s.uid u
+IsRuleAt text uids s (just u) = (s.kind ≡ 1) × EncodesUid text s.uid u
 IsRuleAt text uids s just_slot = s.kind ≡ 2
 IsRuleAt text uids s (among us) =
     (s.kind ≡ 3) × ((es : List EntityUID) × AreReadAt text es uids × (us ≡ map uid_parts es))

@@ -1,7 +1,7 @@
 //! Bodies from the lists of a caller.
 ghost use Rattle.std.specs.Prelude.{MatchResult};
-ghost use Rattle.cedar_c_bodies.specs.Bodies.{IsClauseAt, IsEffect, IsGiven, IsNoClauseAt, IsNoEffect, IsNotGiven};
-ghost use Rattle.cedar_c_bodies.specs.Bodies.{given_by};
+ghost use Rattle.cedar_c_bodies.specs.Bodies.{IsClauseAt, IsEffect, IsBodyOfInput, IsNoClauseAt, IsNoEffect, IsInvalidInput};
+ghost use Rattle.cedar_c_bodies.specs.Bodies.{input_of_lists};
 
 use crate::annotated::annotations_at;
 use crate::layout::BodyLists;
@@ -56,7 +56,7 @@ fn clause_at(alloc: Global, text: &[u8], nodes: &[Node]) -> Result<Option<Expr>,
 ///
 /// Linear in the lists and in the result, apart from sorting the keys.
 pub fn template_of(alloc: Global, id: &[u8], lists: BodyLists<'_>) -> Result<Template, Reason>
-    ensures { MatchResult result (IsGiven id.now (given_by lists.entry)) (IsNotGiven id.now (given_by lists.entry)) }
+    ensures { MatchResult result (IsBodyOfInput id.now (input_of_lists lists.entry)) (IsInvalidInput id.now (input_of_lists lists.entry)) }
 {
     let text = lists.text;
     let effect = effect_of(lists.body.effect)?;

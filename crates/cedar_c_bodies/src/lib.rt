@@ -4,11 +4,11 @@
 
 mod annotated;
 mod bodies;
+mod encode;
 mod layout;
 mod scopes;
-mod told;
 
 pub use annotated::key_of;
 pub use bodies::{effect_of, template_of};
+pub use encode::{encode_constraint, encode_rule};
 pub use layout::{AnnotationAt, Body, BodyLists, Scope};
-pub use told::{constraint_told, rule_told};

@@ -6,7 +6,7 @@ ghost use Rattle.cedar_action.specs.Views.{rule_of};
 ghost use Rattle.cedar_scope.specs.Views.{constraint_of};
 ghost use Rattle.cedar_c_lists.specs.Texts.{IsUnreadAt};
 ghost use Rattle.cedar_c_trees.specs.Reads.{IsNameAt};
-ghost use Rattle.cedar_c_bodies.specs.Scopes.{IsConstraintAt, IsNoConstraintAt, IsNoRuleAt, IsNoTypeAt, IsRuleAt, SaysUid};
+ghost use Rattle.cedar_c_bodies.specs.Scopes.{IsConstraintAt, IsNoConstraintAt, IsNoRuleAt, IsNoTypeAt, IsRuleAt, EncodesUid};
 
 use crate::layout::Scope;
 use cedar_action::ActionConstraint;
@@ -18,7 +18,7 @@ use std::rc::Rc;
 
 // Parses the uid in a part of a text, to be shared.
 fn shared_at(alloc: Global, text: &[u8], at: Span) -> Result<Rc<EntityUID>, Reason>
-    ensures { MatchResult result (λ u. SaysUid text.now at (uid_parts u.value)) (IsUnreadAt text.now at) }
+    ensures { MatchResult result (λ u. EncodesUid text.now at (uid_parts u.value)) (IsUnreadAt text.now at) }
 {
     let uid = uid_at(alloc, text, at)?;
     let shared = Rc::new(alloc, uid)?;

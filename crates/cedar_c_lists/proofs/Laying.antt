@@ -4,7 +4,7 @@ use Rattle.std.proofs.Math.Seq.{drop-append_seam, take-append_seam}
 use Rattle.std.proofs.lemmas.List.{append-nil, length-append}
 use Rattle.std.proofs.lemmas.List.Folds.{concat-append}
 use Rattle.std.specs.List.{concat}
-use Rattle.cedar_c_lists.specs.Answers.{IsLaid, part, spans_from, texts_in}
+use Rattle.cedar_c_lists.specs.Answers.{AreConcatenated, part, spans_from, texts_in}
 use Rattle.cedar_c_lists.specs.declared.layout.Span.{Span}
 
 append_assoc : {A : Type 0} (xs ys zs : List A) → (xs ++ ys) ++ zs ≡ xs ++ (ys ++ zs)
@@ -40,7 +40,7 @@ read_behind pre (t ∷ ts) =
     ∙ read_behind (pre ++ t) ts)
 
 -- Encoded texts are read back.
-pub read_back : (bytes : List ℕ) (spans : List Span) (ts : List (List ℕ)) → IsLaid bytes spans ts
+pub read_back : (bytes : List ℕ) (spans : List Span) (ts : List (List ℕ)) → AreConcatenated bytes spans ts
     → texts_in bytes spans ≡ ts
 read_back bytes spans ts l = ap (λ bs. texts_in bs spans) l.0 ∙ ap (texts_in (concat ts)) l.1 ∙ read_behind [] ts
 
@@ -56,8 +56,8 @@ spans_more k (u ∷ ts) t =
     (plus_assoc k (length u) (length (concat ts)) ∙ ap (λ n. k + n) (sym (length-append u (concat ts)))))
 
 -- The encoding of one more text.
-pub laid_more : (bytes : List ℕ) (spans : List Span) (ts : List (List ℕ)) (t : List ℕ) → IsLaid bytes spans ts →
-    IsLaid (bytes ++ t) (spans ++ record { start = length bytes; end = length (bytes ++ t) } ∷ []) (ts ++ t ∷ [])
+pub laid_more : (bytes : List ℕ) (spans : List Span) (ts : List (List ℕ)) (t : List ℕ) → AreConcatenated bytes spans ts →
+    AreConcatenated (bytes ++ t) (spans ++ record { start = length bytes; end = length (bytes ++ t) } ∷ []) (ts ++ t ∷ [])
 laid_more bytes spans ts t l = (
   ap (λ bs. bs ++ t) l.0 ∙ ap (λ bs. concat ts ++ bs) (sym (append-nil t)) ∙ sym (concat-append ts (t ∷ [])),
   ap (λ n. spans ++ record { start = length bytes; end = n } ∷ []) (length-append bytes t)
@@ -68,17 +68,17 @@ laid_more bytes spans ts t l = (
 )
 
 -- One more text is read back after the others.
-pub read_more : (bytes : List ℕ) (spans : List Span) (t : List ℕ) → IsLaid bytes spans (texts_in bytes spans) →
+pub read_more : (bytes : List ℕ) (spans : List Span) (t : List ℕ) → AreConcatenated bytes spans (texts_in bytes spans) →
     texts_in (bytes ++ t) (spans ++ record { start = length bytes; end = length (bytes ++ t) } ∷ [])
     ≡ texts_in bytes spans ++ t ∷ []
 read_more bytes spans t l = read_back _ _ _ (laid_more bytes spans (texts_in bytes spans) t l)
 
 -- The bytes and spans with one more text are its encoding.
 pub laid_with : (bytes bytes' t : List ℕ) (spans spans' : List Span) (start end : ℕ)
-    → IsLaid bytes spans (texts_in bytes spans) →
+    → AreConcatenated bytes spans (texts_in bytes spans) →
     start ≡ length bytes → bytes' ≡ bytes ++ t → end ≡ length bytes'
     → spans' ≡ spans ++ record { start = start; end = end } ∷ [] →
-    (texts_in bytes' spans' ≡ texts_in bytes spans ++ t ∷ []) × IsLaid bytes' spans' (texts_in bytes' spans')
+    (texts_in bytes' spans' ≡ texts_in bytes spans ++ t ∷ []) × AreConcatenated bytes' spans' (texts_in bytes' spans')
 laid_with bytes bytes' t spans spans' start end l from grown to longer =
     let places : spans' ≡ spans ++ record { start = length bytes; end = length (bytes ++ t) } ∷ [] =
     longer ∙ ap (λ n. spans ++ record { start = n; end = end } ∷ []) from

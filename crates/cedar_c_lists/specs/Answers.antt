@@ -17,5 +17,5 @@ spans_from k [] = []
 spans_from k (t ∷ ts) = record { start = k; end = k + length t } ∷ spans_from (k + length t) ts
 
 -- Holds if the bytes are the bytes of the texts, one after another, and the spans are the spans of the texts.
-abbrev pub IsLaid : List ℕ → List Span → List (List ℕ) → Type 0
-IsLaid bytes spans ts = (bytes ≡ concat ts) × (spans ≡ spans_from 0 ts)
+abbrev pub AreConcatenated : List ℕ → List Span → List (List ℕ) → Type 0
+AreConcatenated bytes spans ts = (bytes ≡ concat ts) × (spans ≡ spans_from 0 ts)

@@ -80,6 +80,6 @@ status_of (Err w) = number_of w
 
 -- Holds if the status is correct for a Boolean result. For `Ok` the new value is the Boolean, and otherwise it is the
 -- old value.
-abbrev pub Tells : Result Bool Reason → ℕ → Bool → Bool → Type 0
-Tells (Ok b) status old new = (status ≡ 0) × (new ≡ b)
-Tells (Err w) status old new = (status ≡ number_of w) × (new ≡ old)
+abbrev pub WritesBool : Result Bool Reason → ℕ → Bool → Bool → Type 0
+WritesBool (Ok b) status old new = (status ≡ 0) × (new ≡ b)
+WritesBool (Err w) status old new = (status ≡ number_of w) × (new ≡ old)

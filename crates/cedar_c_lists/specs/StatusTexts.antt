@@ -5,9 +5,9 @@ use Rattle.cedar_c_lists.specs.declared.reason.Reason.{Reason}
 
 -- Holds if the status is correct for a result. For `Ok` the new value is the result's value, and otherwise it is the
 -- old value.
-abbrev pub TellsValue : {X : Type 0} → Result X Reason → ℕ → X → X → Type 0
-TellsValue (Ok x) status old new = (status ≡ 0) × (new ≡ x)
-TellsValue (Err w) status old new = (status ≡ number_of w) × (new ≡ old)
+abbrev pub WritesValue : {X : Type 0} → Result X Reason → ℕ → X → X → Type 0
+WritesValue (Ok x) status old new = (status ≡ 0) × (new ≡ x)
+WritesValue (Err w) status old new = (status ≡ number_of w) × (new ≡ old)
 
 -- Holds if no reason has this number.
 abbrev pub IsNoReason : ℕ → Type 0

@@ -9,6 +9,6 @@ IsStopped Why (Ok a) i j = ⊥
 IsStopped Why (Err w) i j = Why w × (j ≡ i)
 
 -- Holds if the text of the last error does not change after a successful call or an allocation failure.
-abbrev pub KeepsRefusal : {A : Type 0} → Result A Reason → List ℕ → List ℕ → Type 0
-KeepsRefusal (Ok a) old new = new ≡ old
-KeepsRefusal (Err w) old new = w ≡ NoMemory → new ≡ old
+abbrev pub KeepsErrorText : {A : Type 0} → Result A Reason → List ℕ → List ℕ → Type 0
+KeepsErrorText (Ok a) old new = new ≡ old
+KeepsErrorText (Err w) old new = w ≡ NoMemory → new ≡ old

@@ -23,7 +23,7 @@ ReadsType (Ok t) text = IsNameText (type_name t) text
 ReadsType (Err w) text = (w ≡ NoMemory) ⊎ ((w ≡ NotAName) × IsNoName text)
 
 -- Holds if u has the type with this name and the eid with these bytes.
-pub record IsMadeOf (u : EntityUID) (type eid : List ℕ) : Type 0 where
+pub record HasTypeAndEid (u : EntityUID) (type eid : List ℕ) : Type 0 where
   pub named : IsNameText (uid_parts u).name type
   pub utf8 : IsUtf8 eid
   pub same : (uid_parts u).eid ≡ eid
@@ -33,20 +33,20 @@ abbrev pub IsUnmade : List ℕ → List ℕ → Reason → Type 0
 IsUnmade type eid w = (w ≡ NoMemory) ⊎ (((w ≡ NotAName) × IsNoName type) ⊎ ((w ≡ NotUtf8) × (IsUtf8 eid → ⊥)))
 
 -- The result of creating a uid from a type and an eid.
-abbrev pub MakesUid : Result EntityUID Reason → List ℕ → List ℕ → Type 0
-MakesUid (Ok u) type eid = IsMadeOf u type eid
-MakesUid (Err w) type eid = IsUnmade type eid w
+abbrev pub CreatesUid : Result EntityUID Reason → List ℕ → List ℕ → Type 0
+CreatesUid (Ok u) type eid = HasTypeAndEid u type eid
+CreatesUid (Err w) type eid = IsUnmade type eid w
 
 -- Holds if the text is a text of the uid with this type and eid.
-abbrev pub IsMadeText : List ℕ → List ℕ → List ℕ → Type 0
-IsMadeText type eid text = (u : EntityUID) × IsMadeOf u type eid × IsTextOf u text
+abbrev pub IsTextOfUid : List ℕ → List ℕ → List ℕ → Type 0
+IsTextOfUid type eid text = (u : EntityUID) × HasTypeAndEid u type eid × IsTextOf u text
 
 -- The text of a uid's type followed by the bytes of its eid.
 abbrev pub uid_bytes : EntityUID → List ℕ
 uid_bytes u = printed_name (uid_parts u).name ++ (uid_parts u).eid
 
 -- Holds if t has the texts of a uid parsed from the text, and the length of the type's text.
-abbrev pub IsApartOf : UidTexts → List ℕ → Type 0
-IsApartOf t text =
+abbrev pub IsSplitOf : UidTexts → List ℕ → Type 0
+IsSplitOf t text =
     (u : EntityUID) × IsReadOf u text × (t.bytes.items ≡ uid_bytes u)
     × (t.type_len ≡ length (printed_name (uid_parts u).name))

@@ -16,13 +16,13 @@ pub struct Answer {
 
 impl Model for Answer {
     ghost use Rattle.std.specs.Prelude.{List, ℕ};
-    ghost use Rattle.cedar_c_lists.specs.Answers.{texts_in, IsLaid};
+    ghost use Rattle.cedar_c_lists.specs.Answers.{texts_in, AreConcatenated};
 
     ghost Value = { List (List ℕ) };
 
     ghost view = { λ a. texts_in a.bytes.items a.spans.items };
 
-    ghost invariant = { λ a. IsLaid a.bytes.items a.spans.items (texts_in a.bytes.items a.spans.items) };
+    ghost invariant = { λ a. AreConcatenated a.bytes.items a.spans.items (texts_in a.bytes.items a.spans.items) };
 }
 
 // Returns the position after the last byte.

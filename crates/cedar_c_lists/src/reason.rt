@@ -1,6 +1,6 @@
 //! The reasons for errors, with a status and a text for each.
 ghost use Rattle.std.specs.Prelude.{◌≡◌};
-ghost use Rattle.cedar_c_lists.specs.Reasons.{number_of, status_of, words_of, Tells};
+ghost use Rattle.cedar_c_lists.specs.Reasons.{number_of, status_of, words_of, WritesBool};
 ghost use Rattle.cedar_c_lists.specs.declared.reason.Reason.TheVariants as reasons;
 
 use std::alloc::{AllocError, AllocFailed};
@@ -183,8 +183,8 @@ pub fn status_of(answer: Result<(), Reason>) -> u32
 }
 
 /// Returns the status of a Boolean result. For `Ok`, writes the Boolean to `out`. Does not allocate.
-pub fn tell(answer: Result<bool, Reason>, out: &mut bool) -> u32
-    ensures { Tells answer result out.old out.new }
+pub fn write_bool(answer: Result<bool, Reason>, out: &mut bool) -> u32
+    ensures { WritesBool answer result out.old out.new }
 {
     match answer {
         Ok(truth) => {

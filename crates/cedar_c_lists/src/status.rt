@@ -2,13 +2,13 @@
 ghost use Rattle.std.specs.Prelude.{◌≡◌};
 ghost use Rattle.std.specs.Option.{MatchOption};
 ghost use Rattle.cedar_c_lists.specs.Reasons.{number_of};
-ghost use Rattle.cedar_c_lists.specs.StatusTexts.{IsNoReason, IsStatusText, TellsValue};
+ghost use Rattle.cedar_c_lists.specs.StatusTexts.{IsNoReason, IsStatusText, WritesValue};
 
 use crate::reason::Reason;
 
 /// Returns the status of a result with a value. For `Ok`, writes the value to `out`. Does not allocate.
-pub fn tell_value<T: Copy>(answer: Result<T, Reason>, out: &mut T) -> u32
-    ensures { TellsValue answer result out.old out.new }
+pub fn write_result<T: Copy>(answer: Result<T, Reason>, out: &mut T) -> u32
+    ensures { WritesValue answer result out.old out.new }
 {
     match answer {
         Ok(value) => {

@@ -4,7 +4,7 @@ ghost use Rattle.std.specs.String.{string_bytes};
 ghost use Rattle.cedar_ids.specs.Printed.{printed_name};
 ghost use Rattle.cedar_ids.specs.UidOf.{uid_parts};
 ghost use Rattle.cedar_c_lists.specs.Texts.{IsUnread};
-ghost use Rattle.cedar_c_lists.specs.Uids.{IsApartOf, IsMadeText, IsUnmade, MakesUid, ReadsType, uid_bytes};
+ghost use Rattle.cedar_c_lists.specs.Uids.{IsSplitOf, IsTextOfUid, IsUnmade, CreatesUid, ReadsType, uid_bytes};
 
 use crate::reading::uid_of;
 use crate::reason::Reason;
@@ -41,7 +41,7 @@ pub fn type_of(alloc: Global, text: &[u8]) -> Result<EntityType, Reason>
 /// - `NotUtf8`: the bytes of the eid are not UTF-8.
 /// - `NoMemory`: an allocation failed.
 pub fn uid_with(alloc: Global, ty: &[u8], eid: &[u8]) -> Result<EntityUID, Reason>
-    ensures { MakesUid result ty.now eid.now }
+    ensures { CreatesUid result ty.now eid.now }
 {
     let ty = type_of(alloc, ty)?;
     let Ok(eid) = str::from_utf8(eid) else {
@@ -57,7 +57,7 @@ pub fn uid_with(alloc: Global, ty: &[u8], eid: &[u8]) -> Result<EntityUID, Reaso
 ///
 /// The errors of [`uid_with`].
 pub fn uid_text(alloc: Global, ty: &[u8], eid: &[u8]) -> Result<String, Reason>
-    ensures { MatchResult result (λ t. IsMadeText ty.now eid.now (string_bytes t)) (IsUnmade ty.now eid.now) }
+    ensures { MatchResult result (λ t. IsTextOfUid ty.now eid.now (string_bytes t)) (IsUnmade ty.now eid.now) }
 {
     let uid = uid_with(alloc, ty, eid)?;
     Ok(uid.to_string(alloc)?)
@@ -93,7 +93,7 @@ fn apart(alloc: Global, uid: &EntityUID) -> Result<UidTexts, AllocError>
 /// - `NotAUid`: the text is not the text of a uid.
 /// - `NoMemory`: an allocation failed.
 pub fn parts_of(alloc: Global, text: &[u8]) -> Result<UidTexts, Reason>
-    ensures { MatchResult result (λ t. IsApartOf t text.now) (IsUnread text.now) }
+    ensures { MatchResult result (λ t. IsSplitOf t text.now) (IsUnread text.now) }
 {
     let uid = uid_of(alloc, text)?;
     Ok(apart(alloc, &uid)?)

@@ -6,15 +6,15 @@ use Rattle.cedar_terms.specs.ExprTree.{ExprTree}
 use Rattle.cedar_body.specs.Bodies.{BodyParts}
 use Rattle.cedar_c_trees.specs.Writes.{IsExprWritten}
 use Rattle.cedar_c_trees.specs.declared.node.Node.{Node}
-use Rattle.cedar_c_sets.specs.Clauses.{IsShown, Shows}
+use Rattle.cedar_c_sets.specs.Clauses.{IsEncodedExpr, Shows}
 use Rattle.cedar_c_sets.specs.Reads.{bound_body}
-use Rattle.cedar_c_sets.specs.declared.kept_set.KeptSet.{KeptSet}
+use Rattle.cedar_c_sets.specs.declared.set_state.SetState.{SetState}
 use Rattle.cedar_c_sets.proofs.Reading.{found}
 
 -- The stored expression of the policy or template with a valid id.
-pub shows : {B H : Type 0} (of : BodyParts → Option ExprTree) (i id : List ℕ) (old new : KeptSet B H) (t : BodyParts)
+pub shows : {B H : Type 0} (of : BodyParts → Option ExprTree) (i id : List ℕ) (old new : SetState B H) (t : BodyParts)
     (e : ExprTree) (answer : List (List ℕ)) (nodes : List Node) → i ≡ id → IsUtf8 id → Some t ≡ bound_body old.set i
-    → of t ≡ Some e → IsShown e answer nodes → new.set ≡ old.set → new.refusal.items ≡ old.refusal.items
+    → of t ≡ Some e → IsEncodedExpr e answer nodes → new.set ≡ old.set → new.refusal.items ≡ old.refusal.items
     → new.answer ≡ answer → new.nodes.items ≡ nodes → Shows of id old new
 shows of i id old new t e answer nodes is utf8 bound has shown set refusal kept all = record {
   set = set;

@@ -6,9 +6,9 @@ use Rattle.cedar_policy_maps.specs.PolicySets.{SetParts}
 use Rattle.cedar_policy_set.specs.Steps.{Refusal, not_static, add_static_step, add_template_step}
 use Rattle.cedar_c_lists.specs.Stops.{IsStopped}
 use Rattle.cedar_c_lists.specs.declared.reason.Reason.{Reason}
-use Rattle.cedar_c_bodies.specs.Bodies.{Given, IsGiven, IsNotGiven}
-use Rattle.cedar_c_sets.specs.Sets.{KeepsTexts, Makes}
-use Rattle.cedar_c_sets.specs.declared.kept_set.KeptSet.{KeptSet}
+use Rattle.cedar_c_bodies.specs.Bodies.{BodyInput, IsBodyOfInput, IsInvalidInput}
+use Rattle.cedar_c_sets.specs.Sets.{KeepsTexts, AppliesStep}
+use Rattle.cedar_c_sets.specs.declared.set_state.SetState.{SetState}
 
 -- The addition of a body as a static policy. If it has slots, the result is an error.
 abbrev pub static_step_with : List SlotId → SetParts → BodyParts → Result SetParts Refusal
@@ -21,16 +21,16 @@ static_step b t = static_step_with (body_slots t) b t
 
 -- The effect of adding a body from a caller's lists by a step. Either the input is invalid and nothing changes, or the
 -- step is made on the decoded body.
-abbrev pub JoinsBy : {A B H : Type 0} → (SetParts → BodyParts → Result SetParts Refusal) → List ℕ → Given
-    → Result A Reason → KeptSet B H → KeptSet B H → Type 0
-JoinsBy step id G r i j =
-    IsStopped (IsNotGiven id G) r i j
-    ⊎ ((b : BodyParts) × IsGiven id G b × Makes (step i.set b) r i j × KeepsTexts r i j)
+abbrev pub InsertsBody : {A B H : Type 0} → (SetParts → BodyParts → Result SetParts Refusal) → List ℕ → BodyInput
+    → Result A Reason → SetState B H → SetState B H → Type 0
+InsertsBody step id G r i j =
+    IsStopped (IsInvalidInput id G) r i j
+    ⊎ ((b : BodyParts) × IsBodyOfInput id G b × AppliesStep (step i.set b) r i j × KeepsTexts r i j)
 
 -- The effect of adding a static policy from a caller's lists.
-abbrev pub AddsStaticWith : {A B H : Type 0} → List ℕ → Given → Result A Reason → KeptSet B H → KeptSet B H → Type 0
-AddsStaticWith id G r i j = JoinsBy static_step id G r i j
+abbrev pub AddsStaticWith : {A B H : Type 0} → List ℕ → BodyInput → Result A Reason → SetState B H → SetState B H → Type 0
+AddsStaticWith id G r i j = InsertsBody static_step id G r i j
 
 -- The effect of adding a template from a caller's lists.
-abbrev pub AddsTemplateWith : {A B H : Type 0} → List ℕ → Given → Result A Reason → KeptSet B H → KeptSet B H → Type 0
-AddsTemplateWith id G r i j = JoinsBy add_template_step id G r i j
+abbrev pub AddsTemplateWith : {A B H : Type 0} → List ℕ → BodyInput → Result A Reason → SetState B H → SetState B H → Type 0
+AddsTemplateWith id G r i j = InsertsBody add_template_step id G r i j

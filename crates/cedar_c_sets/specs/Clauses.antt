@@ -7,16 +7,16 @@ use Rattle.cedar_c_lists.specs.declared.reason.Reason.{Reason}
 use Rattle.cedar_c_trees.specs.Writes.{IsExprWritten}
 use Rattle.cedar_c_trees.specs.declared.node.Node.{Node}
 use Rattle.cedar_c_sets.specs.Reads.{IsUntoldAt, bound_body}
-use Rattle.cedar_c_sets.specs.declared.kept_set.KeptSet.{KeptSet}
+use Rattle.cedar_c_sets.specs.declared.set_state.SetState.{SetState}
 
 -- Holds if the expression is encoded as nodes, and `answer` has their text.
-pub record IsShown (e : ExprTree) (answer : List (List ℕ)) (nodes : List Node) : Type 0 where
+pub record IsEncodedExpr (e : ExprTree) (answer : List (List ℕ)) (nodes : List Node) : Type 0 where
   pub bytes : List ℕ
   pub one : answer ≡ bytes ∷ []
   pub written : IsExprWritten e (record { bytes = bytes; nodes = nodes })
 
 -- Holds if an expression of the body with an id was encoded and stored. The set and the last error do not change.
-pub record Shows {B H : Type 0} (of : BodyParts → Option ExprTree) (id : List ℕ) (i j : KeptSet B H) : Type 0 where
+pub record Shows {B H : Type 0} (of : BodyParts → Option ExprTree) (id : List ℕ) (i j : SetState B H) : Type 0 where
   pub set : j.set ≡ i.set
   pub refusal : j.refusal.items ≡ i.refusal.items
   pub utf8 : IsUtf8 id
@@ -24,17 +24,17 @@ pub record Shows {B H : Type 0} (of : BodyParts → Option ExprTree) (id : List 
   pub bound : bound_body i.set id ≡ Some body
   pub expr : ExprTree
   pub found : of body ≡ Some expr
-  pub shown : IsShown expr j.answer j.nodes.items
+  pub shown : IsEncodedExpr expr j.answer j.nodes.items
 
 -- The effect of reading a clause. If there is one, it is encoded and stored. If there is none, or after an error,
 -- nothing changes.
-abbrev pub AnswersClause : {B H : Type 0} → List ℕ → Result Bool Reason → KeptSet B H → KeptSet B H → Type 0
+abbrev pub AnswersClause : {B H : Type 0} → List ℕ → Result Bool Reason → SetState B H → SetState B H → Type 0
 AnswersClause id (Ok true) i j = Shows (λ t. t.clause) id i j
 AnswersClause id (Ok false) i j =
     (j ≡ i) × IsUtf8 id × ((t : BodyParts) × (bound_body i.set id ≡ Some t) × (t.clause ≡ None))
 AnswersClause id (Err w) i j = (j ≡ i) × IsUntoldAt (bound_body i.set id) id w
 
 -- The effect of reading a condition. It is encoded and stored. After an error nothing changes.
-abbrev pub AnswersCondition : {A B H : Type 0} → List ℕ → Result A Reason → KeptSet B H → KeptSet B H → Type 0
+abbrev pub AnswersCondition : {A B H : Type 0} → List ℕ → Result A Reason → SetState B H → SetState B H → Type 0
 AnswersCondition id (Ok a) i j = Shows (λ t. Some (condition t)) id i j
 AnswersCondition id (Err w) i j = (j ≡ i) × IsUntoldAt (bound_body i.set id) id w

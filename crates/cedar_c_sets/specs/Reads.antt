@@ -8,7 +8,7 @@ use Rattle.cedar_ids.specs.TextOf.{IsIdentifierText}
 use Rattle.cedar_ids.specs.Uid.{UidParts}
 use Rattle.cedar_terms.specs.declared.slot.SlotId.TheVariants.{Principal, Action, Resource}
 use Rattle.cedar_annotation.specs.Annotations.{KeysAscend, value_at}
-use Rattle.cedar_binding.specs.Bindings.{EnvParts, is_among}
+use Rattle.cedar_binding.specs.Bindings.{EnvParts, is_listed_id}
 use Rattle.cedar_body.specs.Bodies.{BodyParts, body_slots}
 use Rattle.cedar_body.specs.BodyTexts.{body_output}
 use Rattle.cedar_policy.specs.Policies.{PolicyParts}
@@ -23,8 +23,8 @@ use Rattle.cedar_c_lists.specs.declared.reason.Reason.TheVariants as reasons
 use Rattle.cedar_c_bodies.specs.Annotated.{IsNoKey}
 use Rattle.cedar_c_bodies.specs.Bodies.{IsEffect}
 use Rattle.cedar_c_sets.specs.Sets.{IsSlots, pair_of}
-use Rattle.cedar_c_sets.specs.declared.kept_set.KeptSet.{KeptSet}
-use Rattle.cedar_c_sets.specs.declared.making.SlotsNamed.{SlotsNamed}
+use Rattle.cedar_c_sets.specs.declared.set_state.SetState.{SetState}
+use Rattle.cedar_c_sets.specs.declared.making.TemplateSlots.{TemplateSlots}
 
 -- ---- Lookups by id
 
@@ -65,38 +65,38 @@ abbrev pub IsUntoldAt : {X : Type 0} → Option X → List ℕ → Reason → Ty
 IsUntoldAt {X = X} found id w = IsNoId id w ⊎ ((w ≡ reasons.NoBody) × IsUtf8 id × (found ≡ None))
 
 -- The result of reading a value of the policy or body with an id, or the reason for the error.
-abbrev pub AsksAt : {X V : Type 0} → (SetParts → List ℕ → Option X) → (V → X → Type 0) → SetParts → List ℕ
+abbrev pub ReadsAt : {X V : Type 0} → (SetParts → List ℕ → Option X) → (V → X → Type 0) → SetParts → List ℕ
     → Result V Reason → Type 0
-AsksAt {X = X} at Is b id (Ok v) = IsUtf8 id × ((x : X) × (at b id ≡ Some x) × Is v x)
-AsksAt at Is b id (Err w) = IsUntoldAt (at b id) id w
+ReadsAt {X = X} at Is b id (Ok v) = IsUtf8 id × ((x : X) × (at b id ≡ Some x) × Is v x)
+ReadsAt at Is b id (Err w) = IsUntoldAt (at b id) id w
 
 -- Holds if n is the number of the body's effect.
 abbrev pub IsEffectOf : ℕ → BodyParts → Type 0
 IsEffectOf n t = IsEffect n t.effect
 
 -- The slots of a body.
-abbrev pub slots_named : BodyParts → SlotsNamed
-slots_named t = record {
-  principal = is_among (body_slots t) Principal;
-  action = is_among (body_slots t) Action;
-  resource = is_among (body_slots t) Resource;
+abbrev pub slots_of_body : BodyParts → TemplateSlots
+slots_of_body t = record {
+  principal = is_listed_id (body_slots t) Principal;
+  action = is_listed_id (body_slots t) Action;
+  resource = is_listed_id (body_slots t) Resource;
 }
 
 -- Holds if n is the number of the body's slots.
 abbrev pub IsSlotsOf : ℕ → BodyParts → Type 0
-IsSlotsOf n t = IsSlots n (slots_named t)
+IsSlotsOf n t = IsSlots n (slots_of_body t)
 
 -- ---- Stored texts
 
 -- Holds if the new `answer` satisfies `Are`. The set, the nodes and the last error do not change.
-abbrev pub IsAnswered : {B H : Type 0} → (List (List ℕ) → Type 0) → KeptSet B H → KeptSet B H → Type 0
+abbrev pub IsAnswered : {B H : Type 0} → (List (List ℕ) → Type 0) → SetState B H → SetState B H → Type 0
 IsAnswered Are i j = (j.set ≡ i.set) × (j.refusal.items ≡ i.refusal.items) × (j.nodes.items ≡ i.nodes.items)
     × Are j.answer
 
 -- The effect of reading texts of the policy or body with an id. They are stored in `answer`. After an error nothing
 -- changes.
 abbrev pub AnswersAt : {X A B H : Type 0} → (SetParts → List ℕ → Option X) → (X → List (List ℕ) → Type 0) → List ℕ
-    → Result A Reason → KeptSet B H → KeptSet B H → Type 0
+    → Result A Reason → SetState B H → SetState B H → Type 0
 AnswersAt {X = X} at Are id (Ok a) i j = IsUtf8 id × ((x : X) × (at i.set id ≡ Some x) × IsAnswered (Are x) i j)
 AnswersAt at Are id (Err w) i j = (j ≡ i) × IsUntoldAt (at i.set id) id w
 
@@ -140,13 +140,13 @@ abbrev pub AreBoundIn : PolicyParts → List (List ℕ) → Type 0
 AreBoundIn p texts = AreBoundBy p.env texts
 
 -- The effect of reading the text of a set. It is stored in `answer`. After an allocation failure nothing changes.
-abbrev pub AnswersText : {A B H : Type 0} → Result A Reason → KeptSet B H → KeptSet B H → Type 0
+abbrev pub AnswersText : {A B H : Type 0} → Result A Reason → SetState B H → SetState B H → Type 0
 AnswersText (Ok a) i j = IsAnswered (IsOneBy (set_output i.set)) i j
 AnswersText (Err w) i j = (j ≡ i) × (w ≡ reasons.NoMemory)
 
 -- The effect of reading the ids of the policies that use a body. They are stored in `answer`. After an error nothing
 -- changes.
-abbrev pub AnswersLinked : {A B H : Type 0} → List ℕ → Result A Reason → KeptSet B H → KeptSet B H → Type 0
+abbrev pub AnswersLinked : {A B H : Type 0} → List ℕ → Result A Reason → SetState B H → SetState B H → Type 0
 AnswersLinked id (Ok a) i j = IsUtf8 id × IsAnswered (λ ids. get_linked_step i.set id ≡ Ok ids) i j
 AnswersLinked id (Err w) i j =
     (j ≡ i) × (IsNoId id w ⊎ ((w ≡ reasons.NoBody) × IsUtf8 id × (get_linked_step i.set id ≡ Err (no_body id))))
@@ -154,14 +154,14 @@ AnswersLinked id (Err w) i j =
 -- ---- A single annotation
 
 -- The texts for an annotation: its value, or no text if there is none.
-abbrev pub IsValueTold : Option (List ℕ) → Bool → List (List ℕ) → Type 0
-IsValueTold None has texts = (has ≡ false) × (texts ≡ [])
-IsValueTold (Some v) has texts = (has ≡ true) × (texts ≡ v ∷ [])
+abbrev pub IsValueEncoded : Option (List ℕ) → Bool → List (List ℕ) → Type 0
+IsValueEncoded None has texts = (has ≡ false) × (texts ≡ [])
+IsValueEncoded (Some v) has texts = (has ≡ true) × (texts ≡ v ∷ [])
 
 -- The effect of reading the annotation with a key. Its value is stored in `answer`. After an error nothing changes.
-abbrev pub AnswersAnnotation : {B H : Type 0} → List ℕ → List ℕ → Result Bool Reason → KeptSet B H → KeptSet B H
+abbrev pub AnswersAnnotation : {B H : Type 0} → List ℕ → List ℕ → Result Bool Reason → SetState B H → SetState B H
     → Type 0
 AnswersAnnotation id key (Ok has) i j =
     IsUtf8 id × IsIdentifierText key key × ((t : BodyParts) × (bound_body i.set id ≡ Some t)
-    × IsAnswered (IsValueTold (value_at key t.annotations) has) i j)
+    × IsAnswered (IsValueEncoded (value_at key t.annotations) has) i j)
 AnswersAnnotation id key (Err w) i j = (j ≡ i) × (IsNoKey key w ⊎ IsUntoldAt (bound_body i.set id) id w)

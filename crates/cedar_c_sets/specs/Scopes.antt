@@ -8,9 +8,9 @@ use Rattle.cedar_policy.specs.Policies.{PolicyParts, principal_of, action_of, re
 use Rattle.cedar_policy_maps.specs.PolicySets.{SetParts}
 use Rattle.cedar_c_lists.specs.declared.reason.Reason.{Reason}
 use Rattle.cedar_c_lists.specs.declared.reason.Reason.TheVariants as reasons
-use Rattle.cedar_c_bodies.specs.Told.{TellsConstraint, TellsRule}
+use Rattle.cedar_c_bodies.specs.Encoded.{EncodesConstraint, EncodesRule}
 use Rattle.cedar_c_sets.specs.Reads.{IsAnswered, IsUntoldAt, body_at, bound_body, policy_at}
-use Rattle.cedar_c_sets.specs.declared.kept_set.KeptSet.{KeptSet}
+use Rattle.cedar_c_sets.specs.declared.set_state.SetState.{SetState}
 
 -- A value of the policy or, if there is none, of the body.
 abbrev pub of_found : {X : Type 0} → (PolicyParts → X) → (BodyParts → X) → Option PolicyParts → Option BodyParts
@@ -37,19 +37,19 @@ abbrev pub resource_at : SetParts → List ℕ → Option Constraint
 resource_at b id = of_bound resource_of (λ t. t.resource) b id
 
 -- Holds if a constraint was found and has this number and these texts.
-abbrev pub TellsFound : {X : Type 0} → (X → ℕ → List (List ℕ) → Type 0) → Option X → ℕ → List (List ℕ) → Type 0
-TellsFound Tells None n texts = ⊥
-TellsFound Tells (Some x) n texts = Tells x n texts
+abbrev pub EncodesFound : {X : Type 0} → (X → ℕ → List (List ℕ) → Type 0) → Option X → ℕ → List (List ℕ) → Type 0
+EncodesFound WritesBool None n texts = ⊥
+EncodesFound WritesBool (Some x) n texts = WritesBool x n texts
 
 -- The encoding of the constraint with a number: 0 for the principal, 1 for the action and 2 for the resource.
-abbrev pub TellsScope : ℕ → SetParts → List ℕ → ℕ → List (List ℕ) → Type 0
-TellsScope which b id n texts =
-    ((which ≡ 0) × TellsFound TellsConstraint (principal_at b id) n texts)
-    ⊎ (((which ≡ 1) × TellsFound TellsRule (action_at b id) n texts)
-    ⊎ ((which ≡ 2) × TellsFound TellsConstraint (resource_at b id) n texts))
+abbrev pub EncodesScope : ℕ → SetParts → List ℕ → ℕ → List (List ℕ) → Type 0
+EncodesScope which b id n texts =
+    ((which ≡ 0) × EncodesFound EncodesConstraint (principal_at b id) n texts)
+    ⊎ (((which ≡ 1) × EncodesFound EncodesRule (action_at b id) n texts)
+    ⊎ ((which ≡ 2) × EncodesFound EncodesConstraint (resource_at b id) n texts))
 
 -- The effect of reading one of the three constraints. Its texts are stored in `answer`. After an error nothing changes.
-abbrev pub AnswersScope : {B H : Type 0} → ℕ → List ℕ → Result ℕ Reason → KeptSet B H → KeptSet B H → Type 0
-AnswersScope which id (Ok n) i j = IsUtf8 id × IsAnswered (TellsScope which i.set id n) i j
+abbrev pub AnswersScope : {B H : Type 0} → ℕ → List ℕ → Result ℕ Reason → SetState B H → SetState B H → Type 0
+AnswersScope which id (Ok n) i j = IsUtf8 id × IsAnswered (EncodesScope which i.set id n) i j
 AnswersScope which id (Err w) i j =
     (j ≡ i) × (((w ≡ reasons.BadArgument) × (3 ≤ which)) ⊎ IsUntoldAt (bound_body i.set id) id w)

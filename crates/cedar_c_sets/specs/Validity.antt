@@ -9,7 +9,7 @@ use Rattle.cedar_policy_set.specs.Validity.{HasSlottedLinks, IsSetFault, IsValid
 use Rattle.cedar_c_lists.specs.Reasons.{words_of}
 use Rattle.cedar_c_lists.specs.declared.reason.Reason.{Reason}
 use Rattle.cedar_c_lists.specs.declared.reason.Reason.TheVariants as reasons
-use Rattle.cedar_c_sets.specs.declared.kept_set.KeptSet.{KeptSet}
+use Rattle.cedar_c_sets.specs.declared.set_state.SetState.{SetState}
 
 -- The reason of an invalid body. An allocation failure has none. `SlotCacheMismatch` never occurs.
 abbrev pub fault_reason : TemplateValidationError → Option Reason
@@ -26,18 +26,18 @@ NamesFault (Some x) id w text = (w ≡ x) × (text ≡ words_of w ++ (32 ∷ id)
 
 -- Holds if w and the text are the reason and the text for an invalid set. They name a link whose template has no slots,
 -- or an invalid body.
-abbrev pub IsFaultTold : PolicySetValidationError → Reason → List ℕ → Type 0
-IsFaultTold (LinkToSlotlessTemplate l t) w text = NamesFault (Some reasons.SlotlessLink) l w text
-IsFaultTold (InvalidTemplate i e) w text = NamesFault (fault_reason e) i w text
-IsFaultTold Memory w text = ⊥
+abbrev pub IsFaultReported : PolicySetValidationError → Reason → List ℕ → Type 0
+IsFaultReported (LinkToSlotlessTemplate l t) w text = NamesFault (Some reasons.SlotlessLink) l w text
+IsFaultReported (InvalidTemplate i e) w text = NamesFault (fault_reason e) i w text
+IsFaultReported Memory w text = ⊥
 
 -- The effect of validating a set. If links and bodies are valid, nothing changes. Otherwise the error is the first
 -- fault or an allocation failure. The set, `answer` and `nodes` do not change, and after an allocation failure neither
 -- does the text of the last error.
-abbrev pub Validates : {A B H : Type 0} → Result A Reason → KeptSet B H → KeptSet B H → Type 0
+abbrev pub Validates : {A B H : Type 0} → Result A Reason → SetState B H → SetState B H → Type 0
 Validates (Ok a) i j = HasSlottedLinks i.set × All IsValidBody i.set.bodies × (j ≡ i)
 Validates (Err w) i j =
     (j.set ≡ i.set) × (j.answer ≡ i.answer) × (j.nodes.items ≡ i.nodes.items)
     × (w ≡ reasons.NoMemory → j.refusal.items ≡ i.refusal.items)
     × ((w ≡ reasons.NoMemory)
-    ⊎ ((e : PolicySetValidationError) × IsSetFault e i.set × IsFaultTold e w j.refusal.items))
+    ⊎ ((e : PolicySetValidationError) × IsSetFault e i.set × IsFaultReported e w j.refusal.items))

@@ -1,9 +1,9 @@
 //! The calls that read the clause and the condition of a policy.
 ghost use Rattle.std.specs.Prelude.{◌≡◌, IfOk};
-ghost use Rattle.cedar_c_sets.specs.Clauses.{AnswersClause, AnswersCondition, IsShown};
+ghost use Rattle.cedar_c_sets.specs.Clauses.{AnswersClause, AnswersCondition, IsEncodedExpr};
 
-use crate::kept_set::KeptSet;
 use crate::reads::body_of;
+use crate::set_state::SetState;
 use cedar_c_lists::{Answer, Reason, id_of};
 use cedar_c_trees::{Node, write_expr};
 use cedar_terms::Expr;
@@ -12,30 +12,30 @@ use std::hash::BuildHasher;
 
 // An encoded expression: a list with the text of the nodes, and the nodes.
 #[derive(Drop)]
-struct Shown {
+struct EncodedNodes {
     answer: Answer,
     nodes: Vec<Node>,
 }
 
 // Encodes an expression as nodes over one text.
-fn shown_expr(alloc: Global, expr: &Expr) -> Result<Shown, AllocError>
-    ensures { IfOk result (λ s. IsShown expr.now s.answer s.nodes.items) }
+fn encode_expr(alloc: Global, expr: &Expr) -> Result<EncodedNodes, AllocError>
+    ensures { IfOk result (λ s. IsEncodedExpr expr.now s.answer s.nodes.items) }
 {
     let written = write_expr(alloc, expr)?;
     let answer = Answer::new(alloc).with(written.bytes())?;
     let nodes = written.into_nodes();
-    Ok(Shown { answer, nodes })
+    Ok(EncodedNodes { answer, nodes })
 }
 
-impl<S: BuildHasher + Copy> KeptSet<S> {
+impl<S: BuildHasher + Copy> SetState<S> {
     // Stores an encoded expression in `answer` and `nodes`.
-    fn keep_shown(&mut self, shown: Shown)
+    fn store_encoded(&mut self, shown: EncodedNodes)
         ensures set { self.new.set ≡ self.old.set }
         ensures refusal { self.new.refusal.items ≡ self.old.refusal.items }
         ensures answer { self.new.answer ≡ shown.answer }
         ensures nodes { self.new.nodes.items ≡ shown.nodes.items }
     {
-        let Shown { answer, nodes } = shown;
+        let EncodedNodes { answer, nodes } = shown;
         self.answer = answer;
         self.nodes = nodes;
     }
@@ -61,8 +61,8 @@ impl<S: BuildHasher + Copy> KeptSet<S> {
         let Some(clause) = body.non_scope_constraints() else {
             return Ok(false);
         };
-        let shown = shown_expr(alloc, clause)?;
-        self.keep_shown(shown);
+        let shown = encode_expr(alloc, clause)?;
+        self.store_encoded(shown);
         Ok(true)
     }
 
@@ -84,8 +84,8 @@ impl<S: BuildHasher + Copy> KeptSet<S> {
             return Err(Reason::NoBody);
         };
         let condition = body.condition(alloc)?;
-        let shown = shown_expr(alloc, &condition)?;
-        self.keep_shown(shown);
+        let shown = encode_expr(alloc, &condition)?;
+        self.store_encoded(shown);
         Ok(())
     }
 }

@@ -3,15 +3,15 @@
 //! This crate does not depend on handles.
 #![tactic(auto)]
 
-mod apart;
 mod body_calls;
 mod clauses;
-pub mod kept_set;
+mod deep_copies;
+mod error_text;
 mod making;
 mod reads;
 mod scopes;
-mod telling;
+pub mod set_state;
 mod unknowns;
 mod validity;
 
-pub use kept_set::KeptSet;
+pub use set_state::SetState;

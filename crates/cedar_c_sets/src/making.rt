@@ -18,7 +18,7 @@ use std::alloc::{AllocError, Global};
 
 /// The slots of a template.
 #[derive(Clone, Copy)]
-pub struct SlotsNamed {
+pub struct TemplateSlots {
     /// Whether there is a slot for the principal.
     pub principal: bool,
     /// Whether there is a slot for the action.
@@ -27,10 +27,10 @@ pub struct SlotsNamed {
     pub resource: bool,
 }
 
-fn named(principal: bool, action: bool, resource: bool) -> SlotsNamed
+fn named(principal: bool, action: bool, resource: bool) -> TemplateSlots
     ensures { result ≡ record { principal = principal; action = action; resource = resource } }
 {
-    SlotsNamed {
+    TemplateSlots {
         principal,
         action,
         resource,
@@ -39,7 +39,7 @@ fn named(principal: bool, action: bool, resource: bool) -> SlotsNamed
 
 // Returns the slots with a number. The number is a sum: 1 for the principal, 2 for the action, 4 for the resource.
 // Returns `BadArgument` for any other number.
-pub(crate) fn slots_of(number: u32) -> Result<SlotsNamed, Reason>
+pub(crate) fn slots_of(number: u32) -> Result<TemplateSlots, Reason>
     ensures { MatchResult result (IsSlots number) (IsNoSlots number) }
 {
     match number {
@@ -60,7 +60,7 @@ pub(crate) fn template(
     alloc: Global,
     id: PolicyID,
     effect: Effect,
-    slots: SlotsNamed,
+    slots: TemplateSlots,
 ) -> Result<Template, AllocError>
     ensures { IfOk result (λ t. t ≡ template_body id effect slots) }
 {

@@ -4,18 +4,18 @@ ghost use Rattle.std.specs.List.{flat_map};
 ghost use Rattle.std.specs.Option.{option_copied};
 ghost use Rattle.std.specs.String.{string_bytes};
 ghost use Rattle.cedar_ids.specs.UidOf.{uid_parts};
-ghost use Rattle.cedar_binding.specs.Bindings.{is_among};
+ghost use Rattle.cedar_binding.specs.Bindings.{is_listed_id};
 ghost use Rattle.cedar_binding.specs.Views.{env_of};
 ghost use Rattle.cedar_body.specs.Bodies.{body_slots};
 ghost use Rattle.cedar_policy_maps.specs.PolicySets.{bound_at};
 ghost use Rattle.cedar_c_sets.specs.Reads.{AnswersAnnotation, AnswersAt, AnswersLinked, AnswersText, AreAnnotations};
-ghost use Rattle.cedar_c_sets.specs.Reads.{AreBoundBy, AreBoundIn, AsksAt, IsBodyText, IsBoundText, IsEffectOf};
+ghost use Rattle.cedar_c_sets.specs.Reads.{AreBoundBy, AreBoundIn, ReadsAt, IsBodyText, IsBoundText, IsEffectOf};
 ghost use Rattle.cedar_c_sets.specs.Reads.{IsPolicyText, IsSlotsOf, IsTemplateId, KindAt, body_at};
 ghost use Rattle.cedar_c_sets.specs.Reads.{bound_body, kind_number, policy_at};
 ghost use Rattle.cedar_c_bodies.specs.Bodies.{IsEffect};
 ghost use Rattle.cedar_c_sets.specs.Sets.{IsSlots, pair_of};
 
-use crate::kept_set::KeptSet;
+use crate::set_state::SetState;
 use cedar_annotation::annotation::Iter;
 use cedar_binding::bound_to;
 use cedar_body::Effect;
@@ -66,7 +66,7 @@ fn effect_number(effect: Effect) -> u32
 
 // Checks whether a template has a slot.
 fn has_slot(template: &Template, id: SlotId) -> bool
-    ensures { result ≡ is_among (body_slots template.now) id }
+    ensures { result ≡ is_listed_id (body_slots template.now) id }
 {
     for slot in template.slots() {
         if id == slot.id {
@@ -154,7 +154,7 @@ fn texts_of_bindings(alloc: Global, values: &SlotEnv) -> Result<Answer, AllocErr
     answer.with(resource.as_bytes())
 }
 
-impl<S: BuildHasher + Copy> KeptSet<S> {
+impl<S: BuildHasher + Copy> SetState<S> {
     /// Returns the kind of an id: 1 for a static policy, 2 for a link, 3 for a template, and 0 if the id is not in use.
     ///
     /// # Errors
@@ -176,7 +176,7 @@ impl<S: BuildHasher + Copy> KeptSet<S> {
     /// - `NoBody`: the id is not in use.
     /// - `NoMemory`: an allocation failed.
     pub fn effect(&self, alloc: Global, id: &[u8]) -> Result<u32, Reason>
-        ensures { AsksAt bound_body IsEffectOf self.now.set id.now result }
+        ensures { ReadsAt bound_body IsEffectOf self.now.set id.now result }
     {
         let id = id_of(alloc, id)?;
         match body_of(&self.set, &id) {
@@ -194,7 +194,7 @@ impl<S: BuildHasher + Copy> KeptSet<S> {
     /// - `NoBody`: there is no static policy and no template with the id.
     /// - `NoMemory`: an allocation failed.
     pub fn slots(&self, alloc: Global, id: &[u8]) -> Result<u32, Reason>
-        ensures { AsksAt body_at IsSlotsOf self.now.set id.now result }
+        ensures { ReadsAt body_at IsSlotsOf self.now.set id.now result }
     {
         let id = id_of(alloc, id)?;
         match self.set.get_template(&id) {

@@ -2,13 +2,13 @@
 ghost use Rattle.std.specs.Prelude.{◌≡◌, IfOk, MatchResult};
 ghost use Rattle.std.specs.Option.{option_map};
 ghost use Rattle.cedar_action.specs.Views.{rule_of};
-ghost use Rattle.cedar_c_bodies.specs.Told.{TellsConstraint, TellsRule};
-ghost use Rattle.cedar_c_sets.specs.Scopes.{AnswersScope, TellsFound, TellsScope, action_at, principal_at, resource_at};
+ghost use Rattle.cedar_c_bodies.specs.Encoded.{EncodesConstraint, EncodesRule};
+ghost use Rattle.cedar_c_sets.specs.Scopes.{AnswersScope, EncodesFound, EncodesScope, action_at, principal_at, resource_at};
 ghost use Rattle.cedar_c_sets.specs.laws.Finding.{IsScopeless, IsUnfound};
 
-use crate::kept_set::KeptSet;
+use crate::set_state::SetState;
 use cedar_action::ActionConstraint;
-use cedar_c_bodies::{constraint_told, rule_told};
+use cedar_c_bodies::{encode_constraint, encode_rule};
 use cedar_c_lists::{Answer, Reason, id_of};
 use cedar_ids::policy_id::PolicyID;
 use cedar_policy_set::PolicySet;
@@ -86,80 +86,80 @@ fn resource_at<S: BuildHasher + Copy>(
 }
 
 // Returns the principal constraint as a number and texts.
-fn principal_told<S: BuildHasher + Copy>(
+fn encode_principal<S: BuildHasher + Copy>(
     alloc: Global,
     set: &PolicySet<S>,
     id: &PolicyID,
 ) -> Result<(u32, Answer), Reason>
-    ensures { MatchResult result (λ r. TellsFound TellsConstraint (principal_at set.now id.now) r.0 r.1)
+    ensures { MatchResult result (λ r. EncodesFound EncodesConstraint (principal_at set.now id.now) r.0 r.1)
         (IsUnfound (principal_at set.now id.now)) }
 {
     let found = principal_at(alloc, set, id)?;
     match found {
         None => Err(Reason::NoBody),
         Some(constraint) => {
-            let told = constraint_told(alloc, constraint.as_inner())?;
+            let told = encode_constraint(alloc, constraint.as_inner())?;
             Ok(told)
         }
     }
 }
 
 // Returns the action constraint as a number and texts.
-fn action_told<S: BuildHasher + Copy>(
+fn encode_action<S: BuildHasher + Copy>(
     alloc: Global,
     set: &PolicySet<S>,
     id: &PolicyID,
 ) -> Result<(u32, Answer), Reason>
-    ensures { MatchResult result (λ r. TellsFound TellsRule (action_at set.now id.now) r.0 r.1)
+    ensures { MatchResult result (λ r. EncodesFound EncodesRule (action_at set.now id.now) r.0 r.1)
         (IsUnfound (action_at set.now id.now)) }
 {
     let found = action_at(alloc, set, id)?;
     match found {
         None => Err(Reason::NoBody),
         Some(rule) => {
-            let told = rule_told(alloc, &rule)?;
+            let told = encode_rule(alloc, &rule)?;
             Ok(told)
         }
     }
 }
 
 // Returns the resource constraint as a number and texts.
-fn resource_told<S: BuildHasher + Copy>(
+fn encode_resource<S: BuildHasher + Copy>(
     alloc: Global,
     set: &PolicySet<S>,
     id: &PolicyID,
 ) -> Result<(u32, Answer), Reason>
-    ensures { MatchResult result (λ r. TellsFound TellsConstraint (resource_at set.now id.now) r.0 r.1)
+    ensures { MatchResult result (λ r. EncodesFound EncodesConstraint (resource_at set.now id.now) r.0 r.1)
         (IsUnfound (resource_at set.now id.now)) }
 {
     let found = resource_at(alloc, set, id)?;
     match found {
         None => Err(Reason::NoBody),
         Some(constraint) => {
-            let told = constraint_told(alloc, constraint.as_inner())?;
+            let told = encode_constraint(alloc, constraint.as_inner())?;
             Ok(told)
         }
     }
 }
 
 // Returns one of the three constraints as a number and texts.
-fn scope_told<S: BuildHasher + Copy>(
+fn encode_scope<S: BuildHasher + Copy>(
     alloc: Global,
     set: &PolicySet<S>,
     id: &PolicyID,
     which: u32,
 ) -> Result<(u32, Answer), Reason>
-    ensures { MatchResult result (λ r. TellsScope which set.now id.now r.0 r.1) (IsScopeless which set.now id.now) }
+    ensures { MatchResult result (λ r. EncodesScope which set.now id.now r.0 r.1) (IsScopeless which set.now id.now) }
 {
     match which {
-        0 => principal_told(alloc, set, id),
-        1 => action_told(alloc, set, id),
-        2 => resource_told(alloc, set, id),
+        0 => encode_principal(alloc, set, id),
+        1 => encode_action(alloc, set, id),
+        2 => encode_resource(alloc, set, id),
         _ => Err(Reason::BadArgument),
     }
 }
 
-impl<S: BuildHasher + Copy> KeptSet<S> {
+impl<S: BuildHasher + Copy> SetState<S> {
     /// Returns the kind of the principal constraint (`which` 0), the action constraint (1) or the resource constraint
     /// (2) of the policy or template with an id. See `Scope` for the kinds. Stores the text of its type, followed by
     /// the texts of its uids, in `answer`. The slots of a link are replaced by their uids.
@@ -176,7 +176,7 @@ impl<S: BuildHasher + Copy> KeptSet<S> {
         ensures { AnswersScope which id.now result self.old self.new }
     {
         let id = id_of(alloc, id)?;
-        let (kind, texts) = scope_told(alloc, &self.set, &id, which)?;
+        let (kind, texts) = encode_scope(alloc, &self.set, &id, which)?;
         self.answer = texts;
         Ok(kind)
     }

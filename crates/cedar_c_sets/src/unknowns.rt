@@ -4,7 +4,7 @@ ghost use Rattle.cedar_c_lists.specs.Texts.{AreTextsOf};
 ghost use Rattle.cedar_c_sets.specs.Reads.{AnswersAt, policy_at};
 ghost use Rattle.cedar_c_sets.specs.Unknowns.{AreUnknownIn};
 
-use crate::kept_set::KeptSet;
+use crate::set_state::SetState;
 use cedar_c_lists::{Answer, Reason, id_of, with_uid};
 use cedar_policy::Policy;
 use cedar_uid_sets::{UidSet, Uids};
@@ -37,7 +37,7 @@ fn unknowns_of<S: BuildHasher + Copy>(
     Ok(answer)
 }
 
-impl<S: BuildHasher + Copy> KeptSet<S> {
+impl<S: BuildHasher + Copy> SetState<S> {
     /// Stores the uids of the unknowns in the condition of the policy with an id in `answer`: ascending, each once.
     /// They are the uids of `Policy::unknown_entities_with_hasher` with the set's hasher builder.
     ///

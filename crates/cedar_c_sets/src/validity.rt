@@ -1,9 +1,9 @@
 //! The call that validates a policy set.
 ghost use Rattle.std.specs.Prelude.{IfOk};
-ghost use Rattle.cedar_c_sets.specs.Validity.{IsFaultTold, NamesFault, Validates, fault_reason};
+ghost use Rattle.cedar_c_sets.specs.Validity.{IsFaultReported, NamesFault, Validates, fault_reason};
 
-use crate::kept_set::KeptSet;
-use crate::telling::{Told, named};
+use crate::error_text::{ErrorText, named};
+use crate::set_state::SetState;
 use cedar_c_lists::Reason;
 use cedar_ids::policy_id::PolicyID;
 use cedar_policy::TemplateValidationError;
@@ -17,7 +17,7 @@ fn by_body(
     alloc: Global,
     id: &PolicyID,
     error: &TemplateValidationError,
-) -> Result<Told, AllocError>
+) -> Result<ErrorText, AllocError>
     ensures { IfOk result (λ t. NamesFault (fault_reason error.now) id.now t.reason t.text.items) }
 {
     match error {
@@ -38,8 +38,8 @@ fn by_body(
 }
 
 // Returns the error of an invalid set.
-fn by_fault(alloc: Global, error: &PolicySetValidationError) -> Result<Told, AllocError>
-    ensures { IfOk result (λ t. IsFaultTold error.now t.reason t.text.items) }
+fn by_fault(alloc: Global, error: &PolicySetValidationError) -> Result<ErrorText, AllocError>
+    ensures { IfOk result (λ t. IsFaultReported error.now t.reason t.text.items) }
 {
     match error {
         PolicySetValidationError::LinkToSlotlessTemplate { link_id, .. } => {
@@ -50,7 +50,7 @@ fn by_fault(alloc: Global, error: &PolicySetValidationError) -> Result<Told, All
     }
 }
 
-impl<S: BuildHasher + Copy> KeptSet<S> {
+impl<S: BuildHasher + Copy> SetState<S> {
     /// Validates a copy of the set, as `PolicySet::try_validate` does. `answer` and `nodes` do not change.
     ///
     /// # Errors

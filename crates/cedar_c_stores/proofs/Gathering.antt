@@ -11,7 +11,7 @@ use Rattle.std.specs.List.{cons_option, slice_get}
 use Rattle.cedar_ids.specs.UidOf.{uid_order}
 use Rattle.cedar_ids.specs.declared.entity.EntityUID.{EntityUID}
 use Rattle.cedar_entity.specs.View.{EntityView}
-use Rattle.cedar_entity_maps.specs.Plain.{AreBare}
+use Rattle.cedar_entity_maps.specs.Plain.{HaveNoIndirect}
 use Rattle.cedar_c_lists.specs.Texts.{AreReadAt, IsInside}
 use Rattle.cedar_c_lists.specs.declared.layout.Span.{Span}
 use Rattle.cedar_c_stores.specs.Lists.{AreEdgesOf, AreListed, IsEdgeOf, IsUnlisted, entities_by, entities_from}
@@ -88,7 +88,7 @@ made_of_listed us es i (x ∷ xs) = ap (λ l. with_parents x (parents_at us es i
 
 -- The entities have no indirect ancestors.
 pub made_bare : (us : List EntityUID) (es : List Edge) (i : ℕ) (xs : List EntityUID)
-    → AreBare (entities_from us es i xs)
+    → HaveNoIndirect (entities_from us es i xs)
 made_bare us es i [] = tt
 made_bare us es i (x ∷ xs) = (λ q. contains-empty uid_order q, made_bare us es (i + 1) xs)
 
@@ -135,11 +135,11 @@ edge_out n m es k d w l out (inl e) = inl e
 edge_out n m es k d w l out (inr e) = inr (e, (k, get_or es k d, slice_get-get_or es k d l, out))
 
 -- Setting the item at a position to the item with one more parent is `with_edge`.
-pub put_in : (gs : List Gathered) (k : ℕ) (g h : Gathered) (p : EntityUID) → k < length gs → get_or gs k g ≡ g
+pub push_new : (gs : List Gathered) (k : ℕ) (g h : Gathered) (p : EntityUID) → k < length gs → get_or gs k g ≡ g
     → h ≡ (g.0, g.1 ++ p ∷ []) → set gs k h ≡ with_edge k p gs
-put_in [] k g h p l e s = absurd (omega (arith, l))
-put_in (x ∷ gs) zero g h p l e s = ap (λ y. y ∷ gs) (s ∙ ap (λ (y : Gathered). (y.0, y.1 ++ p ∷ [])) (sym e))
-put_in (x ∷ gs) (suc k) g h p l e s = ap (λ l. x ∷ l) (put_in gs k g h p (omega (arith, l)) e s)
+push_new [] k g h p l e s = absurd (omega (arith, l))
+push_new (x ∷ gs) zero g h p l e s = ap (λ y. y ∷ gs) (s ∙ ap (λ (y : Gathered). (y.0, y.1 ++ p ∷ [])) (sym e))
+push_new (x ∷ gs) (suc k) g h p l e s = ap (λ l. x ∷ l) (push_new gs k g h p (omega (arith, l)) e s)
 
 pub length_first : (us : List EntityUID) (n : ℕ) → n ≤ length us → length (take n us) ≡ n
 length_first us zero l = refl
@@ -215,7 +215,7 @@ listed_of text spans n es us shared L read same made =
       uids = us;
       read = read;
       entities = entities;
-      bare = subst AreBare (sym entities) (made_bare us es 0 (take n us));
+      bare = subst HaveNoIndirect (sym entities) (made_bare us es 0 (take n us));
     }
 
 -- The list is not created because something is out of range.

@@ -15,11 +15,11 @@ use Rattle.cedar_ids.specs.UidOf.{same_uid}
 use Rattle.cedar_ids.specs.declared.entity.EntityUID.{EntityUID}
 use Rattle.cedar_ids.specs.laws.UidOfLaws.{same_uid_equiv}
 use Rattle.cedar_entity.specs.View.{has_ancestor}
-use Rattle.cedar_c_stores.specs.Noted.{AreNoted, AreNumbersOf, IsGiven, IsNamed, IsRowAt, KeepsNumbers, is_number_of}
-use Rattle.cedar_c_stores.specs.Noted.{noted_at}
+use Rattle.cedar_c_stores.specs.QueryCaches.{AreCached, AreNumbersOf, IsNumbered, IsNumberOfText, IsRowAt, KeepsNumbers, is_number_of}
+use Rattle.cedar_c_stores.specs.QueryCaches.{cached_at}
 use Rattle.cedar_c_stores.specs.Numbers.{uids_with}
 use Rattle.cedar_entity_maps.specs.Plain.{StoreView}
-use Rattle.cedar_c_stores.specs.declared.noted.Noted.{Noted}
+use Rattle.cedar_c_stores.specs.declared.query_cache.QueryCache.{QueryCache}
 
 -- ---- texts
 
@@ -40,10 +40,10 @@ are_apart k t e x same =
 
 put_by : {A X B : Type 0} (m n : HashMap (Vec ℕ A) X B) (k : Vec ℕ A) (x : X)
     → UpdatesBy same_key (same_key k) m n (Some x) → (P : List ℕ → Option X → Type 0) → P k.items (Some x) → (t : List ℕ)
-    → P t (noted_at m t) → (b : Bool) → pointwise nat_eq t k.items ≡ b → P t (noted_at n t)
+    → P t (cached_at m t) → (b : Bool) → pointwise nat_eq t k.items ≡ b → P t (cached_at n t)
 unfolding KeepsOthers
 put_by m n k x updates P new t old true e =
-    subst (λ (s : List ℕ). P s (noted_at n s)) (sym ((bytes_decides t k.items).0 e))
+    subst (λ (s : List ℕ). P s (cached_at n s)) (sym ((bytes_decides t k.items).0 e))
     (subst (P k.items) (sym updates.1) new)
 put_by {A} {X} m n k x updates P new t old false e =
     let kept : KeepsOthers same_key (same_key k) m.entries n.entries = updates.3 in
@@ -52,7 +52,7 @@ put_by {A} {X} m n k x updates P new t old false e =
 -- If a property is true of all cached values and of the inserted one, it is true of all values after the insertion.
 pub noted_put : {A X B : Type 0} (m n : HashMap (Vec ℕ A) X B) (k : Vec ℕ A) (x : X)
     → UpdatesBy same_key (same_key k) m n (Some x) → (P : List ℕ → Option X → Type 0) → P k.items (Some x)
-    → ((t : List ℕ) → P t (noted_at m t)) → (t : List ℕ) → P t (noted_at n t)
+    → ((t : List ℕ) → P t (cached_at m t)) → (t : List ℕ) → P t (cached_at n t)
 noted_put m n k x updates P new old t = put_by m n k x updates P new t (old t) (pointwise nat_eq t k.items) refl
 
 -- An implication for the value of an option.
@@ -72,13 +72,13 @@ still_given [] more n u e = absurd (none_is_not u e)
 still_given (x ∷ us) more zero u e = e
 still_given (x ∷ us) more (suc n) u e = still_given us more n u e
 
-all_given : (us more : List EntityUID) (row : List ℕ) → AllByRecursion (IsGiven us) row
-    → AllByRecursion (IsGiven (us ++ more)) row
+all_given : (us more : List EntityUID) (row : List ℕ) → AllByRecursion (IsNumbered us) row
+    → AllByRecursion (IsNumbered (us ++ more)) row
 all_given us more [] a = a
 all_given us more (n ∷ row) (g, a) = ((g.0, still_given us more n g.0 g.1), all_given us more row a)
 
 -- Two tests that agree on each number of a row give the same result for the row.
-any_alike : (us : List EntityUID) (p r : ℕ → Bool) (row : List ℕ) → AllByRecursion (IsGiven us) row
+any_alike : (us : List EntityUID) (p r : ℕ → Bool) (row : List ℕ) → AllByRecursion (IsNumbered us) row
     → ((n : ℕ) (u : EntityUID) → slice_get us n ≡ Some u → p n ≡ r n) → list_any p row ≡ list_any r row
 any_alike us p r [] a alike = refl
 any_alike us p r (n ∷ row) (g, a) alike =
@@ -103,8 +103,8 @@ or_off : (b : Bool) → (b || false) ≡ b
 or_off true = refl
 or_off false = refl
 
-given_more : (us : List EntityUID) (row : List ℕ) (n : ℕ) → AllByRecursion (IsGiven us) row → IsGiven us n
-    → AllByRecursion (IsGiven us) (row ++ n ∷ [])
+given_more : (us : List EntityUID) (row : List ℕ) (n : ℕ) → AllByRecursion (IsNumbered us) row → IsNumbered us n
+    → AllByRecursion (IsNumbered us) (row ++ n ∷ [])
 given_more us [] n a g = (g, a)
 given_more us (m ∷ row) n (h, a) g = (h, given_more us row n a g)
 
@@ -182,28 +182,28 @@ keeps_with us ws u e d = let m = keeps_by (is_member same_uid us u) us u in (m.0
 
 pub row_stays : (S : StoreView) (us vs : List EntityUID) (t : List ℕ) (row : List ℕ) → KeepsNumbers us vs
     → IsRowAt S us t row → IsRowAt S vs t row
-row_stays S us vs t row k (u, e, read, held, r) = (
+row_stays S us vs t row k (u, e, read, entity_at, r) = (
   u,
   e,
   read,
-  held,
+  entity_at,
   subst (λ s. AreNumbersOf s (has_ancestor e) row) (sym k.1) (row_kept us k.0 (has_ancestor e) row r),
 )
 
-pub name_stays : (us vs : List EntityUID) (t : List ℕ) (n : ℕ) → KeepsNumbers us vs → IsNamed us t n → IsNamed vs t n
+pub name_stays : (us vs : List EntityUID) (t : List ℕ) (n : ℕ) → KeepsNumbers us vs → IsNumberOfText us t n → IsNumberOfText vs t n
 name_stays us vs t n k (v, e, read) =
     (v, subst (λ (s : List EntityUID). slice_get s n ≡ Some v) (sym k.1) (still_given us k.0 n v e), read)
 
 -- The cache is still correct after uids are numbered, if the maps are unchanged.
-pub noted_stays : {B H : Type 0} (S : StoreView) (i j : Noted B H) → KeepsNumbers i.numbers j.numbers
-    → j.above.entries ≡ i.above.entries → j.names.entries ≡ i.names.entries → AreNoted S i → AreNoted S j
+pub noted_stays : {B H : Type 0} (S : StoreView) (i j : QueryCache B H) → KeepsNumbers i.numbers j.numbers
+    → j.above.entries ≡ i.above.entries → j.names.entries ≡ i.names.entries → AreCached S i → AreCached S j
 noted_stays S i j k above names a = record {
   distinct = k.2 a.distinct;
   above = λ t.
       subst (λ es. IfSome (lookup (is_at t) es) (λ o. IfSome o (λ row. IsRowAt S j.numbers t row.items))) (sym above)
-      (some_then _ _ (λ o. some_then _ _ (λ row. row_stays S i.numbers j.numbers t row.items k) o) (noted_at i.above t)
+      (some_then _ _ (λ o. some_then _ _ (λ row. row_stays S i.numbers j.numbers t row.items k) o) (cached_at i.above t)
       (a.above t));
   names = λ t.
-      subst (λ es. IfSome (lookup (is_at t) es) (IsNamed j.numbers t)) (sym names)
-      (some_then _ _ (λ n. name_stays i.numbers j.numbers t n k) (noted_at i.names t) (a.names t));
+      subst (λ es. IfSome (lookup (is_at t) es) (IsNumberOfText j.numbers t)) (sym names)
+      (some_then _ _ (λ n. name_stays i.numbers j.numbers t n k) (cached_at i.names t) (a.names t));
 }

@@ -24,8 +24,8 @@ use Rattle.cedar_c_lists.specs.declared.reason.Reason.TheVariants.{BadArgument, 
 use Rattle.cedar_c_trees.specs.Partials.{IsPartialReadAs, IsPartialRefused}
 use Rattle.cedar_c_trees.specs.Reads.{IsTextAt}
 use Rattle.cedar_c_trees.specs.declared.node.Node.{Node}
-use Rattle.cedar_c_stores.specs.Contents.{AreLaid, Field, IsEntityOf, IsFieldOf, IsLaidInRange, IsTermIn, IsTermUnread}
-use Rattle.cedar_c_stores.specs.Contents.{IsUnlaid, Laid, Said, field_by, fields_at, nodes_of, placed, said_at}
+use Rattle.cedar_c_stores.specs.Contents.{AreFromLists, Field, IsEntityOf, IsFieldOf, IsInputInRange, IsTermIn, IsTermUnread}
+use Rattle.cedar_c_stores.specs.Contents.{IsNotFromLists, ListInput, EntityParts, field_by, fields_at, nodes_of, placed, entity_parts_at}
 use Rattle.cedar_c_stores.specs.Lists.{AreEdgesOf, IsEdgeOf, parents_at}
 use Rattle.cedar_c_stores.specs.declared.content.Term.{Term}
 use Rattle.cedar_c_stores.specs.laws.Listed.{Gathered, IsSomeEdgeOut, IsUngathered, listed_from}
@@ -91,10 +91,10 @@ all_at P (y ∷ xs) all (suc k) x at = all_at P xs all.1 k x at
 -- An edge appends its target to the row of its source.
 gather_above : (us : List EntityUID) (es far : List Edge) (e : Edge) (u : EntityUID) (xs : List EntityUID)
     → slice_get us e.to ≡ Some u → e.from < length xs
-    → changed_at e.from (with_above u) (placed (said_at us es far []) 0 xs)
-    ≡ placed (said_at us es (far ++ e ∷ []) []) 0 xs
+    → changed_at e.from (with_above u) (placed (entity_parts_at us es far []) 0 xs)
+    ≡ placed (entity_parts_at us es (far ++ e ∷ []) []) 0 xs
 gather_above us es far e u xs found h =
-    placed_changed (said_at us es far []) (said_at us es (far ++ e ∷ []) []) (with_above u) e.from e.from 0 xs
+    placed_changed (entity_parts_at us es far []) (entity_parts_at us es (far ++ e ∷ []) []) (with_above u) e.from e.from 0 xs
     (omega arith) h
     (λ x i. record {
       uid = x;
@@ -111,7 +111,7 @@ gather_above us es far e u xs found h =
       tags = [];
     })
 
-above_more : (us : List EntityUID) (far : List Edge) (e : Edge) (u : EntityUID) (old mid new : List Said)
+above_more : (us : List EntityUID) (far : List Edge) (e : Edge) (u : EntityUID) (old mid new : List EntityParts)
     → PutsAbove us far old mid → slice_get us e.to ≡ Some u → e.to < length us → e.from < length mid
     → new ≡ changed_at e.from (with_above u) mid → PutsAbove us (far ++ e ∷ []) old new
 above_more us far e u old mid new p found led within put = record {
@@ -119,18 +119,18 @@ above_more us far e u old mid new p found led within put = record {
       let now = p.rows es xs so in
       put ∙ ap (changed_at e.from (with_above u)) now
       ∙ gather_above us es far e u xs found
-      (subst (λ n. e.from < n) (ap length now ∙ length_placed (said_at us es far []) 0 xs) within);
+      (subst (λ n. e.from < n) (ap length now ∙ length_placed (entity_parts_at us es far []) 0 xs) within);
   many = ap length put ∙ length_changed e.from (with_above u) mid ∙ p.many;
   range = all_more (IsEdgeOf (length old) (length us)) far e p.range
       (subst (λ n. e.from < n) p.many within, led);
 }
 
 -- Without edges nothing is added.
-pub none_above : (us : List EntityUID) (rows : List Said) → PutsAbove us [] rows rows
+pub none_above : (us : List EntityUID) (rows : List EntityParts) → PutsAbove us [] rows rows
 none_above us rows = record { rows = λ es xs so. so; many = refl; range = tt }
 
 -- The next edge is added.
-pub above_next : (us : List EntityUID) (far : List Edge) (k : ℕ) (d : Edge) (u : EntityUID) (old mid new : List Said)
+pub above_next : (us : List EntityUID) (far : List Edge) (k : ℕ) (d : Edge) (u : EntityUID) (old mid new : List EntityParts)
     → k < length far → PutsAbove us (take k far) old mid → slice_get us (get_or far k d).to ≡ Some u
     → (get_or far k d).to < length us → (get_or far k d).from < length mid
     → new ≡ changed_at (get_or far k d).from (with_above u) mid → PutsAbove us (take (k + 1) far) old new
@@ -138,7 +138,7 @@ above_next us far k d u old mid new l p found led within put =
     rw (take_more far k d l) (above_more us (take k far) (get_or far k d) u old mid new p found led within put)
 
 -- All edges are added.
-pub above_done : (us : List EntityUID) (far : List Edge) (k : ℕ) (old new : List Said) → length far ≤ k
+pub above_done : (us : List EntityUID) (far : List Edge) (k : ℕ) (old new : List EntityParts) → length far ≤ k
     → PutsAbove us (take k far) old new → PutsAbove us far old new
 above_done us far k old new l p = subst (λ es. PutsAbove us es old new) (take_all k far l) p
 
@@ -163,10 +163,10 @@ field_elsewhere fs p j f other =
 
 gather_field : (us : List EntityUID) (es far : List Edge) (fs : List Field) (f : Field) (xs : List EntityUID)
     → f.of < length xs
-    → changed_at f.of (with_field f.part f.key f.value) (placed (said_at us es far fs) 0 xs)
-    ≡ placed (said_at us es far (fs ++ f ∷ [])) 0 xs
+    → changed_at f.of (with_field f.part f.key f.value) (placed (entity_parts_at us es far fs) 0 xs)
+    ≡ placed (entity_parts_at us es far (fs ++ f ∷ [])) 0 xs
 gather_field us es far fs f xs h =
-    placed_changed (said_at us es far fs) (said_at us es far (fs ++ f ∷ [])) (with_field f.part f.key f.value) f.of f.of
+    placed_changed (entity_parts_at us es far fs) (entity_parts_at us es far (fs ++ f ∷ [])) (with_field f.part f.key f.value) f.of f.of
     0 xs (omega arith) h
     (λ x i. record {
       uid = x;
@@ -183,7 +183,7 @@ gather_field us es far fs f xs h =
       tags = field_elsewhere fs 1 j f other i;
     })
 
-terms_more : (text : List ℕ) (ns : List Node) (ts : List Term) (t : Term) (old mid new : List Said)
+terms_more : (text : List ℕ) (ns : List Node) (ts : List Term) (t : Term) (old mid new : List EntityParts)
     → PutsTerms text ns ts old mid → PutsTerm text ns t mid new → PutsTerms text ns (ts ++ t ∷ []) old new
 terms_more text ns ts t old mid new p s =
     let f = s.field in
@@ -195,37 +195,37 @@ terms_more text ns ts t old mid new p s =
           let now = p.rows us es far xs so in
           s.put ∙ ap (changed_at f.of (with_field f.part f.key f.value)) now
           ∙ gather_field us es far p.fields f xs
-          (subst (λ n. f.of < n) (ap length now ∙ length_placed (said_at us es far p.fields) 0 xs) within);
+          (subst (λ n. f.of < n) (ap length now ∙ length_placed (entity_parts_at us es far p.fields) 0 xs) within);
       many = ap length s.put ∙ length_changed f.of (with_field f.part f.key f.value) mid ∙ p.many;
       range = all_more (IsTermIn text ns (length old)) ts t p.range
           (subst (λ n. IsTermIn text ns n t) p.many s.range);
     }
 
 -- Without terms nothing is added.
-pub no_terms : (text : List ℕ) (ns : List Node) (rows : List Said) → PutsTerms text ns [] rows rows
+pub no_terms : (text : List ℕ) (ns : List Node) (rows : List EntityParts) → PutsTerms text ns [] rows rows
 no_terms text ns rows = record { fields = []; read = tt; rows = λ us es far xs so. so; many = refl; range = tt }
 
 -- The next term is added.
-pub terms_next : (text : List ℕ) (ns : List Node) (ts : List Term) (k : ℕ) (d : Term) (old mid new : List Said)
+pub terms_next : (text : List ℕ) (ns : List Node) (ts : List Term) (k : ℕ) (d : Term) (old mid new : List EntityParts)
     → k < length ts → PutsTerms text ns (take k ts) old mid → PutsTerm text ns (get_or ts k d) mid new
     → PutsTerms text ns (take (k + 1) ts) old new
 terms_next text ns ts k d old mid new l p s =
     rw (take_more ts k d l) (terms_more text ns (take k ts) (get_or ts k d) old mid new p s)
 
 -- All terms are added.
-pub terms_done : (text : List ℕ) (ns : List Node) (ts : List Term) (k : ℕ) (old new : List Said) → length ts ≤ k
+pub terms_done : (text : List ℕ) (ns : List Node) (ts : List Term) (k : ℕ) (old new : List EntityParts) → length ts ≤ k
     → PutsTerms text ns (take k ts) old new → PutsTerms text ns ts old new
 terms_done text ns ts k old new l p = subst (λ us. PutsTerms text ns us old new) (take_all k ts l) p
 
 -- A term adds no field.
-pub term_out : (text : List ℕ) (ns : List Node) (ts : List Term) (k : ℕ) (d : Term) (old mid : List Said) (w : Reason)
+pub term_out : (text : List ℕ) (ns : List Node) (ts : List Term) (k : ℕ) (d : Term) (old mid : List EntityParts) (w : Reason)
     → k < length ts → PutsTerms text ns (take k ts) old mid → IsTermOut text ns (length mid) (get_or ts k d) w
     → IsSomeTermOut text ns (length old) ts w
 term_out text ns ts k d old mid w l p out =
     (k, get_or ts k d, slice_get-get_or ts k d l, subst (λ n. IsTermOut text ns n (get_or ts k d) w) p.many out)
 
 -- An edge is out of range.
-pub above_out : (us : List EntityUID) (far : List Edge) (k : ℕ) (d : Edge) (old mid : List Said) (w : Reason)
+pub above_out : (us : List EntityUID) (far : List Edge) (k : ℕ) (d : Edge) (old mid : List EntityParts) (w : Reason)
     → k < length far → PutsAbove us (take k far) old mid → (IsEdgeOf (length mid) (length us) (get_or far k d) → ⊥)
     → w ≡ BadArgument → IsSomeEdgeOut (length old) (length us) far w
 above_out us far k d old mid w l p out is =
@@ -242,7 +242,7 @@ above_out us far k d old mid w l p out is =
 -- ---- one term
 
 -- The key, the value and the position of a term are correct.
-pub term_put : (text : List ℕ) (ns : List Node) (t : Term) (key : List ℕ) (value : PartialValue) (old new : List Said)
+pub term_put : (text : List ℕ) (ns : List Node) (t : Term) (key : List ℕ) (value : PartialValue) (old new : List EntityParts)
     → IsTextAt text t.key key → IsValueOf text ns t value → t.of < length old → t.part ≤ 1
     → new ≡ changed_at t.of (with_field t.part key value) old → PutsTerm text ns t old new
 term_put text ns t key value old new is has within part put = record {
@@ -281,13 +281,13 @@ place_out text ns n t w (inr (e, inr h)) = inr (inl (e, λ r. absurd (omega (ari
 -- ---- the first uids
 
 said_of_listed : (us : List EntityUID) (es : List Edge) (i : ℕ) (xs : List EntityUID)
-    → map said_of (listed_from us es i xs) ≡ placed (said_at us es [] []) i xs
+    → map said_of (listed_from us es i xs) ≡ placed (entity_parts_at us es [] []) i xs
 said_of_listed us es i [] = refl
-said_of_listed us es i (x ∷ xs) = ap (λ l. said_at us es [] [] i x ∷ l) (said_of_listed us es (i + 1) xs)
+said_of_listed us es i (x ∷ xs) = ap (λ l. entity_parts_at us es [] [] i x ∷ l) (said_of_listed us es (i + 1) xs)
 
 -- The parts from edges to parents.
 pub first_by : (us : List EntityUID) (es : List Edge) (n : ℕ) (first : List EntityUID) (gs hs : List Gathered)
-    (rows : List Said) → n ≤ length us → first ≡ take n us → gs ≡ map (λ u. (u, [])) first
+    (rows : List EntityParts) → n ≤ length us → first ≡ take n us → gs ≡ map (λ u. (u, [])) first
     → ((xs : List EntityUID) → gs ≡ listed_from us [] 0 xs → hs ≡ listed_from us es 0 xs)
     → AreEdgesOf (length gs) (length us) es → rows ≡ map said_of hs → AreFirst us n es rows
 first_by us es n first gs hs rows few front bare put range made = record {
@@ -298,15 +298,15 @@ first_by us es n first gs hs rows few front bare put range made = record {
       ∙ said_of_listed us es 0 (take n us);
 }
 
-length_of_first : (us : List EntityUID) (n : ℕ) (es : List Edge) (rows : List Said) → AreFirst us n es rows
+length_of_first : (us : List EntityUID) (n : ℕ) (es : List Edge) (rows : List EntityParts) → AreFirst us n es rows
     → length rows ≡ n
 length_of_first us n es rows f =
-    ap length f.said ∙ length_placed (said_at us es [] []) 0 (take n us) ∙ length_first us n f.enough
+    ap length f.said ∙ length_placed (entity_parts_at us es [] []) 0 (take n us) ∙ length_first us n f.enough
 
 -- ---- the whole input
 
 -- The rows are the parts of the entities of the input.
-pub said_by : (us : List EntityUID) (L : Laid) (first mid rows : List Said) → AreFirst us L.count L.edges first
+pub said_by : (us : List EntityUID) (L : ListInput) (first mid rows : List EntityParts) → AreFirst us L.count L.edges first
     → PutsAbove us L.above first mid → PutsTerms L.text L.nodes L.terms mid rows → AreSaid us L rows
 said_by us L first mid rows f a t =
     let many : length first ≡ L.count = length_of_first us L.count L.edges first f in record {
@@ -320,19 +320,19 @@ said_by us L first mid rows f a t =
       said = t.rows us L.edges L.above (take L.count us) (a.rows L.edges (take L.count us) f.said);
     }
 
-pub unsaid_above : (us : List EntityUID) (L : Laid) (first : List Said) (w : Reason) → AreFirst us L.count L.edges first
+pub unsaid_above : (us : List EntityUID) (L : ListInput) (first : List EntityParts) (w : Reason) → AreFirst us L.count L.edges first
     → IsSomeEdgeOut (length first) (length us) L.above w → IsUnsaid us L w
 unsaid_above us L first w f out =
     inr (inl (subst (λ n. IsSomeEdgeOut n (length us) L.above w) (length_of_first us L.count L.edges first f) out))
 
-pub unsaid_terms : (us : List EntityUID) (L : Laid) (first mid : List Said) (w : Reason)
+pub unsaid_terms : (us : List EntityUID) (L : ListInput) (first mid : List EntityParts) (w : Reason)
     → AreFirst us L.count L.edges first → PutsAbove us L.above first mid
     → IsSomeTermOut L.text L.nodes (length mid) L.terms w → IsUnsaid us L w
 unsaid_terms us L first mid w f a out =
     inr (inr (subst (λ n. IsSomeTermOut L.text L.nodes n L.terms w)
     (a.many ∙ length_of_first us L.count L.edges first f) out))
 
-made_more : (rows : List Said) (list : List (Rc EntityView Global)) (s : Said) (r : Rc EntityView Global)
+made_more : (rows : List EntityParts) (list : List (Rc EntityView Global)) (s : EntityParts) (r : Rc EntityView Global)
     → AllZip IsEntityOf rows (entities_in list) → IsEntityOf s r.value
     → AllZip IsEntityOf (rows ++ s ∷ []) (entities_in (list ++ r ∷ []))
 made_more [] [] s r z m = (m, tt)
@@ -341,7 +341,7 @@ made_more (y ∷ rows) [] s r z m = absurd z
 made_more (y ∷ rows) (x ∷ list) s r z m = (z.0, made_more rows list s r z.1 m)
 
 -- The next row becomes an entity.
-pub made_next : (rows : List Said) (list new : List (Rc EntityView Global)) (s : Said) (r : Rc EntityView Global)
+pub made_next : (rows : List EntityParts) (list new : List (Rc EntityView Global)) (s : EntityParts) (r : Rc EntityView Global)
     → AllZip IsEntityOf rows (entities_in list) → IsEntityOf s r.value → new ≡ list ++ r ∷ []
     → AllZip IsEntityOf (rows ++ s ∷ []) (entities_in new)
 made_next rows list new s r z m step =
@@ -349,8 +349,8 @@ made_next rows list new s r z m step =
     (made_more rows list s r z m)
 
 -- The entities with these parts are the entities of the input.
-pub laid_of : (L : Laid) (us shared : List EntityUID) (rows : List Said) (list : List EntityView)
-    → AreReadAt L.text us L.uids → shared ≡ us → AreSaid shared L rows → AllZip IsEntityOf rows list → AreLaid L list
+pub laid_of : (L : ListInput) (us shared : List EntityUID) (rows : List EntityParts) (list : List EntityView)
+    → AreReadAt L.text us L.uids → shared ≡ us → AreSaid shared L rows → AllZip IsEntityOf rows list → AreFromLists L list
 laid_of L us shared rows list read same said made =
     let many : length shared ≡ length L.uids = ap length same ∙ length_read L.text us L.uids read in record {
       in_range = record {
@@ -367,12 +367,12 @@ laid_of L us shared rows list read same said made =
       fields = said.fields;
       terms = said.read;
       entities = subst (λ l. AllZip IsEntityOf l list)
-          (said.said ∙ ap (λ l. placed (said_at l L.edges L.above said.fields) 0 (take L.count l)) same) made;
+          (said.said ∙ ap (λ l. placed (entity_parts_at l L.edges L.above said.fields) 0 (take L.count l)) same) made;
     }
 
 -- The entities are not created because something is out of range or cannot be read.
-pub unlaid_by : (L : Laid) (us shared : List EntityUID) (w : Reason) → AreReadAt L.text us L.uids → shared ≡ us
-    → IsUnsaid shared L w → IsUnlaid L w
+pub unlaid_by : (L : ListInput) (us shared : List EntityUID) (w : Reason) → AreReadAt L.text us L.uids → shared ≡ us
+    → IsUnsaid shared L w → IsNotFromLists L w
 unlaid_by L us shared w read same (inl (inl p)) =
     inr (inl (
       p.0,

@@ -9,7 +9,7 @@ use Rattle.cedar_ids.specs.declared.entity.EntityUID.{EntityUID}
 use Rattle.cedar_uid_sets.specs.UidSets.{UidValues}
 use Rattle.cedar_uid_sets.specs.laws.Sets.{one_equal, same_members}
 use Rattle.cedar_entity.specs.View.{EntityView}
-use Rattle.cedar_c_stores.specs.Contents.{IsEntityOf, Said}
+use Rattle.cedar_c_stores.specs.Contents.{IsEntityOf, EntityParts}
 use Rattle.cedar_c_stores.specs.laws.Rows.{HasFields}
 
 and_false : (b : Bool) → (b && false) ≡ false
@@ -68,7 +68,7 @@ above_added old new ks none so =
     so ∙ λ i. record old { indirect = alone i }
 
 -- With its fields, parents and indirect ancestors it is the entity with these parts.
-pub entity_of : (s : Said) (a b c : EntityView) → HasFields s.uid s.attrs s.tags a
+pub entity_of : (s : EntityParts) (a b c : EntityView) → HasFields s.uid s.attrs s.tags a
     → b ≡ record a { parents = set.from_list s.parents }
     → c ≡ record b { indirect = set.difference (set.from_list s.above) b.parents } → IsEntityOf s c
 entity_of s a b c has first second =

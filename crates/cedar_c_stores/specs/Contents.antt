@@ -22,13 +22,13 @@ use Rattle.cedar_c_stores.specs.Lists.{AreEdgesOf, AreInRange, IsMode, IsNoMode,
 use Rattle.cedar_c_stores.specs.Stores.{Adds, Builds, KeepsTexts, Upserts}
 use Rattle.cedar_c_stores.specs.declared.content.Content.{Content}
 use Rattle.cedar_c_stores.specs.declared.content.Term.{Term}
-use Rattle.cedar_c_stores.specs.declared.kept_store.KeptStore.{KeptStore}
+use Rattle.cedar_c_stores.specs.declared.store_state.StoreState.{StoreState}
 use Rattle.cedar_c_stores.specs.declared.store_calls.EntityLists.{EntityLists}
 
 -- The input of a call that takes entities with content. The spans in `uids` are parts of `text`, and the first `count`
 -- are the uids of the entities. `edges` lead from entities to parents, and `above` from entities to indirect ancestors.
 -- `terms` are the attributes and tags, and `nodes` are the nodes of their values.
-pub record Laid : Type 0 where
+pub record ListInput : Type 0 where
   pub text : List ℕ
   pub uids : List Span
   pub count : ℕ
@@ -38,8 +38,8 @@ pub record Laid : Type 0 where
   pub nodes : List Node
 
 -- The input that consists of lists and their content.
-abbrev pub laid_by : EntityLists → Content → Laid
-laid_by l c = record {
+abbrev pub from_lists_by : EntityLists → Content → ListInput
+from_lists_by l c = record {
   text = l.text.now;
   uids = l.uids.now;
   count = l.count;
@@ -81,7 +81,7 @@ fields_at fs p i = filter_map (field_by p i) fs
 -- ---- entities
 
 -- The parts of an entity in the input: its uid, its parents, its indirect ancestors, its attributes and its tags.
-pub record Said : Type 0 where
+pub record EntityParts : Type 0 where
   pub uid : EntityUID
   pub parents : List EntityUID
   pub above : List EntityUID
@@ -90,8 +90,8 @@ pub record Said : Type 0 where
 
 -- The parts of the entity at position i with uid u: the parents from the edges es, the indirect ancestors from the
 -- edges far, and the attributes and tags from the fields.
-abbrev pub said_at : List EntityUID → List Edge → List Edge → List Field → ℕ → EntityUID → Said
-said_at us es far fs i u = record {
+abbrev pub entity_parts_at : List EntityUID → List Edge → List Edge → List Field → ℕ → EntityUID → EntityParts
+entity_parts_at us es far fs i u = record {
   uid = u;
   parents = parents_at us es i;
   above = parents_at us far i;
@@ -107,7 +107,7 @@ placed F i (x ∷ xs) = F i x ∷ placed F (i + 1) xs
 
 -- Holds if e is the entity with these parts. Of several fields with the same key the last one counts. A parent is not
 -- an indirect ancestor.
-pub record IsEntityOf (s : Said) (e : EntityView) : Type 0 where
+pub record IsEntityOf (s : EntityParts) (e : EntityView) : Type 0 where
   pub uid : e.uid ≡ s.uid
   pub attrs : AreFieldsOf s.attrs e.attrs
   pub tags : AreFieldsOf s.tags e.tags
@@ -126,20 +126,20 @@ pub record IsTermIn (text : List ℕ) (ns : List Node) (n : ℕ) (t : Term) : Ty
   pub to : t.to ≤ length ns
 
 -- Holds if all spans, edges and terms of an input are in range.
-pub record IsLaidInRange (L : Laid) : Type 0 where
+pub record IsInputInRange (L : ListInput) : Type 0 where
   pub lists : AreInRange L.text L.uids L.count L.edges
   pub above : AreEdgesOf L.count (length L.uids) L.above
   pub terms : AllByRecursion (IsTermIn L.text L.nodes L.count) L.terms
 
 -- Holds if an input is in range, and the list has exactly its entities, in order. The uids and the fields are parsed
 -- from the input.
-pub record AreLaid (L : Laid) (list : List EntityView) : Type 0 where
-  pub in_range : IsLaidInRange L
+pub record AreFromLists (L : ListInput) (list : List EntityView) : Type 0 where
+  pub in_range : IsInputInRange L
   pub uids : List EntityUID
   pub read : AreReadAt L.text uids L.uids
   pub fields : List Field
   pub terms : AllZip (IsFieldOf L.text L.nodes) L.terms fields
-  pub entities : AllZip IsEntityOf (placed (said_at uids L.edges L.above fields) 0 (take L.count uids)) list
+  pub entities : AllZip IsEntityOf (placed (entity_parts_at uids L.edges L.above fields) 0 (take L.count uids)) list
 
 -- Holds if w is a reason why a term cannot be read: its key is not UTF-8, or its nodes do not encode a partial value.
 abbrev pub IsTermUnread : List ℕ → List Node → Term → Reason → Type 0
@@ -149,31 +149,31 @@ IsTermUnread text ns t w =
 
 -- Holds if w is a reason why the entities of an input cannot be created: a uid cannot be parsed, something is out of
 -- range, or a term cannot be read.
-abbrev pub IsUnlaid : Laid → Reason → Type 0
-IsUnlaid L w =
-    IsOneUnread L.text L.uids w ⊎ (((w ≡ BadArgument) × (IsLaidInRange L → ⊥))
+abbrev pub IsNotFromLists : ListInput → Reason → Type 0
+IsNotFromLists L w =
+    IsOneUnread L.text L.uids w ⊎ (((w ≡ BadArgument) × (IsInputInRange L → ⊥))
     ⊎ ((k : ℕ) × (t : Term) × (slice_get L.terms k ≡ Some t) × IsTermUnread L.text L.nodes t w))
 
 -- ---- calls
 
 -- Holds for a call that replaces the store by the entities of an input, in the mode of a number. If the mode or the
 -- input cannot be read, the call fails and changes nothing.
-abbrev pub BuildsLaid : {A B H : Type 0} → Laid → ℕ → Result A Reason → KeptStore B H → KeptStore B H → Type 0
-BuildsLaid L mode r i j =
-    IsStopped (λ w. IsNoMode mode w ⊎ IsUnlaid L w) r i j
-    ⊎ ((m : TCComputation) × (list : List EntityView) × IsMode mode m × AreLaid L list × Builds m list i.store r j
+abbrev pub BuildsFromLists : {A B H : Type 0} → ListInput → ℕ → Result A Reason → StoreState B H → StoreState B H → Type 0
+BuildsFromLists L mode r i j =
+    IsStopped (λ w. IsNoMode mode w ⊎ IsNotFromLists L w) r i j
+    ⊎ ((m : TCComputation) × (list : List EntityView) × IsMode mode m × AreFromLists L list × Builds m list i.store r j
     × KeepsTexts r i j)
 
 -- Holds for a call that adds the entities of an input to the store, in the same way.
-abbrev pub AddsLaid : {A B H : Type 0} → Laid → ℕ → Result A Reason → KeptStore B H → KeptStore B H → Type 0
-AddsLaid L mode r i j =
-    IsStopped (λ w. IsNoMode mode w ⊎ IsUnlaid L w) r i j
-    ⊎ ((m : TCComputation) × (list : List EntityView) × IsMode mode m × AreLaid L list × Adds m list i.store r j
+abbrev pub AddsFromLists : {A B H : Type 0} → ListInput → ℕ → Result A Reason → StoreState B H → StoreState B H → Type 0
+AddsFromLists L mode r i j =
+    IsStopped (λ w. IsNoMode mode w ⊎ IsNotFromLists L w) r i j
+    ⊎ ((m : TCComputation) × (list : List EntityView) × IsMode mode m × AreFromLists L list × Adds m list i.store r j
     × KeepsTexts r i j)
 
 -- Holds for a call that upserts the entities of an input, in the same way.
-abbrev pub UpsertsLaid : {A B H : Type 0} → Laid → ℕ → Result A Reason → KeptStore B H → KeptStore B H → Type 0
-UpsertsLaid L mode r i j =
-    IsStopped (λ w. IsNoMode mode w ⊎ IsUnlaid L w) r i j
-    ⊎ ((m : TCComputation) × (list : List EntityView) × IsMode mode m × AreLaid L list × Upserts m list i.store r j
+abbrev pub UpsertsFromLists : {A B H : Type 0} → ListInput → ℕ → Result A Reason → StoreState B H → StoreState B H → Type 0
+UpsertsFromLists L mode r i j =
+    IsStopped (λ w. IsNoMode mode w ⊎ IsNotFromLists L w) r i j
+    ⊎ ((m : TCComputation) × (list : List EntityView) × IsMode mode m × AreFromLists L list × Upserts m list i.store r j
     × KeepsTexts r i j)

@@ -1,7 +1,7 @@
 pub mod Contents
 pub mod Edits
 pub mod Lists
-pub mod Noted
+pub mod QueryCaches
 pub mod Numbers
 pub mod Reads
 pub mod SomePlain

@@ -4,7 +4,7 @@ use Rattle.std.specs.Prelude.{if◌then◌else◌, length, slice_get, take}
 use Rattle.std.specs.FinSet as set
 use Rattle.cedar_ids.specs.declared.entity.EntityUID.{EntityUID}
 use Rattle.cedar_entity.specs.View.{EntityView}
-use Rattle.cedar_entity_maps.specs.Plain.{AreBare}
+use Rattle.cedar_entity_maps.specs.Plain.{HaveNoIndirect}
 use Rattle.cedar_entity_maps.specs.declared.modes.TCComputation.{TCComputation}
 use Rattle.cedar_entity_maps.specs.declared.modes.TCComputation.TheVariants.{AssumeAlreadyComputed}
 use Rattle.cedar_entity_maps.specs.declared.modes.TCComputation.TheVariants.{EnforceAlreadyComputed, ComputeNow}
@@ -58,7 +58,7 @@ pub record AreListed (text : List ℕ) (spans : List Span) (n : ℕ) (es : List 
   pub uids : List EntityUID
   pub read : AreReadAt text uids spans
   pub entities : L ≡ entities_by uids es n
-  pub bare : AreBare L
+  pub bare : HaveNoIndirect L
 
 -- Holds if w is a reason why the entities cannot be created: a uid cannot be parsed, or something is out of range.
 abbrev pub IsUnlisted : List ℕ → List Span → ℕ → List Edge → Reason → Type 0

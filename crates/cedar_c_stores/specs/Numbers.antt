@@ -10,8 +10,8 @@ use Rattle.cedar_entity_maps.specs.Plain.{StoreView}
 use Rattle.cedar_c_lists.specs.Texts.{IsReadOf, IsTextOf, IsUnread}
 use Rattle.cedar_c_lists.specs.declared.reason.Reason.{Reason}
 use Rattle.cedar_c_lists.specs.declared.reason.Reason.TheVariants as reasons
-use Rattle.cedar_c_stores.specs.Stores.{TellsWhether}
-use Rattle.cedar_c_stores.specs.declared.kept_store.KeptStore.{KeptStore}
+use Rattle.cedar_c_stores.specs.Stores.{ReportsWhether}
+use Rattle.cedar_c_stores.specs.declared.store_state.StoreState.{StoreState}
 
 -- The uids, with u appended unless the list contains it.
 abbrev pub uids_with : List EntityUID → EntityUID → List EntityUID
@@ -23,10 +23,10 @@ IsNumberOf us u n = (slice_get us n ≡ Some u) × IsDistinct same_uid us
 
 -- Holds for a call that returns the number of the uid in a text, and appends the uid if it has none. Nothing else
 -- changes. After an error nothing has changed.
-abbrev pub GivesNumber : {B H : Type 0} → List ℕ → Result ℕ Reason → KeptStore B H → KeptStore B H → Type 0
-GivesNumber text (Ok n) i j = (u : EntityUID) × IsReadOf u text
+abbrev pub ReturnsNumber : {B H : Type 0} → List ℕ → Result ℕ Reason → StoreState B H → StoreState B H → Type 0
+ReturnsNumber text (Ok n) i j = (u : EntityUID) × IsReadOf u text
     × (j ≡ record i { numbers = uids_with i.numbers u }) × IsNumberOf j.numbers u n
-GivesNumber text (Err w) i j = (j ≡ i) × IsUnread text w
+ReturnsNumber text (Err w) i j = (j ≡ i) × IsUnread text w
 
 -- Holds if no uid has the number n and w is `BadArgument`.
 abbrev pub IsNoNumber : List EntityUID → ℕ → Reason → Type 0
@@ -34,23 +34,23 @@ IsNoNumber us n w = (w ≡ reasons.BadArgument) × (slice_get us n ≡ None)
 
 -- Holds for a call that returns whether the store has an entity with the uid of a number, or an error if no uid has the
 -- number.
-abbrev pub AsksForNumber : StoreView → List EntityUID → ℕ → Result Bool Reason → Type 0
-AsksForNumber S us n (Ok b) = (u : EntityUID) × (slice_get us n ≡ Some u) × (b ≡ finmap.contains_key S.held u)
-AsksForNumber S us n (Err w) = IsNoNumber us n w
+abbrev pub ReadsPresenceByNumber : StoreView → List EntityUID → ℕ → Result Bool Reason → Type 0
+ReadsPresenceByNumber S us n (Ok b) = (u : EntityUID) × (slice_get us n ≡ Some u) × (b ≡ finmap.contains_key S.entities u)
+ReadsPresenceByNumber S us n (Err w) = IsNoNumber us n w
 
 -- Holds for a call that returns whether the entity with the uid of one number is a descendant of the uid of another. It
 -- returns an error if no uid has one of the numbers, or if the store has no such entity.
-abbrev pub AsksNumbers : StoreView → List EntityUID → ℕ → ℕ → Result Bool Reason → Type 0
-AsksNumbers S us child ancestor (Ok b) =
+abbrev pub ReadsAncestryByNumbers : StoreView → List EntityUID → ℕ → ℕ → Result Bool Reason → Type 0
+ReadsAncestryByNumbers S us child ancestor (Ok b) =
     (u : EntityUID) × (v : EntityUID) × (slice_get us child ≡ Some u) × (slice_get us ancestor ≡ Some v)
-    × TellsWhether S u v b
-AsksNumbers S us child ancestor (Err w) =
+    × ReportsWhether S u v b
+ReadsAncestryByNumbers S us child ancestor (Err w) =
     IsNoNumber us child w ⊎ (IsNoNumber us ancestor w ⊎ ((w ≡ reasons.NoEntity)
-    × ((u : EntityUID) × (slice_get us child ≡ Some u) × (finmap.get S.held u ≡ None))))
+    × ((u : EntityUID) × (slice_get us child ≡ Some u) × (finmap.get S.entities u ≡ None))))
 
 -- Holds for a call that stores the text of the uid of a number in `answer`, and changes nothing else. After an error
 -- nothing has changed.
-abbrev pub NamesNumber : {A B H : Type 0} → ℕ → Result A Reason → KeptStore B H → KeptStore B H → Type 0
+abbrev pub NamesNumber : {A B H : Type 0} → ℕ → Result A Reason → StoreState B H → StoreState B H → Type 0
 NamesNumber n (Ok a) i j = (u : EntityUID) × (slice_get i.numbers n ≡ Some u)
     × ((t : List ℕ) × IsTextOf u t × (j ≡ record i { answer = t ∷ [] }))
 NamesNumber n (Err w) i j = (j ≡ i) × ((w ≡ reasons.NoMemory) ⊎ IsNoNumber i.numbers n w)

@@ -7,33 +7,33 @@ use Rattle.cedar_ids.specs.declared.entity.EntityUID.{EntityUID}
 use Rattle.cedar_graph.specs.Graph.{Reach}
 use Rattle.cedar_entity.specs.Fields.{Fields, KeysAscend, field_keys}
 use Rattle.cedar_entity.specs.View.{EntityView, IsDeepEqual}
-use Rattle.cedar_entities.specs.Answers.{ListsHeld}
+use Rattle.cedar_entities.specs.Answers.{ListsEntityMap}
 use Rattle.cedar_entity_maps.specs.Plain.{StoreView}
-use Rattle.cedar_entity_maps.specs.World.{World, graph}
+use Rattle.cedar_entity_maps.specs.InputStore.{InputStore, graph}
 use Rattle.cedar_c_lists.specs.Texts.{AreTextsOf, IsReadOf, IsUnread}
 use Rattle.cedar_c_lists.specs.declared.reason.Reason.{Reason}
 use Rattle.cedar_c_lists.specs.declared.reason.Reason.TheVariants as reasons
-use Rattle.cedar_c_stores.specs.declared.kept_store.KeptStore.{KeptStore}
+use Rattle.cedar_c_stores.specs.declared.store_state.StoreState.{StoreState}
 
 -- ---- an entity by the text of its uid
 
 -- Holds if e is the entity of the store S with the uid in a text.
-abbrev pub IsHeldAt : StoreView → List ℕ → EntityView → Type 0
-IsHeldAt S text e = (u : EntityUID) × IsReadOf u text × (finmap.get S.held u ≡ Some e)
+abbrev pub IsStoredAt : StoreView → List ℕ → EntityView → Type 0
+IsStoredAt S text e = (u : EntityUID) × IsReadOf u text × (finmap.get S.entities u ≡ Some e)
 
 -- Holds if the store S has no entity with the uid in a text.
-abbrev pub IsHeldNot : StoreView → List ℕ → Type 0
-IsHeldNot S text = (u : EntityUID) × IsReadOf u text × (finmap.get S.held u ≡ None)
+abbrev pub IsNotStored : StoreView → List ℕ → Type 0
+IsNotStored S text = (u : EntityUID) × IsReadOf u text × (finmap.get S.entities u ≡ None)
 
 -- Holds if w is a reason why an entity cannot be read: its uid cannot be parsed from the text, or the store has no such
 -- entity.
 abbrev pub IsUntoldOf : StoreView → List ℕ → Reason → Type 0
-IsUntoldOf S text w = IsUnread text w ⊎ ((w ≡ reasons.NoEntity) × IsHeldNot S text)
+IsUntoldOf S text w = IsUnread text w ⊎ ((w ≡ reasons.NoEntity) × IsNotStored S text)
 
 -- Holds for a call that returns a value of the entity with the uid in a text, or an error if the entity cannot be read.
-abbrev pub AsksOne : {X : Type 0} → (EntityView → X) → StoreView → List ℕ → Result X Reason → Type 0
-AsksOne value S text (Ok x) = (e : EntityView) × IsHeldAt S text e × (x ≡ value e)
-AsksOne value S text (Err w) = IsUntoldOf S text w
+abbrev pub ReadsValue : {X : Type 0} → (EntityView → X) → StoreView → List ℕ → Result X Reason → Type 0
+ReadsValue value S text (Ok x) = (e : EntityView) × IsStoredAt S text e × (x ≡ value e)
+ReadsValue value S text (Err w) = IsUntoldOf S text w
 
 -- The number of attributes of an entity.
 abbrev pub attrs_count : EntityView → ℕ
@@ -46,27 +46,27 @@ tags_count e = length e.tags
 -- Holds for a call that returns whether `test` is true of the entity with the uid in the text `child` and of the uid in
 -- the text `other`. It returns an error if a uid cannot be parsed, or if the store has no such entity. With has_parent,
 -- for example, the call returns whether `other` is a parent of `child`.
-abbrev pub AsksAbove : (EntityView → EntityUID → Bool) → StoreView → List ℕ → List ℕ → Result Bool Reason → Type 0
-AsksAbove test S child other (Ok b) =
-    (e : EntityView) × (v : EntityUID) × IsHeldAt S child e × IsReadOf v other × (b ≡ test e v)
-AsksAbove test S child other (Err w) =
-    IsUnread child w ⊎ (IsUnread other w ⊎ ((w ≡ reasons.NoEntity) × IsHeldNot S child))
+abbrev pub ReadsRelation : (EntityView → EntityUID → Bool) → StoreView → List ℕ → List ℕ → Result Bool Reason → Type 0
+ReadsRelation test S child other (Ok b) =
+    (e : EntityView) × (v : EntityUID) × IsStoredAt S child e × IsReadOf v other × (b ≡ test e v)
+ReadsRelation test S child other (Err w) =
+    IsUnread child w ⊎ (IsUnread other w ⊎ ((w ≡ reasons.NoEntity) × IsNotStored S child))
 
 -- Whether a uid is an indirect ancestor of an entity.
 abbrev pub has_indirect : EntityView → EntityUID → Bool
 has_indirect e q = set.contains e.indirect q
 
 -- Holds if u reaches q over the parents of an input store, and q is not a parent of u.
-abbrev pub IsFarAbove : World → EntityUID → EntityUID → Type 0
-IsFarAbove W u q = Reach (graph W) u q × (graph W u q ≡ false)
+abbrev pub IsIndirectAncestorIn : InputStore → EntityUID → EntityUID → Type 0
+IsIndirectAncestorIn W u q = Reach (graph W) u q × (graph W u q ≡ false)
 
 -- Holds for a call that returns whether the entities with the uid in a text are deeply equal in two stores. It returns
 -- an error if the uid cannot be parsed, or if one of the stores has no such entity.
 abbrev pub ComparesAt : StoreView → StoreView → List ℕ → Result Bool Reason → Type 0
 ComparesAt S T text (Ok b) =
-    (d : EntityView) × (e : EntityView) × IsHeldAt S text d × IsHeldAt T text e × (IsTrue b ↔ IsDeepEqual d e)
+    (d : EntityView) × (e : EntityView) × IsStoredAt S text d × IsStoredAt T text e × (IsTrue b ↔ IsDeepEqual d e)
 ComparesAt S T text (Err w) =
-    IsUnread text w ⊎ ((w ≡ reasons.NoEntity) × (IsHeldNot S text ⊎ IsHeldNot T text))
+    IsUnread text w ⊎ ((w ≡ reasons.NoEntity) × (IsNotStored S text ⊎ IsNotStored T text))
 
 -- ---- the result of looking up a uid
 
@@ -80,18 +80,18 @@ found_number None false = 0
 -- parsed.
 abbrev pub FindsAt : StoreView → List ℕ → Result ℕ Reason → Type 0
 FindsAt S text (Ok n) =
-    (u : EntityUID) × IsReadOf u text × (n ≡ found_number (finmap.get S.held u) S.partial)
+    (u : EntityUID) × IsReadOf u text × (n ≡ found_number (finmap.get S.entities u) S.partial)
 FindsAt S text (Err w) = IsUnread text w
 
 -- Holds if j has the same store as i, made partial, and everything else is unchanged.
-abbrev pub MakesPartial : {B H : Type 0} → KeptStore B H → KeptStore B H → Type 0
-MakesPartial i j = (j.store ≡ record i.store { partial = true }) × (j.answer ≡ i.answer)
+abbrev pub StateBecomesPartial : {B H : Type 0} → StoreState B H → StoreState B H → Type 0
+StateBecomesPartial i j = (j.store ≡ record i.store { partial = true }) × (j.answer ≡ i.answer)
     × (j.nodes.items ≡ i.nodes.items) × (j.refusal.items ≡ i.refusal.items) × (j.numbers ≡ i.numbers)
 
 -- ---- answers
 
 -- Holds if `answer` has become texts with the property Are, and everything else is unchanged.
-abbrev pub IsAnswered : {B H : Type 0} → (StoreView → List (List ℕ) → Type 0) → KeptStore B H → KeptStore B H → Type 0
+abbrev pub IsAnswered : {B H : Type 0} → (StoreView → List (List ℕ) → Type 0) → StoreState B H → StoreState B H → Type 0
 IsAnswered Are i j = (j.store ≡ i.store) × (j.refusal.items ≡ i.refusal.items) × (j.nodes.items ≡ i.nodes.items)
     × (j.numbers ≡ i.numbers) × Are i.store j.answer
 
@@ -101,24 +101,24 @@ uid_held e = e.uid
 
 -- Holds if the texts are the texts of the uids of all entities, each once.
 abbrev pub AreAllUids : StoreView → List (List ℕ) → Type 0
-AreAllUids S texts = (es : List EntityView) × ListsHeld S.held es × AreTextsOf (map uid_held es) texts
+AreAllUids S texts = (es : List EntityView) × ListsEntityMap S.entities es × AreTextsOf (map uid_held es) texts
 
 -- Holds if there is exactly one text. No contract describes its content.
 abbrev pub IsOneText : List (List ℕ) → Type 0
 IsOneText texts = (t : List ℕ) × (texts ≡ t ∷ [])
 
 -- Holds for a call that stores texts of the store in `answer`. If an allocation fails, nothing has changed.
-abbrev pub AnswersOf : {A B H : Type 0} → (StoreView → List (List ℕ) → Type 0) → Result A Reason → KeptStore B H
-    → KeptStore B H → Type 0
+abbrev pub AnswersOf : {A B H : Type 0} → (StoreView → List (List ℕ) → Type 0) → Result A Reason → StoreState B H
+    → StoreState B H → Type 0
 AnswersOf Are (Ok a) i j = IsAnswered Are i j
 AnswersOf Are (Err w) i j = (j ≡ i) × (w ≡ reasons.NoMemory)
 
 -- Holds for a call that stores texts of the entity with the uid in a text in `answer`. After an error nothing has
 -- changed.
 abbrev pub AnswersAt : {A B H : Type 0} → (EntityView → List (List ℕ) → Type 0) → List ℕ → Result A Reason
-    → KeptStore B H → KeptStore B H → Type 0
+    → StoreState B H → StoreState B H → Type 0
 AnswersAt Are text (Ok a) i j =
-    IsAnswered (λ S texts. (e : EntityView) × IsHeldAt S text e × Are e texts) i j
+    IsAnswered (λ S texts. (e : EntityView) × IsStoredAt S text e × Are e texts) i j
 AnswersAt Are text (Err w) i j = (j ≡ i) × ((w ≡ reasons.NoMemory) ⊎ IsUntoldOf i.store text w)
 
 -- Holds if the texts are the keys of the fields of an entity, in ascending order.

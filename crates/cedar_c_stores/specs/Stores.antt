@@ -20,20 +20,20 @@ use Rattle.cedar_entity.specs.declared.err.EntitiesError.{EntitiesError}
 use Rattle.cedar_entity.specs.declared.err.EntitiesError.TheVariants as errors
 use Rattle.cedar_entities.specs.Changes.{AddsEntities, AddsPlain, RemovesEntities, RemovesPlain}
 use Rattle.cedar_entities.specs.Changes.{UpsertsEntities, UpsertsPlain}
-use Rattle.cedar_entity_maps.specs.Plain.{StoreView, no_entities, given_of, AreBare, IsPlainStore}
+use Rattle.cedar_entity_maps.specs.Plain.{StoreView, no_entities, input_of, HaveNoIndirect, IsPlainStore}
 use Rattle.cedar_entities.specs.StoreFaults.{IsStoreFault, IsValidStore}
-use Rattle.cedar_entity_maps.specs.World.{World, graph}
+use Rattle.cedar_entity_maps.specs.InputStore.{InputStore, graph}
 use Rattle.cedar_entity_maps.specs.declared.modes.TCComputation.{TCComputation}
 use Rattle.cedar_slice.specs.Slices.{sliced, IsPlainSlice}
 use Rattle.cedar_c_stores.specs.Lists.{AreListed, IsMode, IsNoMode, IsUnlisted}
 use Rattle.cedar_c_lists.specs.Reasons.{words_of}
-use Rattle.cedar_c_lists.specs.Stops.{IsStopped, KeepsRefusal}
+use Rattle.cedar_c_lists.specs.Stops.{IsStopped, KeepsErrorText}
 use Rattle.cedar_c_lists.specs.Texts.{AreReadAt, AreTextsOf, IsAsciiUid, IsOneUnread, IsReadOf, IsUnread, spaced}
 use Rattle.cedar_c_lists.specs.declared.layout.Edge.{Edge}
 use Rattle.cedar_c_lists.specs.declared.layout.Span.{Span}
 use Rattle.cedar_c_lists.specs.declared.reason.Reason.{Reason}
 use Rattle.cedar_c_lists.specs.declared.reason.Reason.TheVariants as reasons
-use Rattle.cedar_c_stores.specs.declared.kept_store.KeptStore.{KeptStore}
+use Rattle.cedar_c_stores.specs.declared.store_state.StoreState.{StoreState}
 
 -- ---- errors
 
@@ -60,46 +60,46 @@ reason_of (errors.ReservedKey k) = reasons.ReservedKey
 reason_of errors.Memory = reasons.NoMemory
 
 -- The uids in an error of a store.
-abbrev pub uids_named : EntitiesError → List EntityUID
-uids_named (errors.Duplicate u) = u ∷ []
-uids_named (errors.TransitiveClosureError t) = closure_names t
-uids_named (errors.SelfAncestor u) = u ∷ []
-uids_named (errors.DuplicateAncestor u a) = u ∷ a ∷ []
-uids_named (errors.ActionParentIsNotAction u p) = u ∷ p ∷ []
-uids_named (errors.ReservedKey k) = []
-uids_named errors.Memory = []
+abbrev pub uids_in_error : EntitiesError → List EntityUID
+uids_in_error (errors.Duplicate u) = u ∷ []
+uids_in_error (errors.TransitiveClosureError t) = closure_names t
+uids_in_error (errors.SelfAncestor u) = u ∷ []
+uids_in_error (errors.DuplicateAncestor u a) = u ∷ a ∷ []
+uids_in_error (errors.ActionParentIsNotAction u p) = u ∷ p ∷ []
+uids_in_error (errors.ReservedKey k) = []
+uids_in_error errors.Memory = []
 
 -- The key in an error of a store, after a space.
-abbrev pub key_named : EntitiesError → List ℕ
-key_named (errors.ReservedKey k) = 32 ∷ string_bytes k
-key_named e = []
+abbrev pub key_in_error : EntitiesError → List ℕ
+key_in_error (errors.ReservedKey k) = 32 ∷ string_bytes k
+key_in_error e = []
 
 -- Holds if `text` is the text of an error: the words of its reason, then its uids, each after a space, then its key.
 -- Allows any text if a uid is not ASCII.
 abbrev pub IsRefusalText : EntitiesError → List ℕ → Type 0
-IsRefusalText e text = AllByRecursion IsAsciiUid (uids_named e)
-    → text ≡ words_of (reason_of e) ++ (flat_map spaced (uids_named e) ++ key_named e)
+IsRefusalText e text = AllByRecursion IsAsciiUid (uids_in_error e)
+    → text ≡ words_of (reason_of e) ++ (flat_map spaced (uids_in_error e) ++ key_in_error e)
 
 -- Holds if w is the reason of an error and `text` is its text, or if w is `NoMemory`. A call returns `NoMemory` also if
 -- the allocation of the text fails.
-abbrev pub IsToldBy : EntitiesError → Reason → List ℕ → Type 0
-IsToldBy e w text = (w ≡ reasons.NoMemory) ⊎ ((w ≡ reason_of e) × IsRefusalText e text)
+abbrev pub IsErrorTextBy : EntitiesError → Reason → List ℕ → Type 0
+IsErrorTextBy e w text = (w ≡ reasons.NoMemory) ⊎ ((w ≡ reason_of e) × IsRefusalText e text)
 
 -- ---- changing a store
 
 -- The empty store.
 abbrev pub empty_store : StoreView
-empty_store = record { held = no_entities; partial = false }
+empty_store = record { entities = no_entities; partial = false }
 
 -- The empty store that is partial exactly if S is.
 abbrev pub emptied : StoreView → StoreView
-emptied S = record { held = no_entities; partial = S.partial }
+emptied S = record { entities = no_entities; partial = S.partial }
 
 -- Holds if `answer`, the nodes and the numbers are unchanged. The text of the last error may change only if the call
 -- returned an error other than `NoMemory`.
-abbrev pub KeepsTexts : {A B H : Type 0} → Result A Reason → KeptStore B H → KeptStore B H → Type 0
+abbrev pub KeepsTexts : {A B H : Type 0} → Result A Reason → StoreState B H → StoreState B H → Type 0
 KeepsTexts r i j = (j.answer ≡ i.answer) × (j.nodes.items ≡ i.nodes.items) × (j.numbers ≡ i.numbers)
-    × KeepsRefusal r i.refusal.items j.refusal.items
+    × KeepsErrorText r i.refusal.items j.refusal.items
 
 -- Holds if the store is unchanged, or if an allocation failed and the store is empty. It is then partial exactly if it
 -- was before.
@@ -108,81 +108,81 @@ StaysOrEmpties O w N = (N ≡ O) ⊎ ((w ≡ reasons.NoMemory) × (N ≡ emptied
 
 -- Holds if k has the store that an edit of O returned. After an error k has the reason and the text of the error, and
 -- the store O. After an allocation failure k can have an empty store instead.
-abbrev pub KeepsGiven : {A B H : Type 0} → Result StoreView EntitiesError → StoreView → Result A Reason → KeptStore B H
+abbrev pub StoresResult : {A B H : Type 0} → Result StoreView EntitiesError → StoreView → Result A Reason → StoreState B H
     → Type 0
-KeepsGiven (Ok S) O (Ok a) k = k.store ≡ S
-KeepsGiven (Err e) O (Err w) k = StaysOrEmpties O w k.store × IsToldBy e w k.refusal.items
-KeepsGiven given O answer k = ⊥
+StoresResult (Ok S) O (Ok a) k = k.store ≡ S
+StoresResult (Err e) O (Err w) k = StaysOrEmpties O w k.store × IsErrorTextBy e w k.refusal.items
+StoresResult given O answer k = ⊥
 
 -- Holds if k has the store that was built instead of O. After an error k has the reason and the text of the error, and
 -- the store O.
-abbrev pub KeepsBuilt : {A B H : Type 0} → Result StoreView EntitiesError → StoreView → Result A Reason → KeptStore B H
+abbrev pub StoresBuilt : {A B H : Type 0} → Result StoreView EntitiesError → StoreView → Result A Reason → StoreState B H
     → Type 0
-KeepsBuilt (Ok S) O (Ok a) k = k.store ≡ S
-KeepsBuilt (Err e) O (Err w) k = (k.store ≡ O) × IsToldBy e w k.refusal.items
-KeepsBuilt given O answer k = ⊥
+StoresBuilt (Ok S) O (Ok a) k = k.store ≡ S
+StoresBuilt (Err e) O (Err w) k = (k.store ≡ O) × IsErrorTextBy e w k.refusal.items
+StoresBuilt given O answer k = ⊥
 
 -- Holds if `given` is the result of adding the entities L to the store S in mode m.
-pub record AddGives (m : TCComputation) (L : List EntityView) (S : StoreView)
+pub record IsAddResult (m : TCComputation) (L : List EntityView) (S : StoreView)
     (given : Result StoreView EntitiesError) : Type 0 where
   pub partial : IfOk given (λ N. N.partial ≡ S.partial)
-  pub adds : AddsEntities m S.held L given (λ N. N.held)
-  pub plain : (W : World) → IsPlainStore W S → AreBare L → AddsPlain m W (map given_of L) given
+  pub adds : AddsEntities m S.entities L given (λ N. N.entities)
+  pub plain : (W : InputStore) → IsPlainStore W S → HaveNoIndirect L → AddsPlain m W (map input_of L) given
 
 -- Holds if `given` is the result of upserting the entities L into the store S in mode m.
-pub record UpsertGives (m : TCComputation) (L : List EntityView) (S : StoreView)
+pub record IsUpsertResult (m : TCComputation) (L : List EntityView) (S : StoreView)
     (given : Result StoreView EntitiesError) : Type 0 where
   pub partial : IfOk given (λ N. N.partial ≡ S.partial)
-  pub upserts : UpsertsEntities m S.held L given
-  pub plain : (W : World) → IsPlainStore W S → AreBare L → UpsertsPlain m W (map given_of L) given
+  pub upserts : UpsertsEntities m S.entities L given
+  pub plain : (W : InputStore) → IsPlainStore W S → HaveNoIndirect L → UpsertsPlain m W (map input_of L) given
 
 -- Holds if `given` is the result of removing the uids U from the store S in mode m.
-pub record RemoveGives (m : TCComputation) (U : List EntityUID) (S : StoreView)
+pub record IsRemoveResult (m : TCComputation) (U : List EntityUID) (S : StoreView)
     (given : Result StoreView EntitiesError) : Type 0 where
   pub partial : IfOk given (λ N. N.partial ≡ S.partial)
-  pub removes : RemovesEntities m S.held U given
-  pub plain : (W : World) → IsPlainStore W S → RemovesPlain W U given
+  pub removes : RemovesEntities m S.entities U given
+  pub plain : (W : InputStore) → IsPlainStore W S → RemovesPlain W U given
 
 -- Holds for a call that adds the entities L to the store S.
-abbrev pub Adds : {A B H : Type 0} → TCComputation → List EntityView → StoreView → Result A Reason → KeptStore B H
+abbrev pub Adds : {A B H : Type 0} → TCComputation → List EntityView → StoreView → Result A Reason → StoreState B H
     → Type 0
-Adds m L S r k = (given : Result StoreView EntitiesError) × AddGives m L S given × KeepsGiven given S r k
+Adds m L S r k = (given : Result StoreView EntitiesError) × IsAddResult m L S given × StoresResult given S r k
 
 -- Holds for a call that replaces the store O by the result of adding the entities L to an empty store.
-abbrev pub Builds : {A B H : Type 0} → TCComputation → List EntityView → StoreView → Result A Reason → KeptStore B H
+abbrev pub Builds : {A B H : Type 0} → TCComputation → List EntityView → StoreView → Result A Reason → StoreState B H
     → Type 0
-Builds m L O r k = (given : Result StoreView EntitiesError) × AddGives m L empty_store given × KeepsBuilt given O r k
+Builds m L O r k = (given : Result StoreView EntitiesError) × IsAddResult m L empty_store given × StoresBuilt given O r k
 
 -- Holds for a call that upserts the entities L into the store S.
-abbrev pub Upserts : {A B H : Type 0} → TCComputation → List EntityView → StoreView → Result A Reason → KeptStore B H
+abbrev pub Upserts : {A B H : Type 0} → TCComputation → List EntityView → StoreView → Result A Reason → StoreState B H
     → Type 0
-Upserts m L S r k = (given : Result StoreView EntitiesError) × UpsertGives m L S given × KeepsGiven given S r k
+Upserts m L S r k = (given : Result StoreView EntitiesError) × IsUpsertResult m L S given × StoresResult given S r k
 
 -- Holds for a call that removes the uids U from the store S.
-abbrev pub Removes : {A B H : Type 0} → TCComputation → List EntityUID → StoreView → Result A Reason → KeptStore B H
+abbrev pub Removes : {A B H : Type 0} → TCComputation → List EntityUID → StoreView → Result A Reason → StoreState B H
     → Type 0
-Removes m U S r k = (given : Result StoreView EntitiesError) × RemoveGives m U S given × KeepsGiven given S r k
+Removes m U S r k = (given : Result StoreView EntitiesError) × IsRemoveResult m U S given × StoresResult given S r k
 
 -- Holds for a call that replaces the store by the entities of lists, in the mode of a number. If the mode or the lists
 -- cannot be read, the call fails and changes nothing.
-abbrev pub BuildsListed : {A B H : Type 0} → List ℕ → List Span → ℕ → List Edge → ℕ → Result A Reason → KeptStore B H
-    → KeptStore B H → Type 0
+abbrev pub BuildsListed : {A B H : Type 0} → List ℕ → List Span → ℕ → List Edge → ℕ → Result A Reason → StoreState B H
+    → StoreState B H → Type 0
 BuildsListed text spans n es mode r i j =
     IsStopped (λ w. IsNoMode mode w ⊎ IsUnlisted text spans n es w) r i j
     ⊎ ((m : TCComputation) × (L : List EntityView) × IsMode mode m × AreListed text spans n es L
     × Builds m L i.store r j × KeepsTexts r i j)
 
 -- Holds for a call that adds the entities of lists to the store, in the same way.
-abbrev pub AddsListed : {A B H : Type 0} → List ℕ → List Span → ℕ → List Edge → ℕ → Result A Reason → KeptStore B H
-    → KeptStore B H → Type 0
+abbrev pub AddsListed : {A B H : Type 0} → List ℕ → List Span → ℕ → List Edge → ℕ → Result A Reason → StoreState B H
+    → StoreState B H → Type 0
 AddsListed text spans n es mode r i j =
     IsStopped (λ w. IsNoMode mode w ⊎ IsUnlisted text spans n es w) r i j
     ⊎ ((m : TCComputation) × (L : List EntityView) × IsMode mode m × AreListed text spans n es L × Adds m L i.store r j
     × KeepsTexts r i j)
 
 -- Holds for a call that upserts the entities of lists, in the same way.
-abbrev pub UpsertsListed : {A B H : Type 0} → List ℕ → List Span → ℕ → List Edge → ℕ → Result A Reason → KeptStore B H
-    → KeptStore B H → Type 0
+abbrev pub UpsertsListed : {A B H : Type 0} → List ℕ → List Span → ℕ → List Edge → ℕ → Result A Reason → StoreState B H
+    → StoreState B H → Type 0
 UpsertsListed text spans n es mode r i j =
     IsStopped (λ w. IsNoMode mode w ⊎ IsUnlisted text spans n es w) r i j
     ⊎ ((m : TCComputation) × (L : List EntityView) × IsMode mode m × AreListed text spans n es L
@@ -190,7 +190,7 @@ UpsertsListed text spans n es mode r i j =
 
 -- Holds for a call that removes the entities with the uids in parts of a text, in the mode of a number. If the mode or
 -- a uid cannot be read, the call fails and changes nothing.
-abbrev pub RemovesListed : {A B H : Type 0} → List ℕ → List Span → ℕ → Result A Reason → KeptStore B H → KeptStore B H
+abbrev pub RemovesListed : {A B H : Type 0} → List ℕ → List Span → ℕ → Result A Reason → StoreState B H → StoreState B H
     → Type 0
 RemovesListed text spans mode r i j =
     IsStopped (λ w. IsNoMode mode w ⊎ IsOneUnread text spans w) r i j
@@ -201,88 +201,88 @@ RemovesListed text spans mode r i j =
 
 -- Holds if the store S has an entity with the uid u, and `answer` is whether v is one of its ancestors. In a plain
 -- store of W that is whether u reaches v over the parents in W.
-pub record TellsWhether (S : StoreView) (u v : EntityUID) (answer : Bool) : Type 0 where
+pub record ReportsWhether (S : StoreView) (u v : EntityUID) (answer : Bool) : Type 0 where
   pub entity : EntityView
-  pub held : finmap.get S.held u ≡ Some entity
+  pub entities : finmap.get S.entities u ≡ Some entity
   pub told : answer ≡ has_ancestor entity v
-  pub plain : (W : World) → IsPlainStore W S → (answer ≡ true) ↔ Reach (graph W) u v
+  pub plain : (W : InputStore) → IsPlainStore W S → (answer ≡ true) ↔ Reach (graph W) u v
 
 -- Holds for a call that returns whether the entity with the uid in the text `child` is a descendant of the uid in the
 -- text `ancestor`. It returns an error if a uid cannot be parsed, or if the store has no such entity.
-abbrev pub Asks : StoreView → List ℕ → List ℕ → Result Bool Reason → Type 0
-Asks S child ancestor (Ok b) =
-    (u : EntityUID) × (v : EntityUID) × IsReadOf u child × IsReadOf v ancestor × TellsWhether S u v b
-Asks S child ancestor (Err w) =
+abbrev pub ReadsAncestry : StoreView → List ℕ → List ℕ → Result Bool Reason → Type 0
+ReadsAncestry S child ancestor (Ok b) =
+    (u : EntityUID) × (v : EntityUID) × IsReadOf u child × IsReadOf v ancestor × ReportsWhether S u v b
+ReadsAncestry S child ancestor (Err w) =
     IsUnread child w ⊎ (IsUnread ancestor w ⊎ ((w ≡ reasons.NoEntity)
-    × ((u : EntityUID) × IsReadOf u child × (finmap.get S.held u ≡ None))))
+    × ((u : EntityUID) × IsReadOf u child × (finmap.get S.entities u ≡ None))))
 
 -- Holds for a call that returns whether the store has an entity with the uid in a text, or an error if the uid cannot
 -- be parsed.
-abbrev pub AsksFor : StoreView → List ℕ → Result Bool Reason → Type 0
-AsksFor S text (Ok b) = (u : EntityUID) × IsReadOf u text × (b ≡ finmap.contains_key S.held u)
-AsksFor S text (Err w) = IsUnread text w
+abbrev pub ReadsPresence : StoreView → List ℕ → Result Bool Reason → Type 0
+ReadsPresence S text (Ok b) = (u : EntityUID) × IsReadOf u text × (b ≡ finmap.contains_key S.entities u)
+ReadsPresence S text (Err w) = IsUnread text w
 
 -- Holds if the texts are the texts of the uids for which `test` is true of the entity with the uid u, in ascending
 -- order. In a plain store of W they are the uids that are related to u in W. With has_ancestor and IsAbove, for
 -- example, they are the ancestors of the entity.
-pub record ListsThose (test : EntityView → EntityUID → Bool) (Related : World → EntityUID → EntityUID
+pub record ListsThose (test : EntityView → EntityUID → Bool) (Related : InputStore → EntityUID → EntityUID
     → Type 0) (S : StoreView) (u : EntityUID) (texts : List (List ℕ)) : Type 0 where
   pub entity : EntityView
-  pub held : finmap.get S.held u ≡ Some entity
+  pub entities : finmap.get S.entities u ≡ Some entity
   pub uids : List EntityUID
   pub ascend : Ascend uids
   pub members : (q : EntityUID) → is_member same_uid uids q ≡ test entity q
-  pub plain : (W : World) → IsPlainStore W S → (q : EntityUID) → (is_member same_uid uids q ≡ true) ↔ Related W u q
+  pub plain : (W : InputStore) → IsPlainStore W S → (q : EntityUID) → (is_member same_uid uids q ≡ true) ↔ Related W u q
   pub are_texts : AreTextsOf uids texts
 
 -- Holds for a call that stores these texts for the entity with the uid in a text in `answer`, and changes nothing else.
 -- After an error nothing has changed.
-abbrev pub Listing : {A B H : Type 0} → (EntityView → EntityUID → Bool) → (World → EntityUID → EntityUID → Type 0)
-    → List ℕ → Result A Reason → KeptStore B H → KeptStore B H → Type 0
+abbrev pub Listing : {A B H : Type 0} → (EntityView → EntityUID → Bool) → (InputStore → EntityUID → EntityUID → Type 0)
+    → List ℕ → Result A Reason → StoreState B H → StoreState B H → Type 0
 Listing test Related text (Ok a) i j =
     (j.store ≡ i.store) × (j.refusal.items ≡ i.refusal.items) × (j.nodes.items ≡ i.nodes.items)
     × (j.numbers ≡ i.numbers) × ((u : EntityUID) × IsReadOf u text × ListsThose test Related i.store u j.answer)
 Listing test Related text (Err w) i j =
     (j ≡ i) × ((w ≡ reasons.NoMemory) ⊎ (IsUnread text w
-    ⊎ ((w ≡ reasons.NoEntity) × ((u : EntityUID) × IsReadOf u text × (finmap.get i.store.held u ≡ None)))))
+    ⊎ ((w ≡ reasons.NoEntity) × ((u : EntityUID) × IsReadOf u text × (finmap.get i.store.entities u ≡ None)))))
 
 -- Whether a uid is a parent of an entity.
 abbrev pub has_parent : EntityView → EntityUID → Bool
 has_parent e q = set.contains e.parents q
 
 -- Holds if u reaches q over the parents in the input store W. Parents are reached too.
-abbrev pub IsAbove : World → EntityUID → EntityUID → Type 0
-IsAbove W u q = Reach (graph W) u q
+abbrev pub IsAncestorIn : InputStore → EntityUID → EntityUID → Type 0
+IsAncestorIn W u q = Reach (graph W) u q
 
 -- Holds if q is a parent of u in the input store W.
-abbrev pub IsParent : World → EntityUID → EntityUID → Type 0
+abbrev pub IsParent : InputStore → EntityUID → EntityUID → Type 0
 IsParent W u q = graph W u q ≡ true
 
 -- Holds for a call that validates the store. If the store is valid, nothing has changed. Otherwise the call returns the
 -- reason of a fault and stores its text, and changes nothing else. After `NoMemory` the text is unchanged too.
-abbrev pub Validates : {A B H : Type 0} → Result A Reason → KeptStore B H → KeptStore B H → Type 0
-Validates (Ok a) i j = IsValidStore i.store.held × (j ≡ i)
+abbrev pub Validates : {A B H : Type 0} → Result A Reason → StoreState B H → StoreState B H → Type 0
+Validates (Ok a) i j = IsValidStore i.store.entities × (j ≡ i)
 Validates (Err w) i j =
     (j.store ≡ i.store) × (j.answer ≡ i.answer) × (j.nodes.items ≡ i.nodes.items) × (j.numbers ≡ i.numbers)
     × (w ≡ reasons.NoMemory → j.refusal.items ≡ i.refusal.items)
-    × ((w ≡ reasons.NoMemory) ⊎ ((e : EntitiesError) × IsStoreFault i.store.held e × IsToldBy e w j.refusal.items))
+    × ((w ≡ reasons.NoMemory) ⊎ ((e : EntitiesError) × IsStoreFault i.store.entities e × IsErrorTextBy e w j.refusal.items))
 
 -- Holds if `answer`, the nodes, the numbers and the text of the last error are empty.
-abbrev pub IsUntold : {B H : Type 0} → KeptStore B H → Type 0
+abbrev pub IsUntold : {B H : Type 0} → StoreState B H → Type 0
 IsUntold k = (k.answer ≡ []) × (k.refusal.items ≡ []) × (k.nodes.items ≡ []) × (k.numbers ≡ [])
 
 -- Holds if N is the slice of the store S at the uids U. The slice of a plain store is plain.
 pub record IsSlice (U : List EntityUID) (S N : StoreView) : Type 0 where
-  pub held : N ≡ record { held = sliced S.held U; partial = false }
-  pub plain : (W : World) → IsPlainStore W S → IsPlainSlice W U N
+  pub entities : N ≡ record { entities = sliced S.entities U; partial = false }
+  pub plain : (W : InputStore) → IsPlainStore W S → IsPlainSlice W U N
 
 -- Holds for a call that returns the slice of the store S at the uids in parts of a text, with an empty state. It returns
 -- an error if a uid cannot be parsed, or if an allocation fails.
-abbrev pub SlicesAt : {B H : Type 0} → List ℕ → List Span → StoreView → Result (KeptStore B H) Reason → Type 0
+abbrev pub SlicesAt : {B H : Type 0} → List ℕ → List Span → StoreView → Result (StoreState B H) Reason → Type 0
 SlicesAt text spans S (Ok k) = (U : List EntityUID) × AreReadAt text U spans × IsSlice U S k.store × IsUntold k
 SlicesAt text spans S (Err w) = IsOneUnread text spans w
 
 -- Holds for a call that returns a copy of the store S with an empty state, or `NoMemory` if an allocation fails.
-abbrev pub Copies : {B H : Type 0} → StoreView → Result (KeptStore B H) Reason → Type 0
+abbrev pub Copies : {B H : Type 0} → StoreView → Result (StoreState B H) Reason → Type 0
 Copies S (Ok k) = (k.store ≡ S) × IsUntold k
 Copies S (Err w) = w ≡ reasons.NoMemory

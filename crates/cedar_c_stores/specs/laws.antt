@@ -1,3 +1,3 @@
 pub mod Listed
 pub mod Rows
-pub mod Shown
+pub mod EncodedNodes

@@ -1,16 +1,16 @@
 //! The calls on a store that take entities with content.
-ghost use Rattle.cedar_c_stores.specs.Contents.{AddsLaid, BuildsLaid, laid_by, UpsertsLaid};
+ghost use Rattle.cedar_c_stores.specs.Contents.{AddsFromLists, BuildsFromLists, from_lists_by, UpsertsFromLists};
 
 use crate::content::Content;
-use crate::kept_store::KeptStore;
-use crate::laid::entities_laid;
+use crate::from_lists::entities_from_lists;
 use crate::listing::mode_of;
 use crate::store_calls::EntityLists;
+use crate::store_state::StoreState;
 use cedar_c_lists::Reason;
 use std::alloc::Global;
 use std::hash::BuildHasher;
 
-impl<S: BuildHasher + Copy> KeptStore<S> {
+impl<S: BuildHasher + Copy> StoreState<S> {
     /// Replaces the store by the entities in `lists` with their `content`, with the mode of this number. The new store
     /// is the result of adding these entities to an empty store.
     ///
@@ -31,10 +31,10 @@ impl<S: BuildHasher + Copy> KeptStore<S> {
         content: Content<'_>,
         mode: u32,
     ) -> Result<(), Reason>
-        ensures { BuildsLaid (laid_by lists.entry content.entry) mode result self.old self.new }
+        ensures { BuildsFromLists (from_lists_by lists.entry content.entry) mode result self.old self.new }
     {
         let mode = mode_of(mode)?;
-        let list = match entities_laid(alloc, &mut self.known, lists, content) {
+        let list = match entities_from_lists(alloc, &mut self.known, lists, content) {
             Ok(list) => list,
             Err(reason) => return Err(reason),
         };
@@ -54,10 +54,10 @@ impl<S: BuildHasher + Copy> KeptStore<S> {
         content: Content<'_>,
         mode: u32,
     ) -> Result<(), Reason>
-        ensures { AddsLaid (laid_by lists.entry content.entry) mode result self.old self.new }
+        ensures { AddsFromLists (from_lists_by lists.entry content.entry) mode result self.old self.new }
     {
         let mode = mode_of(mode)?;
-        let list = match entities_laid(alloc, &mut self.known, lists, content) {
+        let list = match entities_from_lists(alloc, &mut self.known, lists, content) {
             Ok(list) => list,
             Err(reason) => return Err(reason),
         };
@@ -77,10 +77,10 @@ impl<S: BuildHasher + Copy> KeptStore<S> {
         content: Content<'_>,
         mode: u32,
     ) -> Result<(), Reason>
-        ensures { UpsertsLaid (laid_by lists.entry content.entry) mode result self.old self.new }
+        ensures { UpsertsFromLists (from_lists_by lists.entry content.entry) mode result self.old self.new }
     {
         let mode = mode_of(mode)?;
-        let list = match entities_laid(alloc, &mut self.known, lists, content) {
+        let list = match entities_from_lists(alloc, &mut self.known, lists, content) {
             Ok(list) => list,
             Err(reason) => return Err(reason),
         };

@@ -8,16 +8,16 @@ ghost use Rattle.std.specs.Prelude.{◌≡◌, IfErr, IfOk, IsTrue, OnOk, Result
 ghost use Rattle.cedar_entity.specs.declared.err.EntitiesError.{EntitiesError};
 ghost use Rattle.cedar_entity_maps.specs.Plain.{StoreView, entities_in};
 ghost use Rattle.cedar_entity_maps.specs.declared.modes.TCComputation.TheVariants.{ComputeNow};
-ghost use Rattle.cedar_c_stores.specs.Edits.{EditGives, Edits, EditsKept, IsSure, KeepsPlain, StandsOrEmpties};
+ghost use Rattle.cedar_c_stores.specs.Edits.{IsEditResult, Edits, EditsState, IsSure, StaysPlain, RemainsOrEmpties};
 ghost use Rattle.cedar_c_stores.specs.SomePlain.{IsSomePlain};
 ghost use Rattle.cedar_c_stores.specs.Stores.{Adds, Builds, KeepsTexts, Removes, Upserts, emptied};
 
-use crate::kept_store::KeptStore;
-use crate::watched::Watched;
+use crate::cached_store::CachedStore;
+use crate::store_state::StoreState;
 use cedar_c_lists::Reason;
+use cedar_dry_run::{have_no_indirect, would_add, would_upsert};
 use cedar_entities::{Entities, EntitiesError, Entity, TCComputation};
 use cedar_ids::entity::EntityUID;
-use cedar_trial_edits::{are_bare, would_add, would_upsert};
 use std::alloc::Global;
 use std::hash::BuildHasher;
 use std::mem;
@@ -45,16 +45,16 @@ fn computes(mode: TCComputation) -> bool
 }
 
 // Returns whether the store is known to be plain and stays plain after the edit.
-pub(crate) fn keeps_plain(plain: bool, edit: &Edit, mode: TCComputation) -> bool
+pub(crate) fn stays_plain(plain: bool, edit: &Edit, mode: TCComputation) -> bool
     ensures plain { IsTrue result → IsTrue plain }
-    ensures keeps { IsTrue result → KeepsPlain mode edit.now }
+    ensures keeps { IsTrue result → StaysPlain mode edit.now }
 {
     if !plain {
         return false;
     }
     match edit {
-        Edit::Add(list) => computes(mode) && are_bare(list),
-        Edit::Upsert(list) => computes(mode) && are_bare(list),
+        Edit::Add(list) => computes(mode) && have_no_indirect(list),
+        Edit::Upsert(list) => computes(mode) && have_no_indirect(list),
         Edit::Remove(_) => true,
     }
 }
@@ -66,7 +66,7 @@ pub(crate) fn made<S: BuildHasher + Clone>(
     edit: Edit,
     mode: TCComputation,
 ) -> Result<Entities<S>, EntitiesError>
-    ensures { EditGives mode edit store result }
+    ensures { IsEditResult mode edit store result }
 {
     match edit {
         Edit::Add(list) => store.add_entities(alloc, list, mode),
@@ -95,8 +95,8 @@ fn make<S: BuildHasher + Copy>(
     edit: Edit,
     mode: TCComputation,
 ) -> Result<(), EntitiesError>
-    ensures { (given : Result StoreView EntitiesError) × EditGives mode edit store.old given
-        × StandsOrEmpties store.old given result store.new }
+    ensures { (given : Result StoreView EntitiesError) × IsEditResult mode edit store.old given
+        × RemainsOrEmpties store.old given result store.new }
 {
     let empty = emptied(alloc, hasher, store);
     let old = mem::replace(store, empty);
@@ -118,8 +118,8 @@ fn try_edit<S: BuildHasher + Clone>(
     mode: TCComputation,
 ) -> Result<(), EntitiesError>
     requires plain { IsSomePlain store.now }
-    requires keeps { KeepsPlain mode edit.now }
-    ensures refused { IfErr result (λ e. EditGives mode edit.now store.now (Err e)) }
+    requires keeps { StaysPlain mode edit.now }
+    ensures refused { IfErr result (λ e. IsEditResult mode edit.now store.now (Err e)) }
     ensures passes { OnOk result (IsSure mode edit.now store.now) }
 {
     match edit {
@@ -138,7 +138,7 @@ fn edit_plain<S: BuildHasher + Copy>(
     mode: TCComputation,
 ) -> Result<(), EntitiesError>
     requires plain { IsSomePlain store.old }
-    requires keeps { KeepsPlain mode edit }
+    requires keeps { StaysPlain mode edit }
     ensures { Edits mode edit store.old result store.new }
 {
     match try_edit(alloc, store, &edit, mode) {
@@ -177,7 +177,7 @@ pub(crate) fn edit_store<S: BuildHasher + Copy>(
     plain: bool,
 ) -> Result<(), EntitiesError>
     requires plain { IsTrue plain → IsSomePlain store.old }
-    requires keeps { IsTrue plain → KeepsPlain mode edit }
+    requires keeps { IsTrue plain → StaysPlain mode edit }
     ensures edits { Edits mode edit store.old result store.new }
     ensures stays { OnOk result (IsTrue plain → IsSomePlain store.new) }
 {
@@ -187,11 +187,11 @@ pub(crate) fn edit_store<S: BuildHasher + Copy>(
     edit_copied(alloc, store, hasher, edit, mode)
 }
 
-impl<S: BuildHasher + Copy> KeptStore<S> {
+impl<S: BuildHasher + Copy> StoreState<S> {
     // Makes an edit. After an error the store is unchanged, except that an allocation failure can leave it empty. It is
     // then partial exactly if it was before.
     fn edit(&mut self, alloc: Global, edit: Edit, mode: TCComputation) -> Result<(), Reason>
-        ensures edits { EditsKept mode edit self.old.store result self.new }
+        ensures edits { EditsState mode edit self.old.store result self.new }
         ensures texts { KeepsTexts result self.old self.new }
     {
         match self.store.edit(alloc, self.hasher, edit, mode) {
@@ -228,7 +228,7 @@ impl<S: BuildHasher + Copy> KeptStore<S> {
         ensures builds { Builds mode (entities_in list.items) self.old.store result self.new }
         ensures texts { KeepsTexts result self.old self.new }
     {
-        match Watched::built(alloc, self.hasher, list, mode) {
+        match CachedStore::built(alloc, self.hasher, list, mode) {
             Ok(store) => {
                 self.store = store;
                 Ok(())

@@ -2,26 +2,26 @@
 //! content. Handles are in `cedar_c`.
 #![tactic(auto, using(cedar_ids::specs::laws::UidOfLaws::same_uid_decides))]
 
-mod apart;
+mod cached_store;
 mod content;
 mod content_calls;
+mod deep_copies;
 mod edits;
-pub mod kept_store;
+mod from_lists;
 mod keys;
 pub mod known;
-mod laid;
 mod listing;
-mod noted;
 mod number_calls;
 pub mod numbers;
+mod query_cache;
 mod reads;
 mod refusal;
 mod rows;
 mod store_calls;
+pub mod store_state;
 mod values;
-mod watched;
 
+pub use cached_store::CachedStore;
 pub use content::{Content, Term};
-pub use kept_store::KeptStore;
 pub use store_calls::EntityLists;
-pub use watched::Watched;
+pub use store_state::StoreState;

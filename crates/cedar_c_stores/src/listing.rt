@@ -109,7 +109,7 @@ pub(crate) fn without_parents(alloc: Global, uids: &[SharedUid]) -> Result<Vec<L
 }
 
 // Appends a parent to the item at a position. Returns `BadArgument` if there is none.
-fn put_at(listed: &mut Vec<Listed>, place: usize, parent: SharedUid) -> Result<(), Reason>
+fn push_parent_at(listed: &mut Vec<Listed>, place: usize, parent: SharedUid) -> Result<(), Reason>
     ensures ok { OnOk result ((place < length listed.old.items)
         × (listed.new.items ≡ with_edge place parent listed.old.items)) }
     ensures err { IfErr result (λ w. (w ≡ NoMemory) ⊎ ((w ≡ BadArgument) × (length listed.old.items ≤ place))) }
@@ -133,7 +133,7 @@ pub(crate) fn uid_in(uids: &[SharedUid], place: usize) -> Result<SharedUid, Reas
 }
 
 // Appends the target of each edge to the parents of its source.
-pub(crate) fn put_edges(
+pub(crate) fn push_parents(
     listed: &mut Vec<Listed>,
     uids: &[SharedUid],
     edges: &[Edge],
@@ -145,7 +145,7 @@ pub(crate) fn put_edges(
 {
     for edge in edges {
         let parent = uid_in(uids, edge.to)?;
-        put_at(listed, edge.from, parent)?;
+        push_parent_at(listed, edge.from, parent)?;
     }
     Ok(())
 }
@@ -184,7 +184,7 @@ fn gathered(
 {
     let first = first_of(uids, count)?;
     let mut listed = without_parents(alloc, first)?;
-    match put_edges(&mut listed, uids, edges) {
+    match push_parents(&mut listed, uids, edges) {
         Ok(()) => Ok(entities_with(alloc, listed)?),
         Err(reason) => Err(reason),
     }

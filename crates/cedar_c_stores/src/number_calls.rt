@@ -1,12 +1,12 @@
 //! The calls on a store by the numbers of uids.
-ghost use Rattle.cedar_c_stores.specs.Numbers.{AsksForNumber, AsksNumbers, GivesNumber, NamesNumber};
+ghost use Rattle.cedar_c_stores.specs.Numbers.{ReadsPresenceByNumber, ReadsAncestryByNumbers, ReturnsNumber, NamesNumber};
 
-use crate::kept_store::KeptStore;
+use crate::store_state::StoreState;
 use cedar_c_lists::{Answer, Reason, with_uid};
 use std::alloc::Global;
 use std::hash::BuildHasher;
 
-impl<S: BuildHasher + Copy> KeptStore<S> {
+impl<S: BuildHasher + Copy> StoreState<S> {
     /// Returns the number of the uid in a text. The first uid gets 0, the next new one gets 1, and so on. Later calls
     /// with the same uid return the same number. The store need not have an entity with the uid. Edits do not change
     /// numbers. A copy or a slice begins without numbers.
@@ -18,7 +18,7 @@ impl<S: BuildHasher + Copy> KeptStore<S> {
     ///
     /// After an error nothing has changed.
     pub fn uid_number(&mut self, alloc: Global, text: &[u8]) -> Result<usize, Reason>
-        ensures { GivesNumber text.now result self.old self.new }
+        ensures { ReturnsNumber text.now result self.old self.new }
     {
         let uid = self.known.uid_of(alloc, text)?;
         Ok(self.numbers.number_of(alloc, uid)?)
@@ -30,7 +30,7 @@ impl<S: BuildHasher + Copy> KeptStore<S> {
     ///
     /// - `BadArgument`: no uid has the number.
     pub fn has_number(&self, number: usize) -> Result<bool, Reason>
-        ensures { AsksForNumber self.now.store self.now.numbers number result }
+        ensures { ReadsPresenceByNumber self.now.store self.now.numbers number result }
     {
         match self.numbers.uid_at(number) {
             None => Err(Reason::BadArgument),
@@ -46,7 +46,7 @@ impl<S: BuildHasher + Copy> KeptStore<S> {
     /// - `BadArgument`: no uid has one of the numbers.
     /// - `NoEntity`: the store has no entity with the uid of `child`.
     pub fn is_descendant_of_numbers(&self, child: usize, ancestor: usize) -> Result<bool, Reason>
-        ensures { AsksNumbers self.now.store self.now.numbers child ancestor result }
+        ensures { ReadsAncestryByNumbers self.now.store self.now.numbers child ancestor result }
     {
         let Some(child) = self.numbers.uid_at(child) else {
             return Err(Reason::BadArgument);

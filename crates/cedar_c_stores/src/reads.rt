@@ -1,12 +1,12 @@
 //! The calls that read a store or one of its entities.
 ghost use Rattle.std.specs.Prelude.{◌≡◌, [], ◌∷◌, ◌++◌, IfOk, List, map, ℕ};
 ghost use Rattle.cedar_c_stores.specs.Stores.{Listing, has_parent};
-ghost use Rattle.cedar_c_stores.specs.Reads.{AnswersAt, AnswersOf, AreAllUids, AreKeysOf, AsksAbove, AsksOne};
-ghost use Rattle.cedar_c_stores.specs.Reads.{ComparesAt, FindsAt, IsFarAbove, IsOneText, attrs_count, attrs_of};
+ghost use Rattle.cedar_c_stores.specs.Reads.{AnswersAt, AnswersOf, AreAllUids, AreKeysOf, ReadsRelation, ReadsValue};
+ghost use Rattle.cedar_c_stores.specs.Reads.{ComparesAt, FindsAt, IsIndirectAncestorIn, IsOneText, attrs_count, attrs_of};
 ghost use Rattle.cedar_c_stores.specs.Reads.{has_indirect, tags_count, tags_of, uid_held};
 ghost use Rattle.cedar_c_lists.specs.Texts.{AreTextsOf};
 
-use crate::kept_store::{KeptStore, texts_of_set};
+use crate::store_state::{StoreState, texts_of_set};
 use cedar_c_lists::{Answer, Reason, with_uid};
 use cedar_entities::{Dereference, Iter, Keys};
 use std::alloc::{AllocError, Global};
@@ -41,7 +41,7 @@ fn one_text(alloc: Global, text: &str) -> Result<Answer, AllocError>
     Answer::new(alloc).with(text.as_bytes())
 }
 
-impl<S: BuildHasher + Copy> KeptStore<S> {
+impl<S: BuildHasher + Copy> StoreState<S> {
     /// Returns 2 if the store has an entity with the uid in a text. Otherwise returns 1 in a partial store, where it is
     /// unknown whether the entity exists, and 0 in another store.
     ///
@@ -70,7 +70,7 @@ impl<S: BuildHasher + Copy> KeptStore<S> {
     /// - `NoMemory`: an allocation failed.
     pub fn attrs_len(&mut self, alloc: Global, text: &[u8]) -> Result<usize, Reason>
         ensures same { self.new ≡ self.old }
-        ensures tells { AsksOne attrs_count self.old.store text.now result }
+        ensures tells { ReadsValue attrs_count self.old.store text.now result }
     {
         let uid = self.known.uid_of(alloc, text)?;
         match self.store.stored(&uid) {
@@ -86,7 +86,7 @@ impl<S: BuildHasher + Copy> KeptStore<S> {
     /// The errors of `attrs_len`.
     pub fn tags_len(&mut self, alloc: Global, text: &[u8]) -> Result<usize, Reason>
         ensures same { self.new ≡ self.old }
-        ensures tells { AsksOne tags_count self.old.store text.now result }
+        ensures tells { ReadsValue tags_count self.old.store text.now result }
     {
         let uid = self.known.uid_of(alloc, text)?;
         match self.store.stored(&uid) {
@@ -109,7 +109,7 @@ impl<S: BuildHasher + Copy> KeptStore<S> {
         parent: &[u8],
     ) -> Result<bool, Reason>
         ensures same { self.new ≡ self.old }
-        ensures asks { AsksAbove has_parent self.old.store child.now parent.now result }
+        ensures asks { ReadsRelation has_parent self.old.store child.now parent.now result }
     {
         let child = self.known.uid_of(alloc, child)?;
         let parent = match self.known.uid_of(alloc, parent) {
@@ -135,7 +135,7 @@ impl<S: BuildHasher + Copy> KeptStore<S> {
         ancestor: &[u8],
     ) -> Result<bool, Reason>
         ensures same { self.new ≡ self.old }
-        ensures asks { AsksAbove has_indirect self.old.store child.now ancestor.now result }
+        ensures asks { ReadsRelation has_indirect self.old.store child.now ancestor.now result }
     {
         let child = self.known.uid_of(alloc, child)?;
         let ancestor = match self.known.uid_of(alloc, ancestor) {
@@ -160,7 +160,7 @@ impl<S: BuildHasher + Copy> KeptStore<S> {
         &mut self,
         alloc: Global,
         text: &[u8],
-        other: &KeptStore<S>,
+        other: &StoreState<S>,
     ) -> Result<bool, Reason>
         ensures same { self.new ≡ self.old }
         ensures compares { ComparesAt self.old.store other.now.store text.now result }
@@ -197,7 +197,7 @@ impl<S: BuildHasher + Copy> KeptStore<S> {
     ///
     /// After an error nothing has changed.
     pub fn indirect_ancestors(&mut self, alloc: Global, text: &[u8]) -> Result<(), Reason>
-        ensures { Listing has_indirect IsFarAbove text.now result self.old self.new }
+        ensures { Listing has_indirect IsIndirectAncestorIn text.now result self.old self.new }
     {
         let uid = self.known.uid_of(alloc, text)?;
         let answer = match self.store.stored(&uid) {

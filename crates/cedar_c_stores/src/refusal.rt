@@ -1,8 +1,8 @@
 //! The reasons and the texts of the errors of a store.
 ghost use Rattle.std.specs.Prelude.{◌≡◌, ◌≢◌, ◌++◌, IfOk, OnOk};
 ghost use Rattle.std.specs.List.{AllByRecursion, flat_map};
-ghost use Rattle.cedar_c_stores.specs.Stores.{IsRefusalText, closure_names, closure_reason, key_named, reason_of};
-ghost use Rattle.cedar_c_stores.specs.Stores.{uids_named};
+ghost use Rattle.cedar_c_stores.specs.Stores.{IsRefusalText, closure_names, closure_reason, key_in_error, reason_of};
+ghost use Rattle.cedar_c_stores.specs.Stores.{uids_in_error};
 ghost use Rattle.cedar_c_lists.specs.Texts.{IsAsciiUid, spaced};
 ghost use Rattle.cedar_c_lists.specs.declared.reason.Reason.TheVariants as reasons;
 
@@ -59,9 +59,9 @@ fn push_closure(
 }
 
 // Appends the uids or the key in an error.
-fn push_named(alloc: Global, out: &mut Vec<u8>, error: &EntitiesError) -> Result<(), AllocError>
-    ensures { OnOk result (AllByRecursion IsAsciiUid (uids_named error.now) →
-        out.new.items ≡ out.old.items ++ (flat_map spaced (uids_named error.now) ++ key_named error.now)) }
+fn push_uid_text(alloc: Global, out: &mut Vec<u8>, error: &EntitiesError) -> Result<(), AllocError>
+    ensures { OnOk result (AllByRecursion IsAsciiUid (uids_in_error error.now) →
+        out.new.items ≡ out.old.items ++ (flat_map spaced (uids_in_error error.now) ++ key_in_error error.now)) }
 {
     match error {
         EntitiesError::Duplicate(uid) => push_uid(alloc, out, uid),
@@ -85,29 +85,33 @@ fn push_named(alloc: Global, out: &mut Vec<u8>, error: &EntitiesError) -> Result
 
 // The reason of an error other than an allocation failure, and the text of the error.
 #[derive(Drop)]
-pub(crate) struct Told {
+pub(crate) struct ErrorText {
     pub(crate) reason: Reason,
     pub(crate) text: Vec<u8>,
 }
 
 // Returns a reason with the text of the error: the words of the reason, then the uids or the key in the error.
-fn told_for(alloc: Global, reason: Reason, error: &EntitiesError) -> Result<Told, AllocError>
+fn error_text_for(
+    alloc: Global,
+    reason: Reason,
+    error: &EntitiesError,
+) -> Result<ErrorText, AllocError>
     requires { reason ≡ reason_of error.now }
     ensures { IfOk result (λ t. (t.reason ≡ reason_of error.now) × IsRefusalText error.now t.text.items) }
 {
     let mut text = Vec::new(alloc);
     text.extend_from_slice(reason.words().as_bytes())?;
-    push_named(alloc, &mut text, error)?;
-    Ok(Told { reason, text })
+    push_uid_text(alloc, &mut text, error)?;
+    Ok(ErrorText { reason, text })
 }
 
 // Returns the reason and the text of an error, or `AllocError` if the error is an allocation failure.
-pub(crate) fn told_by(alloc: Global, error: &EntitiesError) -> Result<Told, AllocError>
+pub(crate) fn error_text_of(alloc: Global, error: &EntitiesError) -> Result<ErrorText, AllocError>
     ensures { IfOk result (λ t. (t.reason ≡ reason_of error.now) × (t.reason ≢ reasons.NoMemory)
         × IsRefusalText error.now t.text.items) }
 {
     match reason_of(error) {
         Reason::NoMemory => Err(AllocError),
-        reason => told_for(alloc, reason, error),
+        reason => error_text_for(alloc, reason, error),
     }
 }

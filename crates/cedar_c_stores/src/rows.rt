@@ -13,7 +13,7 @@ ghost use Rattle.cedar_c_lists.specs.declared.reason.Reason.TheVariants.{BadArgu
 
 use crate::content::Term;
 use crate::keys::key_at;
-use crate::listing::{Listed, first_of, put_edges, uid_in, without_parents};
+use crate::listing::{Listed, first_of, push_parents, uid_in, without_parents};
 use cedar_c_lists::{Edge, Reason};
 use cedar_c_trees::{Node, partial_value_of};
 use cedar_entities::Entity;
@@ -25,7 +25,7 @@ use std::collections::HashSet;
 use std::marker::Model;
 use std::rc::Rc;
 
-// The parts of an entity. Contracts see them as `Said`.
+// The parts of an entity. Contracts see them as `EntityParts`.
 #[derive(Drop)]
 pub(crate) struct Row {
     uid: SharedUid,
@@ -37,10 +37,10 @@ pub(crate) struct Row {
 
 impl Model for Row {
     ghost use Rattle.cedar_entity.specs.Fields.{fields_of};
-    ghost use Rattle.cedar_c_stores.specs.Contents.{Said};
+    ghost use Rattle.cedar_c_stores.specs.Contents.{EntityParts};
     ghost use Rattle.cedar_c_stores.specs.laws.Rows.{said_code};
 
-    ghost Value = { Said };
+    ghost Value = { EntityParts };
 
     ghost coded = { said_code };
 
@@ -82,7 +82,7 @@ fn add_parents(entity: &mut Entity, parents: Vec<SharedUid>) -> Result<(), Alloc
 }
 
 // Adds shared indirect ancestors to an entity without indirect ancestors. Parents are skipped.
-fn add_above(entity: &mut Entity, above: Vec<SharedUid>) -> Result<(), AllocError>
+fn insert_indirect(entity: &mut Entity, above: Vec<SharedUid>) -> Result<(), AllocError>
     requires { entity.old.indirect ≡ set.empty }
     ensures { OnOk result (entity.new ≡ record entity.old {
       indirect = set.difference (set.from_list above.items) entity.old.parents;
@@ -108,7 +108,7 @@ impl Row {
     }
 
     // Appends an indirect ancestor.
-    fn add_above(&mut self, uid: SharedUid) -> Result<(), AllocError>
+    fn insert_indirect(&mut self, uid: SharedUid) -> Result<(), AllocError>
         ensures { OnOk result (self.new ≡ with_above uid self.old) }
     {
         self.above.push(uid)?;
@@ -146,7 +146,7 @@ impl Row {
         } = self;
         let mut entity = with_fields(alloc, uid.into_uid()?, attrs, tags)?;
         add_parents(&mut entity, parents)?;
-        add_above(&mut entity, above)?;
+        insert_indirect(&mut entity, above)?;
         Ok(Rc::new(alloc, entity)?)
     }
 }
@@ -174,14 +174,14 @@ pub(crate) fn first_rows(
 {
     let first = first_of(uids, count)?;
     let mut listed = without_parents(alloc, first)?;
-    match put_edges(&mut listed, uids, edges) {
+    match push_parents(&mut listed, uids, edges) {
         Ok(()) => Ok(rows_of(alloc, listed)?),
         Err(reason) => Err(reason),
     }
 }
 
 // Appends an indirect ancestor to the row at a position. Returns `BadArgument` if there is none.
-fn put_above_at(rows: &mut Vec<Row>, place: usize, uid: SharedUid) -> Result<(), Reason>
+fn push_ancestor_at(rows: &mut Vec<Row>, place: usize, uid: SharedUid) -> Result<(), Reason>
     ensures ok { OnOk result ((place < length rows.old.items)
         × (rows.new.items ≡ changed_at place (with_above uid) rows.old.items)) }
     ensures err { IfErr result (λ w. (w ≡ NoMemory) ⊎ ((w ≡ BadArgument) × (length rows.old.items ≤ place))) }
@@ -189,12 +189,12 @@ fn put_above_at(rows: &mut Vec<Row>, place: usize, uid: SharedUid) -> Result<(),
     let Some(row) = rows.get_mut(place) else {
         return Err(Reason::BadArgument);
     };
-    row.add_above(uid)?;
+    row.insert_indirect(uid)?;
     Ok(())
 }
 
 // Appends the target of each edge to the indirect ancestors of its source.
-pub(crate) fn put_above(
+pub(crate) fn push_ancestors_of_rows(
     rows: &mut Vec<Row>,
     uids: &[SharedUid],
     edges: &[Edge],
@@ -204,13 +204,13 @@ pub(crate) fn put_above(
 {
     for edge in edges {
         let uid = uid_in(uids, edge.to)?;
-        put_above_at(rows, edge.from, uid)?;
+        push_ancestor_at(rows, edge.from, uid)?;
     }
     Ok(())
 }
 
 // Appends an attribute or tag to the row of a term. Returns `BadArgument` if there is no such row or part.
-fn put_field_at(
+fn push_field_at(
     rows: &mut Vec<Row>,
     term: &Term,
     key: String,
@@ -253,7 +253,7 @@ fn value_at(alloc: Global, text: &[u8], nodes: &[Node], term: &Term) -> Result<P
 }
 
 // Adds the attribute or tag of a term to its row.
-fn put_term(
+fn push_term(
     alloc: Global,
     rows: &mut Vec<Row>,
     text: &[u8],
@@ -265,14 +265,14 @@ fn put_term(
 {
     let key = key_at(alloc, text, term.key)?;
     let value = value_at(alloc, text, nodes, term)?;
-    match put_field_at(rows, term, key, value) {
+    match push_field_at(rows, term, key, value) {
         Ok(()) => Ok(()),
         Err(reason) => Err(reason),
     }
 }
 
 // Adds the attributes and tags of terms to their rows.
-pub(crate) fn put_terms(
+pub(crate) fn push_terms(
     alloc: Global,
     rows: &mut Vec<Row>,
     text: &[u8],
@@ -283,13 +283,13 @@ pub(crate) fn put_terms(
     ensures err { IfErr result (IsSomeTermOut text.now nodes.now (length rows.old.items) terms.now) }
 {
     for term in terms {
-        put_term(alloc, rows, text, nodes, term)?;
+        push_term(alloc, rows, text, nodes, term)?;
     }
     Ok(())
 }
 
 // Creates an entity from each row.
-pub(crate) fn entities_said(alloc: Global, rows: Vec<Row>) -> Result<Vec<Rc<Entity>>, AllocError>
+pub(crate) fn entities_of_rows(alloc: Global, rows: Vec<Row>) -> Result<Vec<Rc<Entity>>, AllocError>
     ensures { IfOk result (λ v. AllZip IsEntityOf rows.items (entities_in v.items)) }
 {
     let mut list = Vec::new(alloc);

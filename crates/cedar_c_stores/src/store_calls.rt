@@ -4,9 +4,9 @@ ghost use Rattle.cedar_entity_maps.specs.Plain.{entities_in};
 ghost use Rattle.cedar_c_stores.specs.Lists.{AreListed, IsUnlisted};
 ghost use Rattle.cedar_c_stores.specs.Stores.{AddsListed, BuildsListed, RemovesListed, UpsertsListed};
 
-use crate::kept_store::KeptStore;
 use crate::known::Known;
 use crate::listing::{entities_of, mode_of};
+use crate::store_state::StoreState;
 use cedar_c_lists::{Edge, Reason, Span};
 use cedar_entities::Entity;
 use std::alloc::Global;
@@ -39,7 +39,7 @@ impl EntityLists<'_> {
     }
 }
 
-impl<S: BuildHasher + Copy> KeptStore<S> {
+impl<S: BuildHasher + Copy> StoreState<S> {
     /// Replaces the store by the entities in `lists`, with the mode of this number. The new store is the result of
     /// adding these entities to an empty store. The old store is dropped after the new one is created.
     ///

@@ -2,11 +2,11 @@
 ghost use Rattle.std.specs.Prelude.{IfOk};
 ghost use Rattle.std.specs.Option.{option_map};
 ghost use Rattle.cedar_c_stores.specs.Reads.{attrs_of, tags_of};
-ghost use Rattle.cedar_c_stores.specs.Values.{GetsAt, IsShown};
-ghost use Rattle.cedar_c_stores.specs.laws.Shown.{IsShownIf, KeepsShown};
+ghost use Rattle.cedar_c_stores.specs.Values.{GetsAt, IsEncodedValue};
+ghost use Rattle.cedar_c_stores.specs.laws.EncodedNodes.{IsShownIf, KeepsShown};
 
-use crate::kept_store::KeptStore;
 use crate::keys::key_of;
+use crate::store_state::StoreState;
 use cedar_c_lists::{Answer, Reason};
 use cedar_c_trees::{Node, write_partial};
 use cedar_terms::PartialValue;
@@ -15,43 +15,46 @@ use std::hash::BuildHasher;
 
 // The nodes of a value, and the text to which they refer, as an answer.
 #[derive(Drop)]
-struct Shown {
+struct EncodedNodes {
     answer: Answer,
     nodes: Vec<Node>,
 }
 
 // Encodes a partial value as nodes over a text.
-fn shown_value(alloc: Global, value: &PartialValue) -> Result<Shown, AllocError>
-    ensures { IfOk result (λ s. IsShown value.now s.answer s.nodes.items) }
+fn encode_value(alloc: Global, value: &PartialValue) -> Result<EncodedNodes, AllocError>
+    ensures { IfOk result (λ s. IsEncodedValue value.now s.answer s.nodes.items) }
 {
     let written = write_partial(alloc, value)?;
     let answer = Answer::new(alloc).with(written.bytes())?;
     let nodes = written.into_nodes();
-    Ok(Shown { answer, nodes })
+    Ok(EncodedNodes { answer, nodes })
 }
 
 // Encodes a partial value, if there is one.
-fn shown_if(alloc: Global, value: Option<&PartialValue>) -> Result<Option<Shown>, AllocError>
+fn encode_if_some(
+    alloc: Global,
+    value: Option<&PartialValue>,
+) -> Result<Option<EncodedNodes>, AllocError>
     ensures { IfOk result (IsShownIf (option_map (λ v. v.now) value.entry)) }
 {
     match value {
         None => Ok(None),
         Some(value) => {
-            let one = shown_value(alloc, value)?;
+            let one = encode_value(alloc, value)?;
             Ok(Some(one))
         }
     }
 }
 
-impl<S: BuildHasher + Copy> KeptStore<S> {
+impl<S: BuildHasher + Copy> StoreState<S> {
     // Stores an encoded value, if there is one, and returns whether there is one. Does not allocate.
-    fn keep_shown(&mut self, shown: Option<Shown>) -> bool
+    fn store_encoded(&mut self, shown: Option<EncodedNodes>) -> bool
         ensures { KeepsShown shown result self.old self.new }
     {
         match shown {
             None => false,
             Some(one) => {
-                let Shown { answer, nodes } = one;
+                let EncodedNodes { answer, nodes } = one;
                 self.answer = answer;
                 self.nodes = nodes;
                 true
@@ -77,9 +80,9 @@ impl<S: BuildHasher + Copy> KeptStore<S> {
         let key = key_of(key)?;
         let found = match self.store.stored(&uid) {
             None => return Err(Reason::NoEntity),
-            Some(entity) => shown_if(alloc, entity.get(key))?,
+            Some(entity) => encode_if_some(alloc, entity.get(key))?,
         };
-        Ok(self.keep_shown(found))
+        Ok(self.store_encoded(found))
     }
 
     /// Returns whether the entity with the uid in a text has a tag at a key. Stores the nodes and their text as `get`
@@ -95,8 +98,8 @@ impl<S: BuildHasher + Copy> KeptStore<S> {
         let key = key_of(key)?;
         let found = match self.store.stored(&uid) {
             None => return Err(Reason::NoEntity),
-            Some(entity) => shown_if(alloc, entity.get_tag(key))?,
+            Some(entity) => encode_if_some(alloc, entity.get_tag(key))?,
         };
-        Ok(self.keep_shown(found))
+        Ok(self.store_encoded(found))
     }
 }

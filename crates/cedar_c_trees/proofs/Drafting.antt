@@ -25,7 +25,7 @@ use Rattle.cedar_c_trees.specs.Items.{Item, text_item, uid_item, call_item, unkn
 use Rattle.cedar_c_trees.specs.Items.{Tree, node, Trees, no_trees, tree_then, flat, flats}
 use Rattle.cedar_c_trees.specs.Plans.{expr_plan, exprs_count, exprs_plan, fields_count, fields_plan, value_plan}
 use Rattle.cedar_c_trees.specs.Plans.{values_count, values_plan, text_leaf, HasNames, HaveNames}
-use Rattle.cedar_c_trees.specs.Writes.{AllNote, IsBlankBeside, IsNodeFor, IsWrittenAs, Notes, WrittenParts}
+use Rattle.cedar_c_trees.specs.Writes.{AllEncode, HasZeroUnused, IsNodeFor, IsWrittenAs, Encodes, WrittenParts}
 use Rattle.cedar_c_trees.specs.declared.node.Node.{Node}
 use Rattle.cedar_c_trees.specs.declared.pending.Pending.{Pending}
 use Rattle.cedar_c_trees.specs.declared.pending.Pending.TheVariants as pendings
@@ -67,8 +67,8 @@ text_put text bytes bytes' nodes nodes' start end n old o u s b e f a z =
     }
 
 -- A node that was written for an item.
-pub adds_one : (n : Node) (i : Item) (old new : WrittenParts) → HasNode n old new → Notes new.bytes n i
-    → IsBlankBeside n i → Adds (i ∷ []) old new
+pub adds_one : (n : Node) (i : Item) (old new : WrittenParts) → HasNode n old new → Encodes new.bytes n i
+    → HasZeroUnused n i → Adds (i ∷ []) old new
 adds_one n i old new h w z = record {
   more = h.more;
   added = n ∷ [];
@@ -86,7 +86,7 @@ adds_more is js a b c h g = record {
   nodes = g.nodes ∙ ap (λ l. g.added ++ l) h.nodes ∙ sym (append_assoc g.added h.added a.nodes);
   notes =
       zip_append (IsNodeFor c.bytes) g.added is h.added js g.notes
-      (subst (λ bs. AllNote bs h.added js) (sym g.bytes) (all_kept b.bytes g.more h.added js h.notes));
+      (subst (λ bs. AllEncode bs h.added js) (sym g.bytes) (all_kept b.bytes g.more h.added js h.notes));
 }
 
 pub text_added : (s : List ℕ) (old new : WrittenParts) → HasText 2 0 s old new → Adds (text_item s ∷ []) old new
@@ -305,7 +305,7 @@ exprs_counted (e ∷ es) = omega (arith, exprs_counted es)
 -- The encoded nodes so far, and the remaining values.
 pub record Drafted (whole : Pending) (w : WrittenParts) (ps : List Pending) : Type 0 where
   pub items : List Item
-  pub notes : AllNote w.bytes w.nodes items
+  pub notes : AllEncode w.bytes w.nodes items
   pub all : pending_items ps ++ items ≡ flat (pending_tree whole)
   pub named : AreNamed ps → IsNamed whole
 
@@ -314,7 +314,7 @@ pub drafted_first : (p : Pending) (w : WrittenParts) (ps : List Pending) → w �
     → ps ≡ p ∷ [] → Drafted p w ps
 drafted_first p w ps e f = record {
   items = [];
-  notes = subst (λ (x : WrittenParts). AllNote x.bytes x.nodes []) (sym e) tt;
+  notes = subst (λ (x : WrittenParts). AllEncode x.bytes x.nodes []) (sym e) tt;
   all = append-nil (pending_items ps) ∙ ap pending_items f ∙ append-nil (flat (pending_tree p));
   named = λ h. (named_less [] p (subst AreNamed f h)).1;
 }
@@ -326,9 +326,9 @@ pub drafted_next : (whole : Pending) (w w' : WrittenParts) (ps less after : List
 drafted_next whole w w' ps less after p e d s = record {
   items = s.first ∷ s.others ++ d.items;
   notes =
-      subst (λ ns. AllNote w'.bytes ns (s.first ∷ s.others ++ d.items)) (sym s.adds.nodes)
+      subst (λ ns. AllEncode w'.bytes ns (s.first ∷ s.others ++ d.items)) (sym s.adds.nodes)
       (zip_append (IsNodeFor w'.bytes) s.adds.added (s.first ∷ s.others) w.nodes d.items s.adds.notes
-      (subst (λ bs. AllNote bs w.nodes d.items) (sym s.adds.bytes)
+      (subst (λ bs. AllEncode bs w.nodes d.items) (sym s.adds.bytes)
       (all_kept w.bytes s.adds.more w.nodes d.items d.notes)));
   all =
       sym (append_assoc (pending_items after) (s.first ∷ s.others) d.items)
@@ -349,6 +349,6 @@ less_left w w' ps less after p e s =
 pub drafted_last : (whole : Pending) (w : WrittenParts) (ps : List Pending) → ps ≡ [] → Drafted whole w ps
     → IsWrittenAs (flat (pending_tree whole)) w × IsNamed whole
 drafted_last whole w ps e d = (
-  subst (AllNote w.bytes w.nodes) (ap (λ l. pending_items l ++ d.items) (sym e) ∙ d.all) d.notes,
+  subst (AllEncode w.bytes w.nodes) (ap (λ l. pending_items l ++ d.items) (sym e) ∙ d.all) d.notes,
   d.named (subst AreNamed (sym e) tt),
 )

@@ -10,21 +10,21 @@ use Rattle.cedar_terms.specs.ExprTree.{expr_trees}
 use Rattle.cedar_terms.specs.LiteralTree.{bool_literal, long_literal, string_literal, uid_literal}
 use Rattle.cedar_terms.specs.laws.Children.{expr_list}
 use Rattle.cedar_c_trees.specs.Items.{Item, bool_item, long_item, text_item, uid_item, set_item, record_item, call_item}
-use Rattle.cedar_c_trees.specs.Items.{var_item, slot_item, unknown_item, not_item, binary_item, is_item, Joins}
-use Rattle.cedar_c_trees.specs.Items.{Tree, IsMadeOf, AreMadeOf, IsTypeBelow}
+use Rattle.cedar_c_trees.specs.Items.{var_item, slot_item, unknown_item, not_item, binary_item, is_item, BuildsExpr}
+use Rattle.cedar_c_trees.specs.Items.{Tree, IsBuiltFrom, AreBuiltFrom, IsTypeOfOperand}
 use Rattle.cedar_c_trees.specs.Plans.{expr_plan, exprs_plan, exprs_count, named_unknown, IsTyped, HasNames, HaveNames}
 use Rattle.cedar_c_trees.specs.Plans.{IsReadBack}
-use Rattle.cedar_c_trees.specs.Items.{Tree, IsMadeOf, AreMadeOf, IsTypeBelow}
+use Rattle.cedar_c_trees.specs.Items.{Tree, IsBuiltFrom, AreBuiltFrom, IsTypeOfOperand}
 use Rattle.cedar_c_trees.specs.Plans.{expr_plan, exprs_plan, exprs_count, named_unknown, IsTyped, HasNames, HaveNames}
 use Rattle.cedar_c_trees.specs.Plans.{IsReadBack}
 use Rattle.cedar_c_trees.proofs.Made.{one_made}
 use Rattle.cedar_c_trees.proofs.Unique.{arity, full, one_tree_only}
 
-type_arity : (t : Option NameParts) (n : ℕ) (es : List ExprTree) → IsTypeBelow t n es → length es ≡ n
+type_arity : (t : Option NameParts) (n : ℕ) (es : List ExprTree) → IsTypeOfOperand t n es → length es ≡ n
 type_arity None n es h = ap length h.1 ∙ sym h.0
 type_arity (Some t) n es h = ap length h.2 ∙ sym h.1
 
-pub joins_arity : (i : Item) (es : List ExprTree) (e : ExprTree) → Joins i es e → length es ≡ arity i
+pub joins_arity : (i : Item) (es : List ExprTree) (e : ExprTree) → BuildsExpr i es e → length es ≡ arity i
 joins_arity (bool_item b) es e h = ap length h.0
 joins_arity (long_item n) es e h = ap length h.0
 joins_arity (text_item s) es e h = ap length h.0
@@ -54,7 +54,7 @@ one_text a b e = cc
 none_or_one : (n : ℕ) → n ≡ 0 → n ≡ 1 → ⊥
 none_or_one n z o = omega arith
 
-same_type : (t u : Option NameParts) (n : ℕ) (es : List ExprTree) → IsTypeBelow t n es → IsTypeBelow u n es → t ≡ u
+same_type : (t u : Option NameParts) (n : ℕ) (es : List ExprTree) → IsTypeOfOperand t n es → IsTypeOfOperand u n es → t ≡ u
 same_type None None n es h g = refl
 same_type None (Some u) n es h g = absurd (none_or_one n h.0 g.1)
 same_type (Some t) None n es h g = absurd (none_or_one n g.0 h.1)
@@ -62,7 +62,7 @@ same_type (Some t) (Some u) n es h g =
     ap Some (printed_name_injective t u h.0 h.3 (subst (IsNameText u) (one_text g.0 h.0 (sym g.2 ∙ h.2)) g.3))
 
 -- A node builds one expression from its operands.
-joins_one : (i : Item) (es : List ExprTree) (d e : ExprTree) → Joins i es d → Joins i es e → d ≡ e
+joins_one : (i : Item) (es : List ExprTree) (d e : ExprTree) → BuildsExpr i es d → BuildsExpr i es e → d ≡ e
 joins_one (bool_item b) es d e h g = h.1 ∙ sym g.1
 joins_one (long_item n) es d e h g = h.1 ∙ sym g.1
 joins_one (text_item s) es d e h g = h.1 ∙ sym g.1
@@ -91,7 +91,7 @@ length_listed no_exprs = refl
 length_listed (expr_then e es) = omega (arith, length_listed es)
 
 unknown_planned : (name : List ℕ) (t : Option NameParts) → IsTyped t
-    → IsMadeOf Joins (named_unknown name t) (unknown_node (record { name = name; annotation = t }))
+    → IsBuiltFrom BuildsExpr (named_unknown name t) (unknown_node (record { name = name; annotation = t }))
 unknown_planned name None h = ([], tt, (None, (refl, refl), refl))
 unknown_planned name (Some t) h = (
   val_node (string_literal (printed_name t)) ∷ [],
@@ -101,7 +101,7 @@ unknown_planned name (Some t) h = (
 
 mutual
   -- An expression is built from its tree.
-  pub planned : (e : ExprTree) → HasNames e → IsMadeOf Joins (expr_plan e) e
+  pub planned : (e : ExprTree) → HasNames e → IsBuiltFrom BuildsExpr (expr_plan e) e
   planned (val_node (bool_literal b)) h = ([], tt, (refl, refl))
   planned (val_node (long_literal n)) h = ([], tt, (refl, refl))
   planned (val_node (string_literal s)) h = ([], tt, (refl, refl))
@@ -115,7 +115,7 @@ mutual
   planned (binary_node o x y) h = (x ∷ y ∷ [], (planned x h.0, (planned y h.1, tt)), (x, y, refl, refl))
   planned (is_node e t) h = (e ∷ [], (planned e h, tt), (e, refl, refl))
 
-  all_planned : (es : ExprTrees) → HaveNames es → AreMadeOf Joins (exprs_plan es) (expr_list es)
+  all_planned : (es : ExprTrees) → HaveNames es → AreBuiltFrom BuildsExpr (exprs_plan es) (expr_list es)
   all_planned no_exprs h = tt
   all_planned (expr_then e es) h = (planned e h.0, all_planned es h.1)
 
@@ -125,7 +125,7 @@ read_back e h = record {
   planned = planned e h;
   only =
       λ t d f m.
-      let s : t ≡ expr_plan e = one_tree_only t (expr_plan e) (full Joins joins_arity t d m)
-      (full Joins joins_arity (expr_plan e) e (planned e h)) f in
-      one_made Joins joins_one (expr_plan e) d e (subst (λ (u : Tree). IsMadeOf Joins u d) s m) (planned e h);
+      let s : t ≡ expr_plan e = one_tree_only t (expr_plan e) (full BuildsExpr joins_arity t d m)
+      (full BuildsExpr joins_arity (expr_plan e) e (planned e h)) f in
+      one_made BuildsExpr joins_one (expr_plan e) d e (subst (λ (u : Tree). IsBuiltFrom BuildsExpr u d) s m) (planned e h);
 }

@@ -22,8 +22,8 @@ use Rattle.cedar_c_lists.specs.Texts.{IsInside, IsReadAt, IsReadOf, IsTextOf}
 use Rattle.cedar_c_lists.specs.declared.layout.Span.{Span}
 use Rattle.cedar_c_trees.specs.Items.{Item, bool_item, long_item, text_item, uid_item, set_item, record_item, call_item}
 use Rattle.cedar_c_trees.specs.Items.{var_item, slot_item, unknown_item, not_item, binary_item, is_item}
-use Rattle.cedar_c_trees.specs.Reads.{IsNameAt, IsTextAt, Says}
-use Rattle.cedar_c_trees.specs.Writes.{AllNote, Notes}
+use Rattle.cedar_c_trees.specs.Reads.{IsNameAt, IsTextAt, Decodes}
+use Rattle.cedar_c_trees.specs.Writes.{AllEncode, Encodes}
 use Rattle.cedar_c_trees.specs.declared.node.Node.{Node}
 
 -- A part of a text does not change when bytes are appended.
@@ -50,7 +50,7 @@ uid_kept : (text more : List ℕ) (at : Span) (e : EntityUID) → IsReadAt text 
 uid_kept text more at e h =
     (inside_kept text more at h.0, subst (IsReadOf e) (sym (part_kept text more at h.0)) h.1)
 
-says_kept : (text more : List ℕ) (n : Node) (i : Item) → Says text n i → Says (text ++ more) n i
+says_kept : (text more : List ℕ) (n : Node) (i : Item) → Decodes text n i → Decodes (text ++ more) n i
 says_kept text more n (bool_item b) h = h
 says_kept text more n (long_item z) h = h
 says_kept text more n (text_item s) h = (h.0, text_kept text more n.at s h.1)
@@ -65,7 +65,7 @@ says_kept text more n not_item h = h
 says_kept text more n (binary_item o) h = h
 says_kept text more n (is_item t) h = (h.0, name_kept text more n.at t h.1)
 
-notes_kept : (text more : List ℕ) (n : Node) (i : Item) → Notes text n i → Notes (text ++ more) n i
+notes_kept : (text more : List ℕ) (n : Node) (i : Item) → Encodes text n i → Encodes (text ++ more) n i
 notes_kept text more n (uid_item u) h =
     (h.0, inside_kept text more n.at h.1, λ a. says_kept text more n (uid_item u) (h.2 a))
 notes_kept text more n (bool_item b) h = says_kept text more n (bool_item b) h
@@ -82,8 +82,8 @@ notes_kept text more n (binary_item o) h = says_kept text more n (binary_item o)
 notes_kept text more n (is_item t) h = says_kept text more n (is_item t) h
 
 -- The encoded items of nodes do not change when bytes are appended.
-pub all_kept : (text more : List ℕ) (ns : List Node) (is : List Item) → AllNote text ns is
-    → AllNote (text ++ more) ns is
+pub all_kept : (text more : List ℕ) (ns : List Node) (is : List Item) → AllEncode text ns is
+    → AllEncode (text ++ more) ns is
 all_kept text more [] [] h = tt
 all_kept text more [] (i ∷ is) h = absurd h
 all_kept text more (n ∷ ns) [] h = absurd h

@@ -33,18 +33,18 @@ Leads {X = X} S m text x (n ∷ ns) ss =
     × Leads S m text x ns (front ++ m i under ∷ [])
 
 -- Nodes, split as the items are.
-pub record Parted (R : Node → Item → Type 0) (ns : List Node) (is js : List Item) : Type 0 where
+pub record SharedAndNew (R : Node → Item → Type 0) (ns : List Node) (is js : List Item) : Type 0 where
   pub before : List Node
   pub after : List Node
   pub whole : ns ≡ before ++ after
   pub before_fit : AllZip R before is
   pub after_fit : AllZip R after js
 
-pub parted : (R : Node → Item → Type 0) (ns : List Node) (is js : List Item) → AllZip R ns (is ++ js) → Parted R ns is js
+pub parted : (R : Node → Item → Type 0) (ns : List Node) (is js : List Item) → AllZip R ns (is ++ js) → SharedAndNew R ns is js
 parted R ns [] js h = record { before = []; after = ns; whole = refl; before_fit = tt; after_fit = h }
 parted R [] (i ∷ is) js h = absurd h
 parted R (n ∷ ns) (i ∷ is) js h =
-    let r : Parted R ns is js = parted R ns is js h.1 in
+    let r : SharedAndNew R ns is js = parted R ns is js h.1 in
     record {
       before = n ∷ r.before;
       after = r.after;
@@ -74,7 +74,7 @@ mutual
       (ns rest : List Node) (ss : List X) → IsShaped S m t → AllFit text ns (flat t)
       → Leads S m text x rest (ss ++ shape m t ∷ []) → Leads S m text x (ns ++ rest) ss
   tree_leads S m text x (node i ts) ns rest ss h f g =
-      let p : Parted (Fits text) ns (flats ts) (i ∷ []) = parted (Fits text) ns (flats ts) (i ∷ []) f in
+      let p : SharedAndNew (Fits text) ns (flats ts) (i ∷ []) = parted (Fits text) ns (flats ts) (i ∷ []) f in
       let a : Alone (Fits text) p.after i = lone (Fits text) p.after i p.after_fit in
       let whole : ns ++ rest ≡ p.before ++ (a.one ∷ rest) =
       ap (λ l. l ++ rest) (p.whole ∙ ap (λ l. p.before ++ l) a.is) ∙ append_assoc p.before (a.one ∷ []) rest in
@@ -89,7 +89,7 @@ mutual
       subst (λ (ms : List Node). Leads S m text x (ms ++ rest) ss) (sym (none text ns f))
       (subst (Leads S m text x rest) (append-nil ss) g)
   trees_lead S m text x (tree_then t ts) ns rest ss h f g =
-      let p : Parted (Fits text) ns (flat t) (flats ts) = parted (Fits text) ns (flat t) (flats ts) f in
+      let p : SharedAndNew (Fits text) ns (flat t) (flats ts) = parted (Fits text) ns (flat t) (flats ts) f in
       subst (λ (ms : List Node). Leads S m text x ms ss)
       (sym (ap (λ l. l ++ rest) p.whole ∙ append_assoc p.before p.after rest))
       (tree_leads S m text x t p.before (p.after ++ rest) ss h.0 p.before_fit

@@ -18,8 +18,8 @@ use Rattle.cedar_terms.specs.ValueTree.{ValueTree, value_trees}
 use Rattle.cedar_terms.specs.ValueTree.{FieldTrees, no_fields, field_then, value_cmp}
 use Rattle.cedar_c_trees.specs.Items.{Item, bool_item, long_item, text_item, uid_item, set_item, record_item, call_item}
 use Rattle.cedar_c_trees.specs.Items.{var_item, slot_item, unknown_item, not_item, binary_item, is_item, Combines}
-use Rattle.cedar_c_trees.specs.Items.{Joins, pairs_listed}
-use Rattle.cedar_c_trees.specs.Items.{IsTypeBelow}
+use Rattle.cedar_c_trees.specs.Items.{BuildsExpr, pairs_listed}
+use Rattle.cedar_c_trees.specs.Items.{IsTypeOfOperand}
 use Rattle.cedar_c_trees.specs.Ordered.{AreOrdered, HaveOrdered, IsOrdered, value_list}
 use Rattle.cedar_c_trees.specs.Plans.{HasNames, HaveNames, IsTyped}
 use Rattle.cedar_c_trees.specs.Reads.{IsReadAs}
@@ -115,12 +115,12 @@ exprs_named : (es : List ExprTree) → AllByRecursion HasNames es → HaveNames 
 exprs_named [] a = tt
 exprs_named (e ∷ es) a = (a.0, exprs_named es a.1)
 
-type_named : (t : Option NameParts) (n : ℕ) (es : List ExprTree) → IsTypeBelow t n es → IsTyped t
+type_named : (t : Option NameParts) (n : ℕ) (es : List ExprTree) → IsTypeOfOperand t n es → IsTyped t
 type_named None n es h = tt
 type_named (Some t) n es h = h.3.0
 
 -- A node builds an expression with named types from expressions with named types.
-joins_named : (i : Item) (es : List ExprTree) (e : ExprTree) → AllByRecursion HasNames es → Joins i es e → HasNames e
+joins_named : (i : Item) (es : List ExprTree) (e : ExprTree) → AllByRecursion HasNames es → BuildsExpr i es e → HasNames e
 joins_named (bool_item b) es e a h = subst HasNames (sym h.1) tt
 joins_named (long_item n) es e a h = subst HasNames (sym h.1) tt
 joins_named (text_item s) es e a h = subst HasNames (sym h.1) tt
@@ -142,5 +142,5 @@ pub read_ordered : (text : List ℕ) (ns : List Node) (v : ValueTree) → IsRead
 read_ordered text ns v r = made_has Combines IsOrdered combines_ordered r.tree v r.value
 
 -- The types of decoded unknowns are names.
-pub read_named : (text : List ℕ) (ns : List Node) (e : ExprTree) → IsReadAs Joins text ns e → HasNames e
-read_named text ns e r = made_has Joins HasNames joins_named r.tree e r.value
+pub read_named : (text : List ℕ) (ns : List Node) (e : ExprTree) → IsReadAs BuildsExpr text ns e → HasNames e
+read_named text ns e r = made_has BuildsExpr HasNames joins_named r.tree e r.value

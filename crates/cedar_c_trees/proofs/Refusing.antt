@@ -10,9 +10,9 @@ use Rattle.cedar_c_trees.specs.Items.{Item, bool_item, long_item, text_item, uid
 use Rattle.cedar_c_trees.specs.Items.{var_item, slot_item, unknown_item, not_item, binary_item, is_item}
 use Rattle.cedar_c_trees.specs.Items.{Tree, node, Trees, no_trees, tree_then, flat}
 use Rattle.cedar_c_trees.specs.laws.Levels.{arity, count, IsFull, AreFull, HaveFew, HaveMany}
-use Rattle.cedar_c_trees.specs.Reads.{Says, AllSay, IsReadAs}
+use Rattle.cedar_c_trees.specs.Reads.{Decodes, AllDecode, IsReadAs}
 use Rattle.cedar_c_trees.specs.Refusals.{IsRefused}
-use Rattle.cedar_c_trees.specs.Shapes.{Fits, AllFit, kind_number, is_text, which_texts, IsPlan, ArePlans}
+use Rattle.cedar_c_trees.specs.Shapes.{Fits, AllFit, kind_number, is_text, are_texts, IsPlan, ArePlans}
 use Rattle.cedar_c_trees.specs.laws.Stacks.{IsNotOne, IsUnmade, Makes}
 use Rattle.cedar_c_trees.specs.declared.node.Node.{Node}
 use Rattle.cedar_c_trees.proofs.Leads.{shape, shapes, IsShaped, AreShaped, Leads, leads_from_nothing}
@@ -21,7 +21,7 @@ use Rattle.cedar_c_trees.proofs.Stacks.{Stacked, none_stacked, next_node, one_le
 use Rattle.cedar_c_trees.proofs.Unique.{full}
 
 -- A node that means an item has the shape of the item.
-pub says_fits : (text : List ℕ) (n : Node) (i : Item) → Says text n i → Fits text n i
+pub says_fits : (text : List ℕ) (n : Node) (i : Item) → Decodes text n i → Fits text n i
 says_fits text n (bool_item b) h = record { kind = h.0; filled = h.1 }
 says_fits text n (long_item z) h = record { kind = h.0; filled = h.1 }
 says_fits text n (text_item s) h = record { kind = h.0; filled = h.1.0 }
@@ -36,7 +36,7 @@ says_fits text n not_item h = record { kind = h; filled = tt }
 says_fits text n (binary_item o) h = record { kind = h; filled = tt }
 says_fits text n (is_item t) h = record { kind = h.0; filled = h.1.0 }
 
-pub all_fit : (text : List ℕ) (ns : List Node) (is : List Item) → AllSay text ns is → AllFit text ns is
+pub all_fit : (text : List ℕ) (ns : List Node) (is : List Item) → AllDecode text ns is → AllFit text ns is
 all_fit text [] [] h = tt
 all_fit text [] (i ∷ is) h = absurd h
 all_fit text (n ∷ ns) [] h = absurd h
@@ -54,7 +54,7 @@ pub record IsLanguage {V : Type 0} (C : Item → List V → V → Type 0) (q : V
   pub plan_arity : (i : Item) (under : List Bool) → S i under → length under ≡ arity i
   pub marked : (i : Item) (vs : List V) (v : V) → C i vs v → q v ≡ is_text i
 
-texts_are : (ts : Trees) → shapes mark ts ≡ which_texts ts
+texts_are : (ts : Trees) → shapes mark ts ≡ are_texts ts
 texts_are no_trees = refl
 texts_are (tree_then (node i us) ts) = ap (λ (l : List Bool). is_text i ∷ l) (texts_are ts)
 
@@ -66,7 +66,7 @@ mutual
   plans_shaped S no_trees h = tt
   plans_shaped S (tree_then t ts) h = (plan_shaped S t h.0, plans_shaped S ts h.1)
 
-count_texts : (ts : Trees) → length (which_texts ts) ≡ count ts
+count_texts : (ts : Trees) → length (are_texts ts) ≡ count ts
 count_texts no_trees = refl
 count_texts (tree_then (node i us) ts) = ap suc (count_texts ts)
 
@@ -74,7 +74,7 @@ mutual
   plan_full : (S : Item → List Bool → Type 0) → ((i : Item) (under : List Bool) → S i under → length under ≡ arity i)
       → (t : Tree) → IsPlan S t → IsFull t
   plan_full S a (node i ts) h =
-      (sym (count_texts ts) ∙ a i (which_texts ts) h.0, plans_full S a ts h.1)
+      (sym (count_texts ts) ∙ a i (are_texts ts) h.0, plans_full S a ts h.1)
 
   plans_full : (S : Item → List Bool → Type 0) → ((i : Item) (under : List Bool) → S i under → length under ≡ arity i)
       → (ts : Trees) → ArePlans S ts → AreFull ts
@@ -102,9 +102,9 @@ pub record Reading {V : Type 0} (C : Item → List V → V → Type 0) (q : V �
   pub leads : (t : Tree) → IsPlan S t → AllFit text ns (flat t)
       → Leads S mark text (shape mark t) (drop k ns) (map q vs)
 
-pub nothing_read : {V : Type 0} (C : Item → List V → V → Type 0) (q : V → Bool) (S : Item → List Bool → Type 0)
+pub empty_reading : {V : Type 0} (C : Item → List V → V → Type 0) (q : V → Bool) (S : Item → List Bool → Type 0)
     (text : List ℕ) (ns : List Node) → Reading C q S text ns 0 []
-nothing_read C q S text ns = record {
+empty_reading C q S text ns = record {
   stacked = none_stacked C text;
   leads = λ t p a. leads_from_nothing S mark text t ns (plan_shaped S t p) a;
 }

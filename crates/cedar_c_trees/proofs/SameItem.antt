@@ -20,8 +20,8 @@ use Rattle.cedar_terms.specs.declared.var.Var.{Var}
 use Rattle.cedar_terms.specs.declared.var.Var.TheVariants as vars
 use Rattle.cedar_c_trees.specs.Items.{Item, bool_item, long_item, text_item, uid_item, set_item, record_item, call_item}
 use Rattle.cedar_c_trees.specs.Items.{var_item, slot_item, unknown_item, not_item, binary_item, is_item}
-use Rattle.cedar_c_trees.specs.Reads.{AllSay, Says, truth_number}
-use Rattle.cedar_c_trees.specs.Writes.{AllNote, AreAscii, IsAsciiItem, Notes}
+use Rattle.cedar_c_trees.specs.Reads.{AllDecode, Decodes, truth_number}
+use Rattle.cedar_c_trees.specs.Writes.{AllEncode, AreAscii, IsAsciiItem, Encodes}
 use Rattle.cedar_c_trees.specs.declared.node.Node.{Node}
 
 -- The meaning of a number for Booleans, variables and slots.
@@ -99,7 +99,7 @@ IsNoUidItem (uid_item u) = ⊥
 IsNoUidItem i = Unit {0}
 
 -- Every item except a uid is determined by its node.
-says_said : (text : List ℕ) (n : Node) (i : Item) → IsNoUidItem i → Says text n i
+says_said : (text : List ℕ) (n : Node) (i : Item) → IsNoUidItem i → Decodes text n i
     → i ≡ said n.kind n.number n.len (part text n.at)
 unfolding said IsNoUidItem
 says_said text n (bool_item b) x h =
@@ -123,7 +123,7 @@ says_said text n (binary_item o) x h = operator_said n.kind n.number n.len (part
 says_said text n (is_item t) x h = at_kind n text 14 (is_item t) h.0 (named_back is_item t (part text n.at) h.1.1)
 
 -- The node of a uid means no other item.
-uid_kind : (text : List ℕ) (n : Node) (i : Item) → n.kind ≡ 3 → IsNoUidItem i → Says text n i → ⊥
+uid_kind : (text : List ℕ) (n : Node) (i : Item) → n.kind ≡ 3 → IsNoUidItem i → Decodes text n i → ⊥
 unfolding IsNoUidItem
 uid_kind text n (bool_item b) k x h = omega (arith, h.0)
 uid_kind text n (long_item z) k x h = omega (arith, h.0)
@@ -139,11 +139,11 @@ uid_kind text n not_item k x h = omega (arith, h)
 uid_kind text n (binary_item o) k x h = omega (arith, h)
 uid_kind text n (is_item t) k x h = omega (arith, h.0)
 
-uid_says : (text : List ℕ) (n : Node) (u : UidParts) → Says text n (uid_item u) → n.kind ≡ 3
+uid_says : (text : List ℕ) (n : Node) (u : UidParts) → Decodes text n (uid_item u) → n.kind ≡ 3
 uid_says text n u h = h.0
 
-same_uid : (text : List ℕ) (n : Node) (u w : UidParts) → IsTrue (is_ascii u.eid) → Says text n (uid_item u)
-    → Says text n (uid_item w) → u ≡ w
+same_uid : (text : List ℕ) (n : Node) (u w : UidParts) → IsTrue (is_ascii u.eid) → Decodes text n (uid_item u)
+    → Decodes text n (uid_item w) → u ≡ w
 same_uid text n u w a h g =
     let b : IsTrue (is_ascii (uid_parts h.1.0).eid) =
     subst (λ (p : UidParts). IsTrue (is_ascii p.eid)) (sym h.1.2) a in
@@ -168,32 +168,32 @@ uid_or_not (binary_item o) = inr tt
 uid_or_not (is_item t) = inr tt
 
 same_as_uid : (text : List ℕ) (n : Node) (u : UidParts) (j : Item) → IsTrue (is_ascii u.eid)
-    → Says text n (uid_item u) → Says text n j → uid_item u ≡ j
+    → Decodes text n (uid_item u) → Decodes text n j → uid_item u ≡ j
 same_as_uid text n u j a h g =
     elim (uid_or_not j) [
-      | inl w ↦ ap uid_item (same_uid text n u w.0 a h (subst (Says text n) w.1 g)) ∙ sym w.1
+      | inl w ↦ ap uid_item (same_uid text n u w.0 a h (subst (Decodes text n) w.1 g)) ∙ sym w.1
       | inr y ↦ absurd (uid_kind text n j h.0 y g)
     ]
 
-same_as_other : (text : List ℕ) (n : Node) (i j : Item) → IsNoUidItem i → Says text n i → Says text n j → i ≡ j
+same_as_other : (text : List ℕ) (n : Node) (i j : Item) → IsNoUidItem i → Decodes text n i → Decodes text n j → i ≡ j
 same_as_other text n i j x h g =
     elim (uid_or_not j) [
-      | inl w ↦ absurd (uid_kind text n i (uid_says text n w.0 (subst (Says text n) w.1 g)) x h)
+      | inl w ↦ absurd (uid_kind text n i (uid_says text n w.0 (subst (Decodes text n) w.1 g)) x h)
       | inr y ↦ says_said text n i x h ∙ sym (says_said text n j y g)
     ]
 
 -- A node means only one item, unless it is a uid with a non-ASCII eid.
-pub same_item : (text : List ℕ) (n : Node) (i j : Item) → IsAsciiItem i → Says text n i → Says text n j → i ≡ j
+pub same_item : (text : List ℕ) (n : Node) (i j : Item) → IsAsciiItem i → Decodes text n i → Decodes text n j → i ≡ j
 same_item text n i j a h g =
     elim (uid_or_not i) [
       | inl w ↦
-          w.1 ∙ same_as_uid text n w.0 j (subst IsAsciiItem w.1 a) (subst (Says text n) w.1 h) g
+          w.1 ∙ same_as_uid text n w.0 j (subst IsAsciiItem w.1 a) (subst (Decodes text n) w.1 h) g
       | inr x ↦ same_as_other text n i j x h g
     ]
 
 -- Nodes mean only one list of items.
-pub same_items : (text : List ℕ) (ns : List Node) (is js : List Item) → AreAscii is → AllSay text ns is
-    → AllSay text ns js → is ≡ js
+pub same_items : (text : List ℕ) (ns : List Node) (is js : List Item) → AreAscii is → AllDecode text ns is
+    → AllDecode text ns js → is ≡ js
 same_items text [] [] [] a h g = refl
 same_items text [] [] (j ∷ js) a h g = absurd g
 same_items text [] (i ∷ is) js a h g = absurd h
@@ -203,7 +203,7 @@ same_items text (n ∷ ns) (i ∷ is) (j ∷ js) a h g =
     λ k. same_item text n i j a.0 h.0 g.0 k ∷ same_items text ns is js a.1 h.1 g.1 k
 
 -- The meaning of an encoded node, if the eids of all uids are ASCII.
-note_said : (text : List ℕ) (n : Node) (i : Item) → IsAsciiItem i → Notes text n i → Says text n i
+note_said : (text : List ℕ) (n : Node) (i : Item) → IsAsciiItem i → Encodes text n i → Decodes text n i
 note_said text n (uid_item u) a h = h.2 a
 note_said text n (bool_item b) a h = h
 note_said text n (long_item z) a h = h
@@ -218,8 +218,8 @@ note_said text n not_item a h = h
 note_said text n (binary_item o) a h = h
 note_said text n (is_item t) a h = h
 
-pub notes_said : (text : List ℕ) (ns : List Node) (is : List Item) → AreAscii is → AllNote text ns is
-    → AllSay text ns is
+pub notes_said : (text : List ℕ) (ns : List Node) (is : List Item) → AreAscii is → AllEncode text ns is
+    → AllDecode text ns is
 notes_said text [] [] a h = tt
 notes_said text [] (i ∷ is) a h = absurd h
 notes_said text (n ∷ ns) [] a h = absurd h
@@ -230,7 +230,7 @@ operator_below k and_operator h = omega (arith, h)
 operator_below k eq_operator h = omega (arith, h)
 operator_below k in_operator h = omega (arith, h)
 
-below_mark : (text : List ℕ) (n : Node) (i : Item) → Notes text n i → n.kind < 15
+below_mark : (text : List ℕ) (n : Node) (i : Item) → Encodes text n i → n.kind < 15
 below_mark text n (bool_item b) h = omega (arith, h.0)
 below_mark text n (long_item z) h = omega (arith, h.0)
 below_mark text n (text_item s) h = omega (arith, h.0)
@@ -246,7 +246,7 @@ below_mark text n (binary_item o) h = operator_below n.kind o h
 below_mark text n (is_item t) h = omega (arith, h.0)
 
 -- The node of an item is never a mark.
-pub all_below_mark : (text : List ℕ) (ns : List Node) (is : List Item) → AllNote text ns is
+pub all_below_mark : (text : List ℕ) (ns : List Node) (is : List Item) → AllEncode text ns is
     → AllByRecursion (λ n. n.kind < 15) ns
 all_below_mark text [] is h = tt
 all_below_mark text (n ∷ ns) [] h = absurd h

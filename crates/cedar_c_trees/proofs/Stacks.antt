@@ -8,8 +8,8 @@ use mathlib.Core.List.{append-nil}
 use Rattle.std.specs.List.{AllZip}
 use Rattle.cedar_terms.specs.ValueTree.{ValueTree}
 use Rattle.cedar_terms.specs.ValueViews.{named_pairs}
-use Rattle.cedar_c_trees.specs.Items.{Item, Tree, node, Trees, no_trees, tree_then, flat, flats, IsMadeOf, AreMadeOf, tree_levels}
-use Rattle.cedar_c_trees.specs.Reads.{Says, AllSay, IsReadAs}
+use Rattle.cedar_c_trees.specs.Items.{Item, Tree, node, Trees, no_trees, tree_then, flat, flats, IsBuiltFrom, AreBuiltFrom, tree_levels}
+use Rattle.cedar_c_trees.specs.Reads.{Decodes, AllDecode, IsReadAs}
 use Rattle.cedar_c_trees.specs.laws.Stacks.{Makes}
 use Rattle.cedar_c_trees.specs.Items.{level_limit}
 use Rattle.cedar_c_trees.specs.declared.node.Node.{Node}
@@ -18,8 +18,8 @@ use Rattle.cedar_c_trees.specs.declared.node.Node.{Node}
 pub record Stacked {V : Type 0} (C : Item → List V → V → Type 0) (text : List ℕ) (ns : List Node) (vs : List V)
     : Type 0 where
   pub trees : Trees
-  pub says : AllSay text ns (flats trees)
-  pub values : AreMadeOf C trees vs
+  pub says : AllDecode text ns (flats trees)
+  pub values : AreBuiltFrom C trees vs
 
 pub none_stacked : {V : Type 0} (C : Item → List V → V → Type 0) (text : List ℕ) → Stacked C text [] []
 none_stacked C text = record { trees = no_trees; says = tt; values = tt }
@@ -29,10 +29,10 @@ record Cut {V : Type 0} (C : Item → List V → V → Type 0) (ts : Trees) (a b
   front : Trees
   back : Trees
   whole : flats ts ≡ flats front ++ flats back
-  front_values : AreMadeOf C front a
-  back_values : AreMadeOf C back b
+  front_values : AreBuiltFrom C front a
+  back_values : AreBuiltFrom C back b
 
-cut : {V : Type 0} (C : Item → List V → V → Type 0) (a b : List V) (ts : Trees) → AreMadeOf C ts (a ++ b)
+cut : {V : Type 0} (C : Item → List V → V → Type 0) (a b : List V) (ts : Trees) → AreBuiltFrom C ts (a ++ b)
     → Cut C ts a b
 cut C [] b ts h = record { front = no_trees; back = ts; whole = refl; front_values = tt; back_values = h }
 cut C (x ∷ a) b no_trees h = absurd h
@@ -57,7 +57,7 @@ flats_more no_trees t = append-nil (flat t)
 flats_more (tree_then s ts) t = ap (λ l. flat s ++ l) (flats_more ts t) ∙ sym (append_assoc (flat s) (flats ts) (flat t))
 
 values_more : {V : Type 0} (C : Item → List V → V → Type 0) (ts : Trees) (vs : List V) (t : Tree) (v : V)
-    → AreMadeOf C ts vs → IsMadeOf C t v → AreMadeOf C (and_then ts t) (vs ++ v ∷ [])
+    → AreBuiltFrom C ts vs → IsBuiltFrom C t v → AreBuiltFrom C (and_then ts t) (vs ++ v ∷ [])
 unfolding and_then
 values_more C no_trees [] t v h r = (r, tt)
 values_more C no_trees (w ∷ vs) t v h r = absurd h
@@ -75,13 +75,13 @@ zip_more R (a ∷ xs) (b ∷ ys) x y z r = (z.0, zip_more R xs ys x y z.1 r)
 pub one_node : {V : Type 0} (C : Item → List V → V → Type 0) (text : List ℕ) (ns : List Node) (n : Node)
     (old new : List V) (v : V) → Stacked C text ns old → Makes C text n old new v → Stacked C text (ns ++ n ∷ []) (new ++ v ∷ [])
 one_node C text ns n old new v s m =
-    let r : Cut C s.trees new m.below = cut C new m.below s.trees (subst (AreMadeOf C s.trees) m.stack s.values) in
+    let r : Cut C s.trees new m.below = cut C new m.below s.trees (subst (AreBuiltFrom C s.trees) m.stack s.values) in
     record {
       trees = and_then r.front (node m.item r.back);
-      says = subst (AllSay text (ns ++ n ∷ []))
+      says = subst (AllDecode text (ns ++ n ∷ []))
           (ap (λ l. l ++ m.item ∷ []) r.whole ∙ append_assoc (flats r.front) (flats r.back) (m.item ∷ [])
           ∙ sym (flats_more r.front (node m.item r.back)))
-          (zip_more (Says text) ns (flats s.trees) n m.item s.says m.says);
+          (zip_more (Decodes text) ns (flats s.trees) n m.item s.says m.says);
       values = values_more C r.front new (node m.item r.back) v r.front_values (m.below, r.back_values, m.combines);
     }
 
@@ -93,17 +93,17 @@ next_node C text ns k d old new v l s m =
     rw (take_more ns k d l) (one_node C text (take k ns) (get_or ns k d) old new v s m)
 
 one_tree : {V : Type 0} (C : Item → List V → V → Type 0) (text : List ℕ) (ns : List Node) (v : V) (ts : Trees)
-    → ((t : Tree) → AllSay text ns (flat t) → IsMadeOf C t v → tree_levels t ≤ level_limit)
-    → AllSay text ns (flats ts) → AreMadeOf C ts (v ∷ []) → IsReadAs C text ns v
+    → ((t : Tree) → AllDecode text ns (flat t) → IsBuiltFrom C t v → tree_levels t ≤ level_limit)
+    → AllDecode text ns (flats ts) → AreBuiltFrom C ts (v ∷ []) → IsReadAs C text ns v
 one_tree C text ns v no_trees f a h = absurd h
 one_tree C text ns v (tree_then t no_trees) f a h =
-    let says : AllSay text ns (flat t) = subst (AllSay text ns) (append-nil (flat t)) a in
+    let says : AllDecode text ns (flat t) = subst (AllDecode text ns) (append-nil (flat t)) a in
     record { tree = t; says = says; levels = f t says h.0; value = h.0 }
 one_tree C text ns v (tree_then t (tree_then u ts)) f a h = absurd h.1
 
 -- All nodes are read, and one value is left.
 pub one_left : {V : Type 0} (C : Item → List V → V → Type 0) (text : List ℕ) (ns : List Node) (k : ℕ) (vs : List V)
-    (v : V) → ((t : Tree) → AllSay text ns (flat t) → IsMadeOf C t v → tree_levels t ≤ level_limit) → length ns ≤ k
+    (v : V) → ((t : Tree) → AllDecode text ns (flat t) → IsBuiltFrom C t v → tree_levels t ≤ level_limit) → length ns ≤ k
     → Stacked C text (take k ns) vs → vs ≡ v ∷ [] → IsReadAs C text ns v
 one_left C text ns k vs v f l s e =
     let r : Stacked C text ns (v ∷ []) =

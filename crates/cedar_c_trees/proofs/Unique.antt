@@ -3,7 +3,7 @@ use Rattle.std.proofs.Common.{◌≡◌, ◌∙◌, ap, sym, refl, ℕ, suc, len
 use mathlib.Core.List.{append-nil, reverse}
 use Rattle.std.proofs.lemmas.List.{reverse-append}
 pub use Rattle.cedar_c_trees.specs.laws.Levels.{arity, count, IsFull, AreFull}
-use Rattle.cedar_c_trees.specs.Items.{Item, Tree, node, Trees, no_trees, tree_then, flat, flats, IsMadeOf, AreMadeOf}
+use Rattle.cedar_c_trees.specs.Items.{Item, Tree, node, Trees, no_trees, tree_then, flat, flats, IsBuiltFrom, AreBuiltFrom}
 
 -- The items from the last to the first.
 abbrev mutual
@@ -65,19 +65,19 @@ one_tree_only t u f g e =
 mutual
   -- A tree from which something is built has the correct number of operands.
   pub full : {V : Type 0} (C : Item → List V → V → Type 0)
-      (a : (i : Item) (vs : List V) (v : V) → C i vs v → length vs ≡ arity i) (t : Tree) (v : V) → IsMadeOf C t v
+      (a : (i : Item) (vs : List V) (v : V) → C i vs v → length vs ≡ arity i) (t : Tree) (v : V) → IsBuiltFrom C t v
       → IsFull t
   full C a (node i ts) v h = (counted C ts h.0 h.1 ∙ a i h.0 v h.2, all_full C a ts h.0 h.1)
 
   all_full : {V : Type 0} (C : Item → List V → V → Type 0)
       (a : (i : Item) (vs : List V) (v : V) → C i vs v → length vs ≡ arity i) (ts : Trees) (vs : List V)
-      → AreMadeOf C ts vs → AreFull ts
+      → AreBuiltFrom C ts vs → AreFull ts
   all_full C a no_trees [] h = tt
   all_full C a no_trees (v ∷ vs) h = absurd h
   all_full C a (tree_then t ts) [] h = absurd h
   all_full C a (tree_then t ts) (v ∷ vs) h = (full C a t v h.0, all_full C a ts vs h.1)
 
-  counted : {V : Type 0} (C : Item → List V → V → Type 0) (ts : Trees) (vs : List V) → AreMadeOf C ts vs
+  counted : {V : Type 0} (C : Item → List V → V → Type 0) (ts : Trees) (vs : List V) → AreBuiltFrom C ts vs
       → count ts ≡ length vs
   counted C no_trees [] h = refl
   counted C no_trees (v ∷ vs) h = absurd h

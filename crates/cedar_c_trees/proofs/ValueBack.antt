@@ -22,10 +22,10 @@ use Rattle.cedar_terms.specs.ValueTree.{value_trees}
 use Rattle.cedar_terms.specs.laws.ValueLaws.{value_cmp_total}
 use Rattle.cedar_c_trees.specs.Items.{Item, bool_item, long_item, text_item, uid_item, set_item, record_item, call_item}
 use Rattle.cedar_c_trees.specs.Items.{var_item, slot_item, unknown_item, not_item, binary_item, is_item, Combines}
-use Rattle.cedar_c_trees.specs.Items.{Tree, flat, IsMadeOf, AreMadeOf, pairs_listed}
+use Rattle.cedar_c_trees.specs.Items.{Tree, flat, IsBuiltFrom, AreBuiltFrom, pairs_listed}
 use Rattle.cedar_c_trees.specs.Ordered.{AreOrdered, HaveOrdered, IsOnlyRead, IsOrdered, value_list}
 use Rattle.cedar_c_trees.specs.Plans.{fields_count, fields_plan, value_items, value_plan, values_count, values_plan}
-use Rattle.cedar_c_trees.specs.Reads.{AllSay}
+use Rattle.cedar_c_trees.specs.Reads.{AllDecode}
 use Rattle.cedar_c_trees.specs.Writes.{AreAscii}
 use Rattle.cedar_c_trees.specs.Items.{tree_levels}
 use Rattle.cedar_c_trees.specs.Items.{level_limit}
@@ -281,7 +281,7 @@ length_fields (field_then k v fs) = omega (arith, length_fields fs)
 
 mutual
   -- A value is built from its tree.
-  planned : (v : ValueTree) → IsOrdered v → IsMadeOf Combines (value_plan v) v
+  planned : (v : ValueTree) → IsOrdered v → IsBuiltFrom Combines (value_plan v) v
   planned (literal_value (bool_literal b)) h = ([], tt, (refl, refl))
   planned (literal_value (long_literal n)) h = ([], tt, (refl, refl))
   planned (literal_value (string_literal s)) h = ([], tt, (refl, refl))
@@ -313,25 +313,25 @@ mutual
   planned (extension_value f a) h =
       (literal_value (string_literal a) ∷ [], (([], tt, (refl, refl)), tt), (a, refl, refl, refl))
 
-  all_planned : (vs : ValueTrees) → AreOrdered vs → AreMadeOf Combines (values_plan vs) (value_list vs)
+  all_planned : (vs : ValueTrees) → AreOrdered vs → AreBuiltFrom Combines (values_plan vs) (value_list vs)
   all_planned no_values h = tt
   all_planned (value_then v vs) h = (planned v h.0, all_planned vs h.1)
 
   fields_planned : (fs : FieldTrees) → HaveOrdered fs
-      → AreMadeOf Combines (fields_plan fs) (pairs_listed (field_list fs))
+      → AreBuiltFrom Combines (fields_plan fs) (pairs_listed (field_list fs))
   fields_planned no_fields h = tt
   fields_planned (field_then k v fs) h = (([], tt, (refl, refl)), (planned v h.0, fields_planned fs h.1))
 
-one_read : (v : ValueTree) → IsOrdered v → (t : Tree) (w : ValueTree) → flat t ≡ value_items v → IsMadeOf Combines t w
+one_read : (v : ValueTree) → IsOrdered v → (t : Tree) (w : ValueTree) → flat t ≡ value_items v → IsBuiltFrom Combines t w
     → w ≡ v
 one_read v o t w f m =
     let s : t ≡ value_plan v = one_tree_only t (value_plan v) (full Combines combines_arity t w m)
     (full Combines combines_arity (value_plan v) v (planned v o)) f in
-    one_made Combines combines_one (value_plan v) w v (subst (λ (u : Tree). IsMadeOf Combines u w) s m) (planned v o)
+    one_made Combines combines_one (value_plan v) w v (subst (λ (u : Tree). IsBuiltFrom Combines u w) s m) (planned v o)
 
 -- The nodes of an encoded value are decoded as that value and as nothing else.
 pub value_back : (v : ValueTree) (text : List ℕ) (ns : List Node) → IsOrdered v → AreAscii (value_items v)
-    → tree_levels (value_plan v) ≤ level_limit → AllSay text ns (value_items v) → IsOnlyRead Combines text ns v
+    → tree_levels (value_plan v) ≤ level_limit → AllDecode text ns (value_items v) → IsOnlyRead Combines text ns v
 value_back v text ns o a l s = record {
   read = record { tree = value_plan v; says = s; levels = l; value = planned v o };
   only =

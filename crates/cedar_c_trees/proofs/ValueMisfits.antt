@@ -8,7 +8,7 @@ use Rattle.cedar_c_trees.specs.Items.{Item, bool_item, long_item, text_item, uid
 use Rattle.cedar_c_trees.specs.Items.{Combines}
 use Rattle.cedar_c_trees.specs.Items.{pairs_listed}
 use Rattle.cedar_c_trees.specs.laws.Levels.{arity}
-use Rattle.cedar_c_trees.specs.Shapes.{Fits, is_text, keyed, StandsInValue}
+use Rattle.cedar_c_trees.specs.Shapes.{Fits, is_text, keyed, IsAllowedInValue}
 use Rattle.cedar_c_trees.specs.laws.Stacks.{is_text_value, IsUnmade, AreNoPairs}
 use Rattle.cedar_c_trees.specs.laws.Stacks.{ArePairsOn}
 use Rattle.cedar_c_trees.specs.declared.node.Node.{Node}
@@ -32,7 +32,7 @@ combines_arity (record_item n) vs v h = omega (arith, ap length h.1, length_list
 combines_arity (call_item f n) vs v h = ap length h.2 ∙ sym h.1
 combines_arity i vs v h = absurd h
 
-pub value_arity : (i : Item) (under : List Bool) → StandsInValue i under → length under ≡ arity i
+pub value_arity : (i : Item) (under : List Bool) → IsAllowedInValue i under → length under ≡ arity i
 value_arity (bool_item b) under h = ap length h
 value_arity (long_item z) under h = ap length h
 value_arity (text_item s) under h = ap length h
@@ -53,7 +53,7 @@ combines_marked (call_item f n) vs v h = ap is_text_value h.3
 combines_marked i vs v h = absurd h
 
 -- Values satisfy the conditions of `IsLanguage`.
-pub values : IsLanguage Combines is_text_value StandsInValue
+pub values : IsLanguage Combines is_text_value IsAllowedInValue
 values = record { made_arity = combines_arity; plan_arity = value_arity; marked = combines_marked }
 
 -- The last of some elements.
@@ -93,7 +93,7 @@ pairs_on (suc k) front bs e =
 
 -- There are not that many pairs on top of the stack.
 recorded_on : (text : List ℕ) (n : Node) (i : Item) (front under : List Bool) → n.kind ≡ 5 → Fits text n i
-    → StandsInValue i under → ArePairsOn n.len (front ++ under)
+    → IsAllowedInValue i under → ArePairsOn n.len (front ++ under)
 recorded_on text n (record_item k) front under e f s =
     subst (λ (l : List Bool). ArePairsOn n.len (front ++ l)) (sym s.2)
     (pairs_on n.len front s.0 (s.1 ∙ sym f.filled))
@@ -106,7 +106,7 @@ recorded_on text n (uid_item u) front under e f s = absurd (omega (arith, e, f.k
 recorded_on text n i front under e f s = absurd s
 
 pub record_unmade : (text : List ℕ) (n : Node) (bs : List Bool) (w : Reason) → n.kind ≡ 5 → AreNoPairs n.len bs w
-    → IsUnmade StandsInValue text n bs w
+    → IsUnmade IsAllowedInValue text n bs w
 record_unmade text n bs NoMemory k h = tt
 record_unmade text n bs BadArgument k h =
     λ i front under f s e. h (subst (ArePairsOn n.len) (sym e) (recorded_on text n i front under k f s))

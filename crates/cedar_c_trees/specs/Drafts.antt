@@ -3,7 +3,7 @@ use Rattle.std.specs.Prelude.{◌≡◌, ℕ, pos, List, [], ◌∷◌, ◌++◌
 use Rattle.cedar_c_trees.specs.Items.{Item, Tree, flat}
 use Rattle.cedar_c_trees.specs.Plans.{HasNames, expr_plan, text_leaf, value_plan}
 use Rattle.cedar_c_trees.specs.Reads.{IsTextAt}
-use Rattle.cedar_c_trees.specs.Writes.{AllNote, WrittenParts}
+use Rattle.cedar_c_trees.specs.Writes.{AllEncode, WrittenParts}
 use Rattle.cedar_c_trees.specs.declared.node.Node.{Node}
 use Rattle.cedar_c_trees.specs.declared.pending.Pending.{Pending}
 use Rattle.cedar_c_trees.specs.declared.pending.Pending.TheVariants as pendings
@@ -29,7 +29,7 @@ pub record Adds (is : List Item) (old new : WrittenParts) : Type 0 where
   pub added : List Node
   pub bytes : new.bytes ≡ old.bytes ++ more
   pub nodes : new.nodes ≡ added ++ old.nodes
-  pub notes : AllNote new.bytes added is
+  pub notes : AllEncode new.bytes added is
 
 -- The tree of a value, an expression or a text to encode.
 abbrev pub pending_tree : Pending → Tree

@@ -69,15 +69,15 @@ pairs_listed (p ∷ ps) = literal_value (string_literal p.0) ∷ p.1 ∷ pairs_l
 
 -- Holds if v is built from the tree, where C states what a node builds from the values of its operands.
 abbrev mutual
-  pub IsMadeOf : {V : Type 0} → (Item → List V → V → Type 0) → Tree → V → Type 0
-  IsMadeOf {V = V} C (node i ts) v = (vs : List V) × AreMadeOf C ts vs × C i vs v
+  pub IsBuiltFrom : {V : Type 0} → (Item → List V → V → Type 0) → Tree → V → Type 0
+  IsBuiltFrom {V = V} C (node i ts) v = (vs : List V) × AreBuiltFrom C ts vs × C i vs v
 
   -- Holds if the values are built from the trees, one from each.
-  pub AreMadeOf : {V : Type 0} → (Item → List V → V → Type 0) → Trees → List V → Type 0
-  AreMadeOf C no_trees [] = Unit {0}
-  AreMadeOf C no_trees (v ∷ vs) = ⊥
-  AreMadeOf C (tree_then t ts) [] = ⊥
-  AreMadeOf C (tree_then t ts) (v ∷ vs) = IsMadeOf C t v × AreMadeOf C ts vs
+  pub AreBuiltFrom : {V : Type 0} → (Item → List V → V → Type 0) → Trees → List V → Type 0
+  AreBuiltFrom C no_trees [] = Unit {0}
+  AreBuiltFrom C no_trees (v ∷ vs) = ⊥
+  AreBuiltFrom C (tree_then t ts) [] = ⊥
+  AreBuiltFrom C (tree_then t ts) (v ∷ vs) = IsBuiltFrom C t v × AreBuiltFrom C ts vs
 
 -- Holds if v is the value of an item with operands `vs`.
 abbrev pub Combines : Item → List ValueTree → ValueTree → Type 0
@@ -93,24 +93,24 @@ Combines (call_item f n) vs v =
 Combines i vs v = ⊥
 
 -- Holds if this is the type of an unknown: none without an operand, or the type named by the text of its only operand.
-abbrev pub IsTypeBelow : Option NameParts → ℕ → List ExprTree → Type 0
-IsTypeBelow None n es = (n ≡ 0) × (es ≡ [])
-IsTypeBelow (Some t) n es =
+abbrev pub IsTypeOfOperand : Option NameParts → ℕ → List ExprTree → Type 0
+IsTypeOfOperand None n es = (n ≡ 0) × (es ≡ [])
+IsTypeOfOperand (Some t) n es =
     (text : List ℕ) × (n ≡ 1) × (es ≡ val_node (string_literal text) ∷ []) × IsNameText t text
 
 -- Holds if e is the expression of an item with operands `es`.
-abbrev pub Joins : Item → List ExprTree → ExprTree → Type 0
-Joins (bool_item b) es e = (es ≡ []) × (e ≡ val_node (bool_literal b))
-Joins (long_item n) es e = (es ≡ []) × (e ≡ val_node (long_literal n))
-Joins (text_item s) es e = (es ≡ []) × (e ≡ val_node (string_literal s))
-Joins (uid_item u) es e = (es ≡ []) × (e ≡ val_node (uid_literal u))
-Joins (set_item n) es e = (length es ≡ n) × (e ≡ set_node (expr_trees es))
-Joins (record_item n) es e = ⊥
-Joins (call_item f n) es e = (length es ≡ n) × (e ≡ call_node f (expr_trees es))
-Joins (var_item v) es e = (es ≡ []) × (e ≡ var_node v)
-Joins (slot_item s) es e = (es ≡ []) × (e ≡ slot_node s)
-Joins (unknown_item name n) es e = (t : Option NameParts) × IsTypeBelow t n es
+abbrev pub BuildsExpr : Item → List ExprTree → ExprTree → Type 0
+BuildsExpr (bool_item b) es e = (es ≡ []) × (e ≡ val_node (bool_literal b))
+BuildsExpr (long_item n) es e = (es ≡ []) × (e ≡ val_node (long_literal n))
+BuildsExpr (text_item s) es e = (es ≡ []) × (e ≡ val_node (string_literal s))
+BuildsExpr (uid_item u) es e = (es ≡ []) × (e ≡ val_node (uid_literal u))
+BuildsExpr (set_item n) es e = (length es ≡ n) × (e ≡ set_node (expr_trees es))
+BuildsExpr (record_item n) es e = ⊥
+BuildsExpr (call_item f n) es e = (length es ≡ n) × (e ≡ call_node f (expr_trees es))
+BuildsExpr (var_item v) es e = (es ≡ []) × (e ≡ var_node v)
+BuildsExpr (slot_item s) es e = (es ≡ []) × (e ≡ slot_node s)
+BuildsExpr (unknown_item name n) es e = (t : Option NameParts) × IsTypeOfOperand t n es
     × (e ≡ unknown_node (record { name = name; annotation = t }))
-Joins not_item es e = (x : ExprTree) × (es ≡ x ∷ []) × (e ≡ not_node x)
-Joins (binary_item o) es e = (x : ExprTree) × (y : ExprTree) × (es ≡ x ∷ y ∷ []) × (e ≡ binary_node o x y)
-Joins (is_item t) es e = (x : ExprTree) × (es ≡ x ∷ []) × (e ≡ is_node x t)
+BuildsExpr not_item es e = (x : ExprTree) × (es ≡ x ∷ []) × (e ≡ not_node x)
+BuildsExpr (binary_item o) es e = (x : ExprTree) × (y : ExprTree) × (es ≡ x ∷ y ∷ []) × (e ≡ binary_node o x y)
+BuildsExpr (is_item t) es e = (x : ExprTree) × (es ≡ x ∷ []) × (e ≡ is_node x t)

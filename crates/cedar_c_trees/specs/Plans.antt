@@ -10,7 +10,7 @@ use Rattle.cedar_terms.specs.ValueTree.{ValueTree, literal_value, set_value, rec
 use Rattle.cedar_terms.specs.ValueTree.{ValueTrees, no_values, value_then, FieldTrees, no_fields, field_then}
 use Rattle.cedar_c_trees.specs.Items.{Item, bool_item, long_item, text_item, uid_item, set_item, record_item, call_item}
 use Rattle.cedar_c_trees.specs.Items.{var_item, slot_item, unknown_item, not_item, binary_item, is_item}
-use Rattle.cedar_c_trees.specs.Items.{Tree, node, Trees, no_trees, tree_then, flat, IsMadeOf, Joins}
+use Rattle.cedar_c_trees.specs.Items.{Tree, node, Trees, no_trees, tree_then, flat, IsBuiltFrom, BuildsExpr}
 
 -- The item of a literal.
 abbrev pub literal_item : LiteralTree → Item
@@ -114,5 +114,5 @@ abbrev mutual
 
 -- Holds if an expression is built from its tree, and no other expression is built from a tree with the same items.
 pub record IsReadBack (e : ExprTree) : Type 0 where
-  pub planned : IsMadeOf Joins (expr_plan e) e
-  pub only : (t : Tree) (d : ExprTree) → flat t ≡ expr_items e → IsMadeOf Joins t d → d ≡ e
+  pub planned : IsBuiltFrom BuildsExpr (expr_plan e) e
+  pub only : (t : Tree) (d : ExprTree) → flat t ≡ expr_items e → IsBuiltFrom BuildsExpr t d → d ≡ e

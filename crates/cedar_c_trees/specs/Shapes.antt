@@ -58,9 +58,9 @@ is_text (text_item s) = true
 is_text i = false
 
 -- The trees that are texts.
-abbrev pub which_texts : Trees → List Bool
-which_texts no_trees = []
-which_texts (tree_then (node i us) ts) = is_text i ∷ which_texts ts
+abbrev pub are_texts : Trees → List Bool
+are_texts no_trees = []
+are_texts (tree_then (node i us) ts) = is_text i ∷ are_texts ts
 
 -- Texts for keys, alternating with the given values.
 abbrev pub keyed : List Bool → List Bool
@@ -68,36 +68,36 @@ keyed [] = []
 keyed (b ∷ bs) = true ∷ b ∷ keyed bs
 
 -- Holds if an item may have these operands in a value. The Booleans state which operands are texts.
-abbrev pub StandsInValue : Item → List Bool → Type 0
-StandsInValue (bool_item b) under = under ≡ []
-StandsInValue (long_item z) under = under ≡ []
-StandsInValue (text_item s) under = under ≡ []
-StandsInValue (uid_item u) under = under ≡ []
-StandsInValue (set_item k) under = length under ≡ k
-StandsInValue (record_item k) under = (bs : List Bool) × (length bs ≡ k) × (under ≡ keyed bs)
-StandsInValue (call_item f k) under = (k ≡ 1) × (under ≡ true ∷ [])
-StandsInValue i under = ⊥
+abbrev pub IsAllowedInValue : Item → List Bool → Type 0
+IsAllowedInValue (bool_item b) under = under ≡ []
+IsAllowedInValue (long_item z) under = under ≡ []
+IsAllowedInValue (text_item s) under = under ≡ []
+IsAllowedInValue (uid_item u) under = under ≡ []
+IsAllowedInValue (set_item k) under = length under ≡ k
+IsAllowedInValue (record_item k) under = (bs : List Bool) × (length bs ≡ k) × (under ≡ keyed bs)
+IsAllowedInValue (call_item f k) under = (k ≡ 1) × (under ≡ true ∷ [])
+IsAllowedInValue i under = ⊥
 
 -- Holds if an item may have these operands in an expression. The Booleans state which operands are texts.
-abbrev pub StandsInExpr : Item → List Bool → Type 0
-StandsInExpr (bool_item b) under = under ≡ []
-StandsInExpr (long_item z) under = under ≡ []
-StandsInExpr (text_item s) under = under ≡ []
-StandsInExpr (uid_item u) under = under ≡ []
-StandsInExpr (set_item k) under = length under ≡ k
-StandsInExpr (record_item k) under = ⊥
-StandsInExpr (call_item f k) under = length under ≡ k
-StandsInExpr (var_item v) under = under ≡ []
-StandsInExpr (slot_item s) under = under ≡ []
-StandsInExpr (unknown_item s k) under = ((k ≡ 0) × (under ≡ [])) ⊎ ((k ≡ 1) × (under ≡ true ∷ []))
-StandsInExpr not_item under = length under ≡ 1
-StandsInExpr (binary_item o) under = length under ≡ 2
-StandsInExpr (is_item t) under = length under ≡ 1
+abbrev pub IsAllowedInExpr : Item → List Bool → Type 0
+IsAllowedInExpr (bool_item b) under = under ≡ []
+IsAllowedInExpr (long_item z) under = under ≡ []
+IsAllowedInExpr (text_item s) under = under ≡ []
+IsAllowedInExpr (uid_item u) under = under ≡ []
+IsAllowedInExpr (set_item k) under = length under ≡ k
+IsAllowedInExpr (record_item k) under = ⊥
+IsAllowedInExpr (call_item f k) under = length under ≡ k
+IsAllowedInExpr (var_item v) under = under ≡ []
+IsAllowedInExpr (slot_item s) under = under ≡ []
+IsAllowedInExpr (unknown_item s k) under = ((k ≡ 0) × (under ≡ [])) ⊎ ((k ≡ 1) × (under ≡ true ∷ []))
+IsAllowedInExpr not_item under = length under ≡ 1
+IsAllowedInExpr (binary_item o) under = length under ≡ 2
+IsAllowedInExpr (is_item t) under = length under ≡ 1
 
 -- Holds if each item of a tree may have its operands, by S.
 abbrev mutual
   pub IsPlan : (Item → List Bool → Type 0) → Tree → Type 0
-  IsPlan S (node i ts) = S i (which_texts ts) × ArePlans S ts
+  IsPlan S (node i ts) = S i (are_texts ts) × ArePlans S ts
 
   -- Holds if each item of some trees may have its operands, by S.
   pub ArePlans : (Item → List Bool → Type 0) → Trees → Type 0

@@ -10,7 +10,7 @@ use Rattle.cedar_terms.specs.declared.partial_value.PartialValue.TheVariants as 
 use Rattle.cedar_c_trees.specs.Items.{Item, bool_item, long_item, text_item, uid_item, set_item, record_item, call_item}
 use Rattle.cedar_c_trees.specs.Items.{var_item, slot_item, unknown_item, not_item, binary_item, is_item}
 use Rattle.cedar_c_trees.specs.Plans.{HasNames, expr_items, value_items}
-use Rattle.cedar_c_trees.specs.Reads.{Says}
+use Rattle.cedar_c_trees.specs.Reads.{Decodes}
 use Rattle.cedar_c_trees.specs.declared.node.Node.{Node}
 
 -- The bytes of texts, and nodes over them.
@@ -28,43 +28,43 @@ abbrev pub AreAscii : List Item → Type 0
 AreAscii is = AllByRecursion IsAsciiItem is
 
 -- Holds if the node encodes the item. For a uid with a non-ASCII eid, the node is a uid with a text within the bytes.
-abbrev pub Notes : List ℕ → Node → Item → Type 0
-Notes text n (uid_item u) =
-    (n.kind ≡ 3) × IsInside text n.at × (IsAsciiItem (uid_item u) → Says text n (uid_item u))
-Notes text n i = Says text n i
+abbrev pub Encodes : List ℕ → Node → Item → Type 0
+Encodes text n (uid_item u) =
+    (n.kind ≡ 3) × IsInside text n.at × (IsAsciiItem (uid_item u) → Decodes text n (uid_item u))
+Encodes text n i = Decodes text n i
 
 -- The empty span.
 abbrev pub nowhere : Span
 nowhere = record { start = 0; end = 0 }
 
 -- Holds if the fields that a node's kind does not use are 0.
-abbrev pub IsBlankBeside : Node → Item → Type 0
-IsBlankBeside n (bool_item b) = (n.len ≡ 0) × (n.at ≡ nowhere)
-IsBlankBeside n (long_item z) = (n.len ≡ 0) × (n.at ≡ nowhere)
-IsBlankBeside n (text_item s) = (n.len ≡ 0) × (n.number ≡ pos 0)
-IsBlankBeside n (uid_item u) = (n.len ≡ 0) × (n.number ≡ pos 0)
-IsBlankBeside n (set_item k) = (n.at ≡ nowhere) × (n.number ≡ pos 0)
-IsBlankBeside n (record_item k) = (n.at ≡ nowhere) × (n.number ≡ pos 0)
-IsBlankBeside n (call_item f k) = n.number ≡ pos 0
-IsBlankBeside n (var_item v) = (n.len ≡ 0) × (n.at ≡ nowhere)
-IsBlankBeside n (slot_item s) = (n.len ≡ 0) × (n.at ≡ nowhere)
-IsBlankBeside n (unknown_item s k) = n.number ≡ pos 0
-IsBlankBeside n not_item = (n.len ≡ 0) × (n.at ≡ nowhere) × (n.number ≡ pos 0)
-IsBlankBeside n (binary_item o) = (n.len ≡ 0) × (n.at ≡ nowhere) × (n.number ≡ pos 0)
-IsBlankBeside n (is_item t) = (n.len ≡ 0) × (n.number ≡ pos 0)
+abbrev pub HasZeroUnused : Node → Item → Type 0
+HasZeroUnused n (bool_item b) = (n.len ≡ 0) × (n.at ≡ nowhere)
+HasZeroUnused n (long_item z) = (n.len ≡ 0) × (n.at ≡ nowhere)
+HasZeroUnused n (text_item s) = (n.len ≡ 0) × (n.number ≡ pos 0)
+HasZeroUnused n (uid_item u) = (n.len ≡ 0) × (n.number ≡ pos 0)
+HasZeroUnused n (set_item k) = (n.at ≡ nowhere) × (n.number ≡ pos 0)
+HasZeroUnused n (record_item k) = (n.at ≡ nowhere) × (n.number ≡ pos 0)
+HasZeroUnused n (call_item f k) = n.number ≡ pos 0
+HasZeroUnused n (var_item v) = (n.len ≡ 0) × (n.at ≡ nowhere)
+HasZeroUnused n (slot_item s) = (n.len ≡ 0) × (n.at ≡ nowhere)
+HasZeroUnused n (unknown_item s k) = n.number ≡ pos 0
+HasZeroUnused n not_item = (n.len ≡ 0) × (n.at ≡ nowhere) × (n.number ≡ pos 0)
+HasZeroUnused n (binary_item o) = (n.len ≡ 0) × (n.at ≡ nowhere) × (n.number ≡ pos 0)
+HasZeroUnused n (is_item t) = (n.len ≡ 0) × (n.number ≡ pos 0)
 
 -- Holds if a node encodes an item, and the fields that its kind does not use are 0.
 pub record IsNodeFor (text : List ℕ) (n : Node) (i : Item) : Type 0 where
-  pub notes : Notes text n i
-  pub blank : IsBlankBeside n i
+  pub notes : Encodes text n i
+  pub blank : HasZeroUnused n i
 
 -- Holds if the nodes encode the items, one for each.
-abbrev pub AllNote : List ℕ → List Node → List Item → Type 0
-AllNote text ns is = AllZip (IsNodeFor text) ns is
+abbrev pub AllEncode : List ℕ → List Node → List Item → Type 0
+AllEncode text ns is = AllZip (IsNodeFor text) ns is
 
 -- Holds if the items are encoded.
 abbrev pub IsWrittenAs : List Item → WrittenParts → Type 0
-IsWrittenAs is w = AllNote w.bytes w.nodes is
+IsWrittenAs is w = AllEncode w.bytes w.nodes is
 
 -- Holds if an expression is encoded, and the types of its unknowns are names.
 abbrev pub IsExprWritten : ExprTree → WrittenParts → Type 0

@@ -59,7 +59,7 @@ impl Draft {
     }
 
     /// Writes a node with a text before the others.
-    pub(crate) fn put_text(&mut self, kind: u32, len: usize, text: &str) -> Result<(), AllocError>
+    pub(crate) fn push_text(&mut self, kind: u32, len: usize, text: &str) -> Result<(), AllocError>
         ensures { OnOk result (HasText kind len text.now self.old self.new) }
     {
         let start = end_of(&self.bytes);

@@ -1,10 +1,10 @@
 //! Decoding an expression from nodes over a text.
 ghost use Rattle.std.specs.Prelude.{◌≡◌, ◌≤◌, ◌+◌, IfOk, map, MatchResult};
 ghost use Rattle.cedar_terms.specs.ExprTree.{binary_node, Operator, operator_index};
-ghost use Rattle.cedar_c_trees.specs.Items.{Joins};
+ghost use Rattle.cedar_c_trees.specs.Items.{BuildsExpr};
 ghost use Rattle.cedar_c_trees.specs.Reads.{IsReadAs};
 ghost use Rattle.cedar_c_trees.specs.Refusals.{IsRefused};
-ghost use Rattle.cedar_c_trees.specs.Shapes.{StandsInExpr};
+ghost use Rattle.cedar_c_trees.specs.Shapes.{IsAllowedInExpr};
 ghost use Rattle.cedar_c_trees.specs.laws.Stacks.{IsUnjoined, Makes};
 
 use crate::expr_stack::{only_expr, popped_expr, popped_exprs, popped_two};
@@ -12,14 +12,14 @@ use crate::levels::check_levels;
 use crate::node::Node;
 use crate::numbers::{slot_of, var_of};
 use crate::parts::{literal_of, name_at};
-use crate::unknowns::unknown_made;
+use crate::unknowns::build_unknown;
 use cedar_c_lists::Reason;
 use cedar_ids::entity::EntityType;
 use cedar_terms::Expr;
 use std::alloc::{AllocError, Global};
 
 // Builds the binary expression with the operator of a kind.
-fn two_joined(alloc: Global, kind: u32, left: Expr, right: Expr) -> Result<Expr, AllocError>
+fn binary_node_of(alloc: Global, kind: u32, left: Expr, right: Expr) -> Result<Expr, AllocError>
     requires least { 11 ≤ kind }
     requires most { kind ≤ 13 }
     ensures { IfOk result (λ e. (o : Operator) × (kind ≡ 11 + operator_index o) × (e ≡ binary_node o left right)) }
@@ -34,11 +34,11 @@ fn two_joined(alloc: Global, kind: u32, left: Expr, right: Expr) -> Result<Expr,
 // Builds an unknown, a negation, a binary expression, or a test of a type.
 fn operated(alloc: Global, text: &[u8], node: &Node, stack: &mut Vec<Expr>) -> Result<Expr, Reason>
     requires { 9 ≤ node.now.kind }
-    ensures { MatchResult result (Makes Joins text.now node.now stack.old.items stack.new.items)
-        (IsUnjoined StandsInExpr text.now node.now stack.old.items) }
+    ensures { MatchResult result (Makes BuildsExpr text.now node.now stack.old.items stack.new.items)
+        (IsUnjoined IsAllowedInExpr text.now node.now stack.old.items) }
 {
     match node.kind {
-        9 => unknown_made(alloc, text, node, stack),
+        9 => build_unknown(alloc, text, node, stack),
         10 => {
             let operand = popped_expr(stack)?;
             let negation = Expr::not(alloc, operand)?;
@@ -46,7 +46,7 @@ fn operated(alloc: Global, text: &[u8], node: &Node, stack: &mut Vec<Expr>) -> R
         }
         11..=13 => {
             let (left, right) = popped_two(stack)?;
-            let both = two_joined(alloc, node.kind, left, right)?;
+            let both = binary_node_of(alloc, node.kind, left, right)?;
             Ok(both)
         }
         14 => {
@@ -61,8 +61,8 @@ fn operated(alloc: Global, text: &[u8], node: &Node, stack: &mut Vec<Expr>) -> R
 
 // Builds the expression of a node. Pops its operands off the stack.
 fn joined(alloc: Global, text: &[u8], node: &Node, stack: &mut Vec<Expr>) -> Result<Expr, Reason>
-    ensures { MatchResult result (Makes Joins text.now node.now stack.old.items stack.new.items)
-        (IsUnjoined StandsInExpr text.now node.now stack.old.items) }
+    ensures { MatchResult result (Makes BuildsExpr text.now node.now stack.old.items stack.new.items)
+        (IsUnjoined IsAllowedInExpr text.now node.now stack.old.items) }
 {
     match node.kind {
         0..=3 => {
@@ -105,8 +105,8 @@ fn joined(alloc: Global, text: &[u8], node: &Node, stack: &mut Vec<Expr>) -> Res
 /// - `NotAUid`, `NotUtf8`, `NotAName`: the text of a node is not valid for its kind.
 /// - `NoMemory`: an allocation failed.
 pub fn expr_of(alloc: Global, text: &[u8], nodes: &[Node]) -> Result<Expr, Reason>
-    ensures { MatchResult result (IsReadAs Joins text.now nodes.now)
-        (IsRefused StandsInExpr text.now nodes.now) }
+    ensures { MatchResult result (IsReadAs BuildsExpr text.now nodes.now)
+        (IsRefused IsAllowedInExpr text.now nodes.now) }
 {
     check_levels(alloc, nodes)?;
     let mut stack = Vec::new(alloc);

@@ -36,7 +36,7 @@ fn type_text(alloc: Global, ty: &StaticType) -> Result<String, AllocError>
 pub(crate) fn write_text(draft: &mut Draft, text: &str) -> Result<(), AllocError>
     ensures { OnOk result (Adds (text_item text.now ∷ []) draft.old draft.new) }
 {
-    draft.put_text(2, 0, text)
+    draft.push_text(2, 0, text)
 }
 
 /// Writes a uid.
@@ -46,7 +46,7 @@ pub(crate) fn write_uid(alloc: Global, draft: &mut Draft, uid: &EntityUID) -> Re
     // No effect at run time: the contract of this call states that the components of its type are ids.
     let _type = uid.entity_type();
     let text = uid.to_string(alloc)?;
-    draft.put_text(3, 0, text.as_str())
+    draft.push_text(3, 0, text.as_str())
 }
 
 /// Writes a call of a function with `len` arguments.
@@ -59,7 +59,7 @@ pub(crate) fn write_call(
     ensures { OnOk result (Adds (call_item func.now len ∷ []) draft.old draft.new) }
 {
     let text = name_text(alloc, func)?;
-    draft.put_text(6, len, text.as_str())
+    draft.push_text(6, len, text.as_str())
 }
 
 /// Writes a call of an extension function with a text as its argument.
@@ -80,7 +80,7 @@ pub(crate) fn write_is(alloc: Global, draft: &mut Draft, name: &Name) -> Result<
     ensures { OnOk result (Adds (is_item name.now ∷ []) draft.old draft.new) }
 {
     let text = name_text(alloc, name)?;
-    draft.put_text(14, 0, text.as_str())
+    draft.push_text(14, 0, text.as_str())
 }
 
 /// Writes an unknown, and before it the name of its type, if it has one.
@@ -94,11 +94,11 @@ pub(crate) fn write_unknown(
     ensures typed { OnOk result (IsTyped unknown.now.annotation) }
 {
     match &unknown.type_annotation {
-        None => draft.put_text(9, 0, unknown.name.as_str()),
+        None => draft.push_text(9, 0, unknown.name.as_str()),
         Some(ty) => {
             let text = type_text(alloc, ty)?;
-            draft.put_text(9, 1, unknown.name.as_str())?;
-            draft.put_text(2, 0, text.as_str())
+            draft.push_text(9, 1, unknown.name.as_str())?;
+            draft.push_text(2, 0, text.as_str())
         }
     }
 }

@@ -3,7 +3,7 @@ ghost use Rattle.std.specs.Prelude.{MatchResult, string_bytes};
 ghost use Rattle.cedar_ids.specs.TextOf.{IsNameText};
 ghost use Rattle.cedar_terms.specs.Views.{literal_tree};
 ghost use Rattle.cedar_c_trees.specs.Plans.{literal_item};
-ghost use Rattle.cedar_c_trees.specs.Reads.{IsNameAt, IsTextAt, Says};
+ghost use Rattle.cedar_c_trees.specs.Reads.{IsNameAt, IsTextAt, Decodes};
 ghost use Rattle.cedar_c_trees.specs.laws.Stacks.{IsNoLiteral, IsNoName, IsNoTextAt, IsNotNamedAt};
 
 use crate::node::Node;
@@ -58,7 +58,7 @@ pub(crate) fn name_at(alloc: Global, text: &[u8], at: Span) -> Result<Name, Reas
 
 /// Returns the literal of a node.
 pub(crate) fn literal_of(alloc: Global, text: &[u8], node: &Node) -> Result<Literal, Reason>
-    ensures { MatchResult result (λ l. Says text.now node.now (literal_item (literal_tree l)))
+    ensures { MatchResult result (λ l. Decodes text.now node.now (literal_item (literal_tree l)))
         (IsNoLiteral text.now node.now) }
 {
     match node.kind {

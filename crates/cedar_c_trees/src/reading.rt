@@ -4,7 +4,7 @@ ghost use Rattle.cedar_terms.specs.ValueTree.{extension_value};
 ghost use Rattle.cedar_c_trees.specs.Items.{Combines};
 ghost use Rattle.cedar_c_trees.specs.Reads.{IsReadAs};
 ghost use Rattle.cedar_c_trees.specs.Refusals.{IsRefused};
-ghost use Rattle.cedar_c_trees.specs.Shapes.{StandsInValue};
+ghost use Rattle.cedar_c_trees.specs.Shapes.{IsAllowedInValue};
 ghost use Rattle.cedar_c_trees.specs.laws.Stacks.{is_text_value, IsUnmade, Makes};
 
 use crate::levels::check_levels;
@@ -20,7 +20,7 @@ use std::rc::Rc;
 // Builds the value of a node. Pops its operands off the stack.
 fn made(alloc: Global, text: &[u8], node: &Node, stack: &mut Vec<Value>) -> Result<Value, Reason>
     ensures { MatchResult result (Makes Combines text.now node.now stack.old.items stack.new.items)
-        (IsUnmade StandsInValue text.now node.now (map is_text_value stack.old.items)) }
+        (IsUnmade IsAllowedInValue text.now node.now (map is_text_value stack.old.items)) }
 {
     match node.kind {
         0..=3 => {
@@ -66,7 +66,7 @@ fn called(alloc: Global, func: Name, arg: String) -> Result<Value, AllocError>
 /// - `NoMemory`: an allocation failed.
 pub fn value_of(alloc: Global, text: &[u8], nodes: &[Node]) -> Result<Value, Reason>
     ensures { MatchResult result (IsReadAs Combines text.now nodes.now)
-        (IsRefused StandsInValue text.now nodes.now) }
+        (IsRefused IsAllowedInValue text.now nodes.now) }
 {
     check_levels(alloc, nodes)?;
     let mut stack = Vec::new(alloc);

@@ -1,8 +1,8 @@
 //! Unknowns, and their types.
 ghost use Rattle.std.specs.Prelude.{◌≡◌, ◌++◌, ◌∷◌, [], MatchResult};
 ghost use Rattle.cedar_terms.specs.ExprTree.{ExprTree};
-ghost use Rattle.cedar_c_trees.specs.Items.{Joins};
-ghost use Rattle.cedar_c_trees.specs.Shapes.{StandsInExpr};
+ghost use Rattle.cedar_c_trees.specs.Items.{BuildsExpr};
+ghost use Rattle.cedar_c_trees.specs.Shapes.{IsAllowedInExpr};
 ghost use Rattle.cedar_c_trees.specs.laws.Stacks.{IsNoTypeIn, IsNoTypeOn, IsTypeIn, IsUnjoined, Makes};
 
 use crate::expr_stack::popped_expr;
@@ -39,15 +39,15 @@ fn popped_type(alloc: Global, stack: &mut Vec<Expr>) -> Result<StaticType, Reaso
 }
 
 /// Builds the unknown of a node. Pops its type off the stack, if it has one.
-pub(crate) fn unknown_made(
+pub(crate) fn build_unknown(
     alloc: Global,
     text: &[u8],
     node: &Node,
     stack: &mut Vec<Expr>,
 ) -> Result<Expr, Reason>
     requires { node.now.kind ≡ 9 }
-    ensures { MatchResult result (Makes Joins text.now node.now stack.old.items stack.new.items)
-        (IsUnjoined StandsInExpr text.now node.now stack.old.items) }
+    ensures { MatchResult result (Makes BuildsExpr text.now node.now stack.old.items stack.new.items)
+        (IsUnjoined IsAllowedInExpr text.now node.now stack.old.items) }
 {
     match node.len {
         0 => {

@@ -7,13 +7,13 @@ use Rattle.cedar_graph.specs.Graph.{Path}
 use Rattle.cedar_ids.specs.UidOf.{same_uid}
 use Rattle.cedar_ids.specs.laws.UidOfLaws.{same_uid_decides}
 use Rattle.cedar_ids.specs.declared.entity.EntityUID.{EntityUID}
-use Rattle.cedar_children.specs.Children.{IsBelow}
+use Rattle.cedar_children.specs.Children.{IsDescendantOrSelf}
 
 -- The invariant of a search. The test `child p q` states that p has the child q.
 pub record Walks (child : EntityUID → EntityUID → Bool) (A : List EntityUID)
     (seen todo : EntityUID → Bool) : Type 0 where
   pub seeds : (q : EntityUID) → is_member same_uid A q ≡ true → seen q ≡ true
-  pub sound : (q : EntityUID) → seen q ≡ true → IsBelow (λ a b. child b a) A q
+  pub sound : (q : EntityUID) → seen q ≡ true → IsDescendantOrSelf (λ a b. child b a) A q
   pub known : (q : EntityUID) → todo q ≡ true → seen q ≡ true
   pub opens : (p q : EntityUID) → seen p ≡ true → child p q ≡ true → (seen q ≡ true) ⊎ (todo p ≡ true)
 
@@ -29,7 +29,7 @@ begins child A seen todo s t = record {
 }
 
 below_more : (child : EntityUID → EntityUID → Bool) (A : List EntityUID) (k q : EntityUID)
-    → IsBelow (λ a b. child b a) A k → child k q ≡ true → IsBelow (λ a b. child b a) A q
+    → IsDescendantOrSelf (λ a b. child b a) A k → child k q ≡ true → IsDescendantOrSelf (λ a b. child b a) A q
 below_more child A k q b e = elim b [
   | inl m ↦ inr (k, m, ([], e))
   | inr r ↦ inr (r.0, r.1, (k ∷ r.2.0, (e, r.2.1)))
@@ -91,7 +91,7 @@ seen_path parent seen step a b (x ∷ xs) p s = step x a (seen_path parent seen 
 -- When the queue is empty, the seen uids are exactly the given uids and their descendants.
 pub all_below : (child : EntityUID → EntityUID → Bool) (A : List EntityUID) (seen todo : EntityUID → Bool)
     → Walks child A seen todo → ((p : EntityUID) → todo p ≡ false)
-    → (q : EntityUID) → (seen q ≡ true) ↔ IsBelow (λ a b. child b a) A q
+    → (q : EntityUID) → (seen q ≡ true) ↔ IsDescendantOrSelf (λ a b. child b a) A q
 all_below child A seen todo w none q = (
   w.sound q,
   λ b. elim b [

@@ -23,6 +23,6 @@ is_parent c a b = is_child c b a
 
 -- Holds if q is one of the uids of the list or a descendant of one of them. The test `parent a b` states that a has the
 -- parent b.
-abbrev pub IsBelow : (EntityUID → EntityUID → Bool) → List EntityUID → EntityUID → Type 0
-IsBelow parent A q = (is_member same_uid A q ≡ true) ⊎ ((u : EntityUID) × (is_member same_uid A u ≡ true)
+abbrev pub IsDescendantOrSelf : (EntityUID → EntityUID → Bool) → List EntityUID → EntityUID → Type 0
+IsDescendantOrSelf parent A q = (is_member same_uid A q ≡ true) ⊎ ((u : EntityUID) × (is_member same_uid A u ≡ true)
     × Reach parent q u)

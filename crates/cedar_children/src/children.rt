@@ -4,7 +4,7 @@ ghost use Rattle.std.specs.FinSet as set;
 ghost use Rattle.std.specs.HashSet.{contains};
 ghost use Rattle.cedar_ids.specs.UidOf.{same_uid};
 ghost use Rattle.cedar_ids.specs.declared.entity.EntityUID.{EntityUID};
-ghost use Rattle.cedar_children.specs.Children.{IsBelow, is_child, is_parent};
+ghost use Rattle.cedar_children.specs.Children.{IsDescendantOrSelf, is_child, is_parent};
 
 use crate::walk::walk;
 use cedar_entity::entity::Entity;
@@ -73,13 +73,13 @@ impl<S: BuildHasher + Clone> Children<S> {
         ensures { (p q : EntityUID) → is_child self.new p q
             ≡ (is_child self.old p q && not (same_uid parent.now p && same_uid child.now q)) }
     {
-        if self.take_one(parent, child) {
+        if self.remove_child(parent, child) {
             self.remove_parent(parent);
         }
     }
 
     // Removes a child of a parent. Returns whether the parent has no child left.
-    fn take_one(&mut self, parent: &SharedUid, child: &SharedUid) -> bool
+    fn remove_child(&mut self, parent: &SharedUid, child: &SharedUid) -> bool
         ensures taken { (p q : EntityUID) → is_child self.new p q
             ≡ (is_child self.old p q && not (same_uid parent.now p && same_uid child.now q)) }
         ensures none { IsTrue result → (q : EntityUID) → is_child self.new parent.now q ≡ false }
@@ -107,11 +107,11 @@ impl<S: BuildHasher + Clone> Children<S> {
             set.insert(child.clone()?)?;
             return Ok(());
         }
-        self.put_first(alloc, parent, child)
+        self.insert_first_child(alloc, parent, child)
     }
 
     // Adds a child to a parent that has no children yet.
-    fn put_first(
+    fn insert_first_child(
         &mut self,
         alloc: Global,
         parent: &SharedUid,
@@ -166,7 +166,7 @@ impl<S: BuildHasher + Clone> Children<S> {
         uids: &HashSet<SharedUid, S>,
     ) -> Result<HashSet<SharedUid, S>, AllocError>
         ensures { IfOk result (λ s. (q : EntityUID) →
-            (contains same_uid s q ≡ true) ↔ IsBelow (is_parent self.now) uids.now.keys q) }
+            (contains same_uid s q ≡ true) ↔ IsDescendantOrSelf (is_parent self.now) uids.now.keys q) }
     {
         walk(alloc, &self.sets, uids)
     }

@@ -5,7 +5,7 @@ ghost use Rattle.std.specs.HashSet.{contains, hash_set_len};
 ghost use Rattle.std.specs.Set.{is_member};
 ghost use Rattle.cedar_ids.specs.UidOf.{same_uid};
 ghost use Rattle.cedar_ids.specs.declared.entity.EntityUID.{EntityUID};
-ghost use Rattle.cedar_children.specs.Children.{IsBelow, is_in};
+ghost use Rattle.cedar_children.specs.Children.{IsDescendantOrSelf, is_in};
 
 use cedar_uid_sets::SharedUid;
 use std::alloc::{AllocError, Global};
@@ -123,7 +123,7 @@ pub(crate) fn walk<S: BuildHasher + Clone>(
     uids: &HashSet<SharedUid, S>,
 ) -> Result<HashSet<SharedUid, S>, AllocError>
     ensures { IfOk result (λ s. (q : EntityUID) → (contains same_uid s q ≡ true)
-        ↔ IsBelow (λ a b. is_in (get same_uid sets.now b) a) uids.now.keys q) }
+        ↔ IsDescendantOrSelf (λ a b. is_in (get same_uid sets.now b) a) uids.now.keys q) }
 {
     let from = listed(alloc, uids)?;
     let mut seen = HashSet::with_hasher(alloc, uids.hasher().clone()?);

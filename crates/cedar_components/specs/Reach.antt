@@ -21,8 +21,8 @@ unfoldable pub Leads : (ℕ → ℕ → Type 0) → ℕ → ℕ → Type 0
 Leads E a b = (xs : List ℕ) × Walk E a xs b
 
 -- Whether `b` is reached from `a` over at least one edge.
-abbrev pub Goes : (ℕ → ℕ → Type 0) → ℕ → ℕ → Type 0
-Goes E a b = (z : ℕ) × E a z × Leads E z b
+abbrev pub HasPath : (ℕ → ℕ → Type 0) → ℕ → ℕ → Type 0
+HasPath E a b = (z : ℕ) × E a z × Leads E z b
 
 -- Whether a list contains `y` at an index from `i` to before `j`.
 abbrev pub IsWithin : List ℕ → ℕ → ℕ → ℕ → Type 0
@@ -41,7 +41,7 @@ pub record IsReach (E : ℕ → ℕ → Type 0) (n : ℕ) (component start lists
   pub sound : (x y : ℕ) → x < n
       → IsWithin lists (slice_index start (slice_index component x))
       (slice_index start (slice_index component x + 1)) y
-      → Goes E x y
-  pub complete : (x y : ℕ) → x < n → Goes E x y
+      → HasPath E x y
+  pub complete : (x y : ℕ) → x < n → HasPath E x y
       → IsWithin lists (slice_index start (slice_index component x))
       (slice_index start (slice_index component x + 1)) y

@@ -2,7 +2,7 @@
 pub mod Arcs
 pub mod Components
 pub mod Lists
-pub mod Near
+pub mod Windows
 pub mod Numbers
 pub mod Places
 pub mod Search

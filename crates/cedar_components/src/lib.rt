@@ -33,10 +33,10 @@ mod component_lists;
 mod components;
 mod links;
 mod list_order;
-mod near_lists;
 mod place_bits;
 mod search;
 mod single;
+mod window_lists;
 
 use crate::component_lists::{Lists, make_lists};
 use crate::components::{Searched, make_components};

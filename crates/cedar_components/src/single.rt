@@ -8,7 +8,7 @@ ghost use Rattle.cedar_components.specs.laws.Search.{IsFinishOrder};
 use std::alloc::{AllocError, Global};
 
 // Returns one more than the index of each number in an order of all numbers.
-fn behind_places(alloc: Global, order: &[usize], n: usize) -> Result<Vec<usize>, AllocError>
+fn places_after(alloc: Global, order: &[usize], n: usize) -> Result<Vec<usize>, AllocError>
     requires inside { AllBelow n order.now }
     requires all { (x : ℕ) → x < n → IsIn order.now x }
     ensures { IfOk result (λ v. AreSingle n order.now v.items) }
@@ -47,7 +47,7 @@ pub(crate) fn single_components(
     ensures { IfOk result (λ o. IfSome o (λ component.
         AreComponents (HasArc from.now to.now) n (length order.now) component.items)) }
 {
-    let component = behind_places(alloc, order, n)?;
+    let component = places_after(alloc, order, n)?;
     if none_leads_up(from, to, &component) {
         return Ok(Some(component));
     }

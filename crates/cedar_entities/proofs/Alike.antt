@@ -13,8 +13,8 @@ use Rattle.cedar_ids.specs.laws.UidOfLaws.{same_uid_decides}
 use Rattle.cedar_ids.specs.declared.entity.EntityUID.{EntityUID}
 use Rattle.cedar_entity.specs.declared.node.SharedEntity.{SharedEntity}
 use Rattle.cedar_entities.specs.Answers.{HasDeepEqual, AreDeepEqual}
-use Rattle.cedar_entity_maps.specs.laws.Held.{held, held_map, shared, UidsMatch}
-use Rattle.cedar_entity_maps.specs.Plain.{StoreView, Held}
+use Rattle.cedar_entity_maps.specs.laws.EntityMap.{entity_at, held_map, shared, UidsMatch}
+use Rattle.cedar_entity_maps.specs.Plain.{StoreView, EntityMap}
 use Rattle.cedar_entity.specs.View.{EntityView, IsEquivalenceRelation}
 use Rattle.cedar_entity.specs.laws.Views.{deep_equality}
 use Rattle.cedar_entity_maps.specs.laws.Seen.{stored, get_seen}
@@ -66,23 +66,23 @@ keys_at None None h t = t
 keys_at None (Some p) h t = absurd h
 keys_at (Some o) p h t = refl
 
-module _ {S : Type 0} (m n : HashMap EntityUID SharedEntity S) (A B : StoreView) (is_m : held_map m ≡ A.held)
-    (is_n : held_map n ≡ B.held) where
-  pub to_deep : A.partial ≡ B.partial → ((q : EntityUID) → IfSome (held m q) (λ e. HasDeepEqual (Some e) (held n q)))
+module _ {S : Type 0} (m n : HashMap EntityUID SharedEntity S) (A B : StoreView) (is_m : held_map m ≡ A.entities)
+    (is_n : held_map n ≡ B.entities) where
+  pub to_deep : A.partial ≡ B.partial → ((q : EntityUID) → IfSome (entity_at m q) (λ e. HasDeepEqual (Some e) (entity_at n q)))
       → ((q : EntityUID) → is_some (get same_uid n q) ≡ true → is_some (get same_uid m q) ≡ true) → AreDeepEqual A B
   to_deep mode alike keys = record {
     mode = mode;
-    entities = λ q. subst (λ f. HasDeepEqual (f q) (finmap.get B.held q)) (stored m A.held is_m)
-        (subst (λ f. HasDeepEqual (held m q) (f q)) (stored n B.held is_n)
+    entities = λ q. subst (λ f. HasDeepEqual (f q) (finmap.get B.entities q)) (stored m A.entities is_m)
+        (subst (λ f. HasDeepEqual (entity_at m q) (f q)) (stored n B.entities is_n)
         (both_at (get same_uid m q) (get same_uid n q) (alike q) (keys q)));
   }
 
-  alike_held : AreDeepEqual A B → (q : EntityUID) → HasDeepEqual (held m q) (held n q)
+  alike_held : AreDeepEqual A B → (q : EntityUID) → HasDeepEqual (entity_at m q) (entity_at n q)
   alike_held d q =
-      subst (λ f. HasDeepEqual (f q) (held n q)) (sym (stored m A.held is_m))
-      (subst (λ f. HasDeepEqual (finmap.get A.held q) (f q)) (sym (stored n B.held is_n)) (d.entities q))
+      subst (λ f. HasDeepEqual (f q) (entity_at n q)) (sym (stored m A.entities is_m))
+      (subst (λ f. HasDeepEqual (finmap.get A.entities q) (f q)) (sym (stored n B.entities is_n)) (d.entities q))
 
-  pub deep_alike : AreDeepEqual A B → (q : EntityUID) → IfSome (held m q) (λ e. HasDeepEqual (Some e) (held n q))
+  pub deep_alike : AreDeepEqual A B → (q : EntityUID) → IfSome (entity_at m q) (λ e. HasDeepEqual (Some e) (entity_at n q))
   deep_alike d q = first_at (get same_uid m q) (get same_uid n q) (alike_held d q)
 
   pub deep_keys : AreDeepEqual A B → (q : EntityUID) → is_some (get same_uid n q) ≡ true
@@ -108,16 +108,16 @@ alike_joined (Some a) (Some b) (Some x) h k = deep_equality.joined a b x h k
 
 pub deep_stores : IsEquivalenceRelation AreDeepEqual
 deep_stores = record {
-  itself = λ a. record { mode = refl; entities = λ q. alike_itself (finmap.get a.held q) };
+  itself = λ a. record { mode = refl; entities = λ q. alike_itself (finmap.get a.entities q) };
   turned =
       λ a b h. record {
         mode = sym h.mode;
-        entities = λ q. alike_turned (finmap.get a.held q) (finmap.get b.held q) (h.entities q);
+        entities = λ q. alike_turned (finmap.get a.entities q) (finmap.get b.entities q) (h.entities q);
       };
   joined =
       λ a b c h g. record {
         mode = h.mode ∙ g.mode;
-        entities = λ q. alike_joined (finmap.get a.held q) (finmap.get b.held q) (finmap.get c.held q) (h.entities q)
+        entities = λ q. alike_joined (finmap.get a.entities q) (finmap.get b.entities q) (finmap.get c.entities q) (h.entities q)
             (g.entities q);
       };
 }
@@ -143,4 +143,4 @@ same_flag false false h = refl
 pub copied_match : {S : Type 0} (m n : HashMap EntityUID SharedEntity S) → held_map n ≡ held_map m → UidsMatch m
     → UidsMatch n
 copied_match m n same h =
-    left_match m n (λ _. false) (λ q. sym (get_seen n q) ∙ ap (λ (D : Held). finmap.get D q) same ∙ get_seen m q) h
+    left_match m n (λ _. false) (λ q. sym (get_seen n q) ∙ ap (λ (D : EntityMap). finmap.get D q) same ∙ get_seen m q) h

@@ -6,7 +6,7 @@ use Rattle.std.specs.Set.{is_member}
 use Rattle.cedar_ids.specs.UidOf.{same_uid}
 use Rattle.cedar_ids.specs.declared.entity.EntityUID.{EntityUID}
 use Rattle.cedar_entity.specs.declared.node.SharedEntity.{SharedEntity}
-use Rattle.cedar_entity_maps.specs.laws.Held.{shared}
+use Rattle.cedar_entity_maps.specs.laws.EntityMap.{shared}
 use Rattle.cedar_entity.specs.View.{EntityView}
 use Rattle.cedar_entity_maps.specs.laws.Lists.{member_push}
 

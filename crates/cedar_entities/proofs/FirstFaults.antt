@@ -17,11 +17,11 @@ use Rattle.cedar_ids.specs.UidOf.{same_uid, uid_order}
 use Rattle.cedar_ids.specs.laws.UidOfLaws.{uid_order_total}
 use Rattle.cedar_ids.specs.declared.entity.EntityUID.{EntityUID}
 use Rattle.cedar_entity.specs.declared.node.SharedEntity.{SharedEntity}
-use Rattle.cedar_entity_maps.specs.laws.Held.{held, held_map, shared, UidsMatch}
+use Rattle.cedar_entity_maps.specs.laws.EntityMap.{entity_at, held_map, shared, UidsMatch}
 use Rattle.cedar_entities.specs.StoreFaults.{AreAllValid, IsFirstFaulty, IsFirstFault, IsStoreFault}
 use Rattle.cedar_entities.specs.laws.StoreFaults.{TakesFaulty, lesser_of, other_fault}
-use Rattle.cedar_entity_maps.specs.Modes.{IsSound, TellsUnsound}
-use Rattle.cedar_entity_maps.specs.Plain.{Held}
+use Rattle.cedar_entity_maps.specs.Modes.{IsSound, ReportsUnsound}
+use Rattle.cedar_entity_maps.specs.Plain.{EntityMap}
 use Rattle.cedar_entity.specs.Validity.{IsValid}
 use Rattle.cedar_entity.specs.declared.err.EntitiesError.{EntitiesError}
 use Rattle.cedar_entity.specs.View.{EntityView}
@@ -60,22 +60,22 @@ module _ {Y : Type 0} (o : EntityUID → Option EntityView) (entity : Y → Enti
   chosen a false l at faulty h =
       (h.0, h.1, All-push (λ x. ValidBefore a.uid (entity x)) ys y h.2 (λ g. absurd (false≢true (sym l ∙ ap is_lt g))))
 
-  lesser_faulty : (r : Option EntityView) → o (entity y).uid ≡ Some (entity y) → (IsValid (entity y) → ⊥)
+  min_faulty : (r : Option EntityView) → o (entity y).uid ≡ Some (entity y) → (IsValid (entity y) → ⊥)
       → IsFirstOf o entity ys r → IsFirstOf o entity (ys ++ y ∷ []) (lesser_of (entity y) r)
-  lesser_faulty None at faulty h = (
+  min_faulty None at faulty h = (
     at,
     faulty,
     All-push (λ x. ValidBefore (entity y).uid (entity x)) ys y
         (All-weaker (λ x. IsValid (entity x)) (λ x. ValidBefore (entity y).uid (entity x)) (λ x v _. v) ys h)
         (λ g. absurd (irreflexive (entity y).uid g)),
   )
-  lesser_faulty (Some a) at faulty h = chosen a (is_lt (uid_order (entity y).uid a.uid)) refl at faulty h
+  min_faulty (Some a) at faulty h = chosen a (is_lt (uid_order (entity y).uid a.uid)) refl at faulty h
 
   -- One more entity is checked.
   pub first_step : (r s : Option EntityView) → o (entity y).uid ≡ Some (entity y) → TakesFaulty (entity y) r s
       → IsFirstOf o entity ys r → IsFirstOf o entity (ys ++ y ∷ []) s
   first_step r s at (inl t) h = subst (IsFirstOf o entity (ys ++ y ∷ [])) (sym t.1) (kept r t.0 h)
-  first_step r s at (inr t) h = subst (IsFirstOf o entity (ys ++ y ∷ [])) (sym t.1) (lesser_faulty r at t.0 h)
+  first_step r s at (inr t) h = subst (IsFirstOf o entity (ys ++ y ∷ [])) (sym t.1) (min_faulty r at t.0 h)
 
 if_shared : (P : EntityView → Type 0) (o : Option SharedEntity) → IfSome o (λ n. P (shared n))
     → IfSome (option_map shared o) P
@@ -90,31 +90,31 @@ before_at u q (Some e) l k h = h (ap (λ x. uid_order x u) k ∙ l)
 module _ {S : Type 0} (m : HashMap EntityUID SharedEntity S) where
   -- Each entity is at its own uid in the map.
   pub at_own_uid : UidsMatch m → (q : EntityUID) (n : SharedEntity) → get same_uid m q ≡ Some n
-      → held m (shared n).uid ≡ Some (shared n)
+      → entity_at m (shared n).uid ≡ Some (shared n)
   at_own_uid match q n is =
-      let at : held m q ≡ Some (shared n) = ap (option_map shared) is in
+      let at : entity_at m q ≡ Some (shared n) = ap (option_map shared) is in
       let key : (shared n).uid ≡ q = subst (λ o. IfSome o (λ e. e.uid ≡ q)) (get_seen m q ∙ at)
       (seen_keyed m match q) in
-      ap (held m) key ∙ at
+      ap (entity_at m) key ∙ at
 
   held_so : (P : EntityView → Type 0) (ys : List (Bor EntityUID × Bor SharedEntity)) → map deref_pair ys ≡ m.entries
-      → All (λ p. P (shared p.1.now)) ys → (q : EntityUID) → IfSome (held m q) P
+      → All (λ p. P (shared p.1.now)) ys → (q : EntityUID) → IfSome (entity_at m q) P
   held_so P ys whole h q =
       let Q : EntityUID × SharedEntity → Type 0 = λ e. P (shared e.1) in
       if_shared P (get same_uid m q) (All-lookup (λ n. P (shared n)) (same_uid q) m.entries
       (All-same Q m.entries (map deref_pair ys) (sym whole) (All-map Q deref_pair ys h)))
 
-  seen_so : (P : EntityView → Type 0) → ((q : EntityUID) → IfSome (held m q) P) → (q : EntityUID)
+  seen_so : (P : EntityView → Type 0) → ((q : EntityUID) → IfSome (entity_at m q) P) → (q : EntityUID)
       → IfSome (finmap.get (held_map m) q) P
   seen_so P h q = subst (λ o. IfSome o P) (sym (get_seen m q)) (h q)
 
   -- The first invalid entity of all entries.
   pub first_of_all : UidsMatch m → (ys : List (Bor EntityUID × Bor SharedEntity)) → map deref_pair ys ≡ m.entries
-      → (r : Option EntityView) → IsFirstOf (held m) (λ p. shared p.1.now) ys r
+      → (r : Option EntityView) → IsFirstOf (entity_at m) (λ p. shared p.1.now) ys r
       → MatchOption r (AreAllValid (held_map m)) (IsFirstFaulty (held_map m))
   first_of_all match ys whole None h = seen_so IsValid (held_so IsValid ys whole h)
   first_of_all match ys whole (Some a) h = record {
-    held = get_seen m a.uid ∙ h.0;
+    entities = get_seen m a.uid ∙ h.0;
     faulty = h.1;
     before =
         λ q l. before_at a.uid q (finmap.get (held_map m) q) l (seen_keyed m match q)
@@ -122,6 +122,6 @@ module _ {S : Type 0} (m : HashMap EntityUID SharedEntity S) where
   }
 
 -- A fault of an entity is a fault of the store, if the ancestors have no fault.
-pub told_of_first : (D : Held) (r : EntitiesError) → IsSound D → IsFirstFault D r → IsStoreFault D r
+pub told_of_first : (D : EntityMap) (r : EntitiesError) → IsSound D → IsFirstFault D r → IsStoreFault D r
 told_of_first D r h f =
-    other_fault (TellsUnsound D) (λ e. IsSound D × IsFirstFault D e) (λ t g. absurd g.1.fault) r (h, f)
+    other_fault (ReportsUnsound D) (λ e. IsSound D × IsFirstFault D e) (λ t g. absurd g.1.fault) r (h, f)

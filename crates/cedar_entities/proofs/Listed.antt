@@ -11,8 +11,8 @@ use Rattle.cedar_ids.specs.UidOf.{same_uid}
 use Rattle.cedar_ids.specs.laws.UidOfLaws.{same_uid_decides}
 use Rattle.cedar_ids.specs.declared.entity.EntityUID.{EntityUID}
 use Rattle.cedar_entity.specs.declared.node.SharedEntity.{SharedEntity}
-use Rattle.cedar_entities.specs.Answers.{ListsHeld}
-use Rattle.cedar_entity_maps.specs.laws.Held.{held_map, shared, UidsMatch}
+use Rattle.cedar_entities.specs.Answers.{ListsEntityMap}
+use Rattle.cedar_entity_maps.specs.laws.EntityMap.{held_map, shared, UidsMatch}
 use Rattle.cedar_entity_maps.specs.Plain.{keyed}
 use Rattle.cedar_entity.specs.View.{EntityView}
 use Rattle.cedar_entities.proofs.StoreMaps.{len_seen}
@@ -29,9 +29,9 @@ listed_keyed m match (e ∷ es) h =
 -- The entities of the entries, each once.
 pub lists_held : {S : Type 0} (m : HashMap EntityUID SharedEntity S) → UidsMatch m
     → All (λ e. get same_uid m e.0 ≡ Some e.1) m.entries → IsDistinct same_uid (keys m)
-    → ListsHeld (held_map m) (map (λ e. shared e.1) m.entries)
+    → ListsEntityMap (held_map m) (map (λ e. shared e.1) m.entries)
 lists_held m match found distinct = record {
-  held =
+  entities =
       ap (λ es. finmap.from_entries es)
       (listed_keyed m match m.entries (recursion_from_All (λ e. get same_uid m e.0 ≡ Some e.1) m.entries found));
   once = length-map {B = EntityView} m.entries (λ e. shared e.1) ∙ len_seen m distinct;

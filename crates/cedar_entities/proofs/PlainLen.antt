@@ -11,12 +11,12 @@ use Rattle.cedar_ids.specs.UidOf.{same_uid, uid_order}
 use Rattle.cedar_ids.specs.laws.UidOfLaws.{uid_order_total}
 use Rattle.cedar_ids.specs.declared.entity.EntityUID.{EntityUID}
 use Rattle.cedar_entity.specs.declared.node.SharedEntity.{SharedEntity}
-use Rattle.cedar_entity_maps.specs.laws.Held.{held_map, shared}
-use Rattle.cedar_entity_maps.specs.Plain.{StoreView, Held, IsPlainStore, parts_of}
+use Rattle.cedar_entity_maps.specs.laws.EntityMap.{held_map, shared}
+use Rattle.cedar_entity_maps.specs.Plain.{StoreView, EntityMap, IsPlainStore, parts_of}
 use Rattle.cedar_uid_sets.specs.laws.Sets.{one_equal}
-use Rattle.cedar_entity_maps.specs.World.{World, Parts}
+use Rattle.cedar_entity_maps.specs.InputStore.{InputStore, Parts}
 use Rattle.cedar_entities.proofs.StoreMaps.{len_listed}
-use Rattle.cedar_entity_maps.specs.laws.Worlds.{find-mapped}
+use Rattle.cedar_entity_maps.specs.laws.InputStores.{find-mapped}
 
 node_parts : SharedEntity → Parts
 node_parts n = parts_of (shared n)
@@ -27,12 +27,12 @@ parts_at None = refl
 parts_at (Some n) = refl
 
 -- The map of a plain store has as many entries as the input store.
-pub plain_len : {S : Type 0} (m : HashMap EntityUID SharedEntity S) (W : World) (T : StoreView) → held_map m ≡ T.held
+pub plain_len : {S : Type 0} (m : HashMap EntityUID SharedEntity S) (W : InputStore) (T : StoreView) → held_map m ≡ T.entities
     → IsDistinct same_uid (keys m) → IsPlainStore W T → hash_map_len m ≡ finmap.len W.entities
 plain_len m W T is distinct plain =
     let same : W.entities ≡ finmap.from_entries (map (λ e. (e.0, node_parts e.1)) m.entries) =
     finmap.same_map uid_order_total one_equal _ _ (λ q.
-    sym (plain.holds q) ∙ ap (λ (D : Held). option_map parts_of (finmap.get D q)) (sym is)
+    sym (plain.holds q) ∙ ap (λ (D : EntityMap). option_map parts_of (finmap.get D q)) (sym is)
     ∙ ap (option_map parts_of) (finmap.get-from_entries uid_order_total (map (λ e. (e.0, shared e.1)) m.entries) q
     ∙ find-mapped shared m.entries q)
     ∙ parts_at (finmap.find uid_order q m.entries)

@@ -21,52 +21,52 @@ use Rattle.cedar_ids.specs.laws.UidOfLaws.{uid_order_total}
 use Rattle.cedar_ids.specs.declared.entity.EntityUID.{EntityUID}
 use Rattle.cedar_uid_sets.specs.UidSets.{UidValues}
 use Rattle.cedar_uid_sets.specs.laws.Sets.{one_equal}
-use Rattle.cedar_entity.specs.View.{EntityView, kept, overlap, rest}
+use Rattle.cedar_entity.specs.View.{EntityView, unchanged_parts, overlap, rest}
 use Rattle.cedar_entity.specs.declared.err.EntitiesError.{EntitiesError}
 use Rattle.cedar_entity.specs.declared.node.SharedEntity.{SharedEntity}
 use Rattle.cedar_entity_maps.specs.Edits.{uids_of}
-use Rattle.cedar_entity_maps.specs.Modes.{Also, IsSound, OneOf, TellsCycle, TellsUnsound, ancestry, computes}
-use Rattle.cedar_entity_maps.specs.Modes.{is_ancestor_in, mending}
-use Rattle.cedar_entity_maps.specs.Plain.{Held, IsApart, IsPlainStore, StoreView}
+use Rattle.cedar_entity_maps.specs.Modes.{Also, IsSound, OneOf, ReportsCycle, ReportsUnsound, ancestry, computes}
+use Rattle.cedar_entity_maps.specs.Modes.{is_ancestor_in, with_repair}
+use Rattle.cedar_entity_maps.specs.Plain.{EntityMap, HasDisjointParents, IsPlainStore, StoreView}
 use Rattle.cedar_entities.specs.Present.{with_first}
-use Rattle.cedar_entity_maps.specs.Touching.{IsAcyclicAt, IsEnded, IsEndRefused, IsRepairOf, SomeMade, inserted_in}
-use Rattle.cedar_entity_maps.specs.Touching.{is_touched}
-use Rattle.cedar_entity_maps.specs.World.{World, is_parent_in}
-use Rattle.cedar_entity_maps.specs.declared.modes.Row.{Row}
-use Rattle.cedar_entity_maps.specs.declared.touching.Loss.{Loss}
+use Rattle.cedar_entity_maps.specs.Affected.{IsAcyclicAt, IsEnded, IsEndError, IsRepairOf, SomeRepairIf, inserted_in}
+use Rattle.cedar_entity_maps.specs.Affected.{is_affected}
+use Rattle.cedar_entity_maps.specs.InputStore.{InputStore, is_parent_in}
+use Rattle.cedar_entity_maps.specs.declared.modes.EditRules.{EditRules}
+use Rattle.cedar_entity_maps.specs.declared.affected.StaleAncestors.{StaleAncestors}
 use Rattle.cedar_entity_maps.specs.laws.Edits.{IsEdit, bared, last_entity, remains}
 use Rattle.cedar_entity_maps.specs.laws.Ends.{Ends}
-use Rattle.cedar_entity_maps.specs.laws.Held.{held, held_map}
+use Rattle.cedar_entity_maps.specs.laws.EntityMap.{entity_at, held_map}
 use Rattle.cedar_entity_maps.specs.laws.Indexes.{IsPlainHeld, is_parent_at}
-use Rattle.cedar_entity_maps.specs.laws.Losses.{left_by, AreLossesOf, IsWhole, is_stripped, loses, loses_uid}
+use Rattle.cedar_entity_maps.specs.laws.StaleUids.{left_by, AreLossesOf, IsWhole, is_stripped, loses, loses_uid}
 use Rattle.cedar_entities.proofs.Adding.{add_edit}
 use Rattle.cedar_entity_maps.specs.laws.Seen.{stored, get_seen, seen_as}
 use Rattle.cedar_entity_maps.specs.laws.AnyOf.{all_retained, any_alike}
 use Rattle.cedar_entities.proofs.Edited.{at_applied, at_others, edit_same, seen_written, written_edit, IsWritten}
-use Rattle.cedar_entity_maps.specs.laws.Refusals.{refused_for}
-use Rattle.cedar_entity_maps.specs.laws.LossLaws.{loses_below, loses_whole, still}
+use Rattle.cedar_entity_maps.specs.laws.EditErrors.{refused_for}
+use Rattle.cedar_entity_maps.specs.laws.StaleUidLaws.{loses_below, loses_whole, still}
 use Rattle.cedar_entities.proofs.Overwriting.{last_some}
 use Rattle.cedar_entities.proofs.PlainEdits.{apart_remains, edit_untouched, made_outside, no_loop, parent_on}
 use Rattle.cedar_entities.proofs.PlainEdits.{reached_on, trusted}
 use Rattle.cedar_entities.proofs.PlainStores.{none_both, parent_leads, parents_alone, parts_alike}
 
 -- N is M, except that affected entities outside the uids A may have lost their indirect ancestors.
-pub record Forgets (touched : EntityUID → Bool) (A : List EntityUID) (M N : Held) : Type 0 where
-  pub alone : (q : EntityUID) → touched q ≡ false → finmap.get N q ≡ finmap.get M q
+pub record Forgets (affected : EntityUID → Bool) (A : List EntityUID) (M N : EntityMap) : Type 0 where
+  pub alone : (q : EntityUID) → affected q ≡ false → finmap.get N q ≡ finmap.get M q
   pub either : (q : EntityUID) → (finmap.get N q ≡ finmap.get M q)
       ⊎ ((is_member same_uid A q ≡ false) × (finmap.get N q ≡ option_map bared (finmap.get M q)))
 
 -- A repair of N is a repair of M, provided that it finds no cycle. The other entities have all ancestors that they
 -- reach, and N reaches the same uids as M.
-module _ (touched : EntityUID → Bool) (M N : Held)
-    (parts : (q : EntityUID) → option_map kept (finmap.get N q) ≡ option_map kept (finmap.get M q))
-    (alone : (q : EntityUID) → touched q ≡ false → finmap.get N q ≡ finmap.get M q)
+module _ (affected : EntityUID → Bool) (M N : EntityMap)
+    (parts : (q : EntityUID) → option_map unchanged_parts (finmap.get N q) ≡ option_map unchanged_parts (finmap.get M q))
+    (alone : (q : EntityUID) → affected q ≡ false → finmap.get N q ≡ finmap.get M q)
     (fewer : KeepsEdges (ancestry N) (ancestry M)) (reached : AddsOnlyReached (ancestry N) (ancestry M))
-    (trusted : IsTrusted touched (ancestry N)) where
+    (trusted : IsTrusted affected (ancestry N)) where
   same : ReachesSame (ancestry N) (ancestry M)
   same = reach_between (ancestry N) (ancestry M) fewer reached
 
-  repair_of : (E : Held) → IsRepairOf touched N E → HasNoCycleAt touched (ancestry N) → IsRepairOf touched M E
+  repair_of : (E : EntityMap) → IsRepairOf affected N E → HasNoCycleAt affected (ancestry N) → IsRepairOf affected M E
   repair_of E r none =
       let closed = r.closed trusted none in
       record {
@@ -77,38 +77,38 @@ module _ (touched : EntityUID → Bool) (M N : Held)
         closed = λ _ _ a b. (λ h. (same a b).1 ((closed a b).0 h), λ p. (closed a b).1 ((same a b).0 p));
       }
 
-  acyclic_of : IsAcyclicAt touched N → IsAcyclicAt touched M
+  acyclic_of : IsAcyclicAt affected N → IsAcyclicAt affected M
   acyclic_of h _ v t p = h trusted v t ((same v v).0 p)
 
-  tells_of : (t : TcError EntityUID) → TellsCycle N t → TellsCycle M t
+  tells_of : (t : TcError EntityUID) → ReportsCycle N t → ReportsCycle M t
   tells_of (tc.MissingTcEdge x) h = h
   tells_of (tc.HasCycle x) h = (same x.vertex x.vertex).1 h
   tells_of tc.Memory h = h
 
   -- The edit rules compute the closure, or there is no cycle.
-  abbrev FindsNone : Row → Type 0
-  FindsNone row = (computes row ≡ true) ⊎ HasNoCycleAt touched (ancestry N)
+  abbrev FindsNone : EditRules → Type 0
+  FindsNone row = (computes row ≡ true) ⊎ HasNoCycleAt affected (ancestry N)
 
-  ended_of : (row : Row) (E : Held) → FindsNone (mending row) → IsEnded (mending row) touched N E
-      → IsEnded (mending row) touched M E
+  ended_of : (row : EditRules) (E : EntityMap) → FindsNone (with_repair row) → IsEnded (with_repair row) affected N E
+      → IsEnded (with_repair row) affected M E
   ended_of row E = at row.refuses_cycles row.checks
     where
-      at : (b c : Bool) → ((b && not c) ≡ true) ⊎ HasNoCycleAt touched (ancestry N)
-          → Also c (Also b (IsRepairOf touched N E) (IsAcyclicAt touched N)) (IsSound E)
-          → Also c (Also b (IsRepairOf touched M E) (IsAcyclicAt touched M)) (IsSound E)
+      at : (b c : Bool) → ((b && not c) ≡ true) ⊎ HasNoCycleAt affected (ancestry N)
+          → Also c (Also b (IsRepairOf affected N E) (IsAcyclicAt affected N)) (IsSound E)
+          → Also c (Also b (IsRepairOf affected M E) (IsAcyclicAt affected M)) (IsSound E)
       at true true why h = ((repair_of E h.0.0 (h.0.1 trusted), acyclic_of h.0.1), h.1)
       at true false why h = (repair_of E h.0 (h.1 trusted), acyclic_of h.1)
       at false c (inl t) h = absurd (false≢true t)
       at false true (inr none) h = (repair_of E h.0 none, h.1)
       at false false (inr none) h = repair_of E h none
 
-  refused_of : (row : Row) (t : TcError EntityUID) → FindsNone (mending row) → IsEndRefused (mending row) touched N t
-      → IsEndRefused (mending row) touched M t
+  refused_of : (row : EditRules) (t : TcError EntityUID) → FindsNone (with_repair row) → IsEndError (with_repair row) affected N t
+      → IsEndError (with_repair row) affected M t
   refused_of row t = at row.refuses_cycles row.checks
     where
-      at : (b c : Bool) → ((b && not c) ≡ true) ⊎ HasNoCycleAt touched (ancestry N)
-          → OneOf b (TellsCycle N t) c (SomeMade true touched N (λ E. TellsUnsound E t))
-          → OneOf b (TellsCycle M t) c (SomeMade true touched M (λ E. TellsUnsound E t))
+      at : (b c : Bool) → ((b && not c) ≡ true) ⊎ HasNoCycleAt affected (ancestry N)
+          → OneOf b (ReportsCycle N t) c (SomeRepairIf true affected N (λ E. ReportsUnsound E t))
+          → OneOf b (ReportsCycle M t) c (SomeRepairIf true affected M (λ E. ReportsUnsound E t))
       at true true (inl n) h = absurd (false≢true n)
       at true true (inr none) (inl p) = inl (tells_of t p)
       at true true (inr none) (inr s) = inr (s.0, repair_of s.0 s.1 none, s.2)
@@ -117,23 +117,23 @@ module _ (touched : EntityUID → Bool) (M N : Held)
       at false true (inr none) h = (h.0, repair_of h.0 h.1 none, h.2)
       at false false why h = h
 
-  ends_mended : {X : Type 0} (row : Row) (E : Held) (r : Result X EntitiesError) → FindsNone (mending row)
-      → Ends (mending row) touched N E r → Ends (mending row) touched M E r
+  ends_mended : {X : Type 0} (row : EditRules) (E : EntityMap) (r : Result X EntitiesError) → FindsNone (with_repair row)
+      → Ends (with_repair row) affected N E r → Ends (with_repair row) affected M E r
   ends_mended row E (Ok x) why ends = record { ok = ended_of row E why ends.ok; err = tt; named = tt }
   ends_mended row E (Err e) why ends = record {
     ok = tt;
-    err = refused_for (IsEndRefused (mending row) touched N) (IsEndRefused (mending row) touched M)
+    err = refused_for (IsEndError (with_repair row) affected N) (IsEndError (with_repair row) affected M)
         (λ t. refused_of row t why) e ends.err;
     named = ends.named;
   }
 
   -- The finalization of N is a finalization of M.
-  pub ends_of : {X : Type 0} (row : Row) (E : Held) (r : Result X EntitiesError) → row.repairs ≡ true → FindsNone row
-      → Ends row touched N E r → Ends row touched M E r
+  pub ends_of : {X : Type 0} (row : EditRules) (E : EntityMap) (r : Result X EntitiesError) → row.repairs ≡ true → FindsNone row
+      → Ends row affected N E r → Ends row affected M E r
   ends_of row E r is why ends =
-      let whole : mending row ≡ row = λ i. record row { repairs = sym is i } in
-      subst (λ f. Ends f touched M E r) whole
-      (ends_mended row E r (subst FindsNone (sym whole) why) (subst (λ f. Ends f touched N E r) (sym whole) ends))
+      let whole : with_repair row ≡ row = λ i. record row { repairs = sym is i } in
+      subst (λ f. Ends f affected M E r) whole
+      (ends_mended row E r (subst FindsNone (sym whole) why) (subst (λ f. Ends f affected N E r) (sym whole) ends))
 
 -- An entity without its indirect ancestors.
 bared_leads : (o : Option EntityView) (b : EntityUID) → is_ancestor_in (option_map bared o) b ≡ true
@@ -142,7 +142,7 @@ bared_leads None b h = h
 bared_leads (Some e) b h = or_left (set.contains e.parents b) (set.contains e.indirect b)
     (sym (parents_alone (bared e) b (set.contains-empty uid_order b)) ∙ h)
 
-no_overlap : (e : EntityView) → IsApart e → overlap (bared e) ≡ overlap e
+no_overlap : (e : EntityView) → HasDisjointParents e → overlap (bared e) ≡ overlap e
 no_overlap e h = set.same_set uid_order_total one_equal _ _ (λ x.
     set.contains-intersection uid_order_total e.parents set.empty x
     ∙ ap (λ b. set.contains e.parents x && b) (set.contains-empty uid_order x)
@@ -150,31 +150,31 @@ no_overlap e h = set.same_set uid_order_total one_equal _ _ (λ x.
     ∙ sym (set.contains-intersection uid_order_total e.parents e.indirect x
     ∙ none_both (set.contains e.parents x) (set.contains e.indirect x) (h x)))
 
-kept_bared : (o : Option EntityView) → IfSome o IsApart → option_map kept (option_map bared o) ≡ option_map kept o
+kept_bared : (o : Option EntityView) → IfSome o HasDisjointParents → option_map unchanged_parts (option_map bared o) ≡ option_map unchanged_parts o
 kept_bared None h = refl
 kept_bared (Some e) h = λ i. Some (e.uid, (rest e, no_overlap e h i))
 
 reach_stays : (G H : EntityUID → EntityUID → Bool) → KeepsEdges G H → (a b : EntityUID) → Reach G a b → Reach H a b
 reach_stays G H stays a b r = reach_over_reach H G (λ x y h. reach_edge H x y (stays x y h)) a b r
 
-module _ {W : World} {S : StoreView} (plain : IsPlainStore W S) {M N : Held} {gone : EntityUID → Bool}
-    {put : EntityUID → Option EntityView} {A : List EntityUID} (x : IsEdit S.held M gone put A)
-    (held : (q : EntityUID) → gone q ≡ true → finmap.contains_key S.held q ≡ true)
-    (f : Forgets (is_touched S.held A) A M N) where
-  parts_on : (q : EntityUID) → option_map kept (finmap.get N q) ≡ option_map kept (finmap.get M q)
+module _ {W : InputStore} {S : StoreView} (plain : IsPlainStore W S) {M N : EntityMap} {removed : EntityUID → Bool}
+    {put : EntityUID → Option EntityView} {A : List EntityUID} (x : IsEdit S.entities M removed put A)
+    (entity_at : (q : EntityUID) → removed q ≡ true → finmap.contains_key S.entities q ≡ true)
+    (f : Forgets (is_affected S.entities A) A M N) where
+  parts_on : (q : EntityUID) → option_map unchanged_parts (finmap.get N q) ≡ option_map unchanged_parts (finmap.get M q)
   parts_on q = elim (f.either q) [
-    | inl same ↦ ap (option_map kept) same
-    | inr p ↦ ap (option_map kept) p.1 ∙ kept_bared (finmap.get M q)
-        (subst (λ o. IfSome o IsApart) (sym (made_outside x q p.0))
-        (apart_remains S.held gone A (finmap.get S.held q) (plain.apart q)))
+    | inl same ↦ ap (option_map unchanged_parts) same
+    | inr p ↦ ap (option_map unchanged_parts) p.1 ∙ kept_bared (finmap.get M q)
+        (subst (λ o. IfSome o HasDisjointParents) (sym (made_outside x q p.0))
+        (apart_remains S.entities removed A (finmap.get S.entities q) (plain.apart q)))
   ]
 
   reached : AddsOnlyReached (ancestry N) (ancestry M)
   reached a b h = elim (f.either a) [
     | inl same ↦ reach_edge (ancestry N) a b (ap (λ o. is_ancestor_in o b) same ∙ h)
-    | inr p ↦ reached_on plain x held (ancestry N) (λ c d out off k. parent_leads (finmap.get N c) d
+    | inr p ↦ reached_on plain x entity_at (ancestry N) (λ c d out off k. parent_leads (finmap.get N c) d
         (ap (λ o. is_parent_in o d) (parts_alike (finmap.get N c) (finmap.get M c) (parts_on c))
-        ∙ parent_on plain x held c d out off k)) a b p.0 h
+        ∙ parent_on plain x entity_at c d out off k)) a b p.0 h
   ]
 
   fewer_on : KeepsEdges (ancestry N) (ancestry M)
@@ -184,60 +184,60 @@ module _ {W : World} {S : StoreView} (plain : IsPlainStore W S) {M N : Held} {go
   ]
 
   -- Entities that are not affected have all ancestors that they reach.
-  trusted_on : IsTrusted (is_touched S.held A) (ancestry N)
+  trusted_on : IsTrusted (is_affected S.entities A) (ancestry N)
   trusted_on a b t r = ap (λ o. is_ancestor_in o b) (f.alone a t)
-      ∙ trusted plain x held a b t (reach_stays (ancestry N) (ancestry M) fewer_on a b r)
+      ∙ trusted plain x entity_at a b t (reach_stays (ancestry N) (ancestry M) fewer_on a b r)
 
   -- An edit of a plain store is finalized as its repair is, if ancestors are computed or nothing is inserted.
-  pub renewed : {X : Type 0} (row : Row) (E : Held) (r : Result X EntitiesError) → row.repairs ≡ true
-      → (computes row ≡ true) ⊎ ((q : EntityUID) → put q ≡ None) → Ends row (is_touched S.held A) N E r
-      → Ends row (is_touched S.held A) M E r
-  renewed row E r is why = ends_of (is_touched S.held A) M N parts_on f.alone fewer_on reached trusted_on row E r is
+  pub renewed : {X : Type 0} (row : EditRules) (E : EntityMap) (r : Result X EntitiesError) → row.repairs ≡ true
+      → (computes row ≡ true) ⊎ ((q : EntityUID) → put q ≡ None) → Ends row (is_affected S.entities A) N E r
+      → Ends row (is_affected S.entities A) M E r
+  renewed row E r is why = ends_of (is_affected S.entities A) M N parts_on f.alone fewer_on reached trusted_on row E r is
       (elim why [
         | inl t ↦ inl t
         | inr none ↦ inr (λ v _ p.
-            no_loop plain x held none v (reach_stays (ancestry N) (ancestry M) fewer_on v v p))
+            no_loop plain x entity_at none v (reach_stays (ancestry N) (ancestry M) fewer_on v v p))
       ])
 
-module _ {T : Type 0} (m n : HashMap EntityUID SharedEntity T) (gone : UidValues) (L : List EntityView) (M : Held)
-    (A K : List EntityUID) (R : List Loss)
-    (x : IsEdit (held_map m) M (set.contains gone) (last_entity L) A)
-    (all : (q : EntityUID) → is_member same_uid K q ≡ (is_member same_uid (uids_of L) q || set.contains gone q))
+module _ {T : Type 0} (m n : HashMap EntityUID SharedEntity T) (removed : UidValues) (L : List EntityView) (M : EntityMap)
+    (A K : List EntityUID) (R : List StaleAncestors)
+    (x : IsEdit (held_map m) M (set.contains removed) (last_entity L) A)
+    (all : (q : EntityUID) → is_member same_uid K q ≡ (is_member same_uid (uids_of L) q || set.contains removed q))
     (who : (q : EntityUID) → loses R q ≡ is_stripped K q (ancestry (held_map m) q))
     (whole : AllByRecursion IsWhole R)
-    (is : IsWritten gone L R (held m) (held n)) where
-  abbrev D : Held
+    (is : IsWritten removed L R (entity_at m) (entity_at n)) where
+  abbrev D : EntityMap
   D = held_map m
 
   alike : (q : EntityUID) → is_member same_uid K q ≡ is_member same_uid A q
-  alike q = all q ∙ ap (λ b. b || set.contains gone q) (sym (last_some L q)) ∙ sym (x.applied q)
+  alike q = all q ∙ ap (λ b. b || set.contains removed q) (sym (last_some L q)) ∙ sym (x.applied q)
 
   loses_at : (q : EntityUID) → is_member same_uid A q ≡ false → loses R q ≡ list_any (ancestry D q) A
   loses_at q out = loses_below D K R who q (alike q ∙ out) ∙ any_alike (ancestry D q) K A alike
 
   others : (q : EntityUID) → is_member same_uid A q ≡ false → finmap.get (held_map n) q
-      ≡ option_map (left_by gone R q) (finmap.get D q)
-  others q out = seen_written m n gone L R is q ∙ at_others D gone L K R all who q (alike q ∙ out)
-      (option_map (left_by gone R q) (finmap.get D q))
+      ≡ option_map (left_by removed R q) (finmap.get D q)
+  others q out = seen_written m n removed L R is q ∙ at_others D removed L K R all who q (alike q ∙ out)
+      (option_map (left_by removed R q) (finmap.get D q))
 
   -- An entity that loses nothing is as after the edit.
   quiet : (q : EntityUID) → is_member same_uid A q ≡ false → loses R q ≡ false
       → finmap.get (held_map n) q ≡ finmap.get M q
   quiet q out t =
-      others q out ∙ still R whole gone q t (finmap.get D q)
+      others q out ∙ still R whole removed q t (finmap.get D q)
       ∙ sym (edit_untouched x q
       (or_from (is_member same_uid A q) (list_any (ancestry D q) A) out (sym (loses_at q out) ∙ t)))
 
   bare_at : (q : EntityUID) → loses R q ≡ true → (o : Option EntityView)
-      → option_map (left_by gone R q) o ≡ option_map bared (option_map (remains D (set.contains gone) A) o)
+      → option_map (left_by removed R q) o ≡ option_map bared (option_map (remains D (set.contains removed) A) o)
   bare_at q t None = refl
   bare_at q t (Some e) = λ i. Some (record e {
-    parents = set.retain e.parents (λ p. not (t i && set.contains gone p));
+    parents = set.retain e.parents (λ p. not (t i && set.contains removed p));
     indirect = sym (all_retained e.indirect (loses_uid R q) (λ w. loses_whole R whole q w ∙ t)) i;
   })
 
   -- The map after all indirect ancestors were removed.
-  pub written_forgets : Forgets (is_touched D A) A M (held_map n)
+  pub written_forgets : Forgets (is_affected D A) A M (held_map n)
   written_forgets = record {
     alone = λ q t. let p = or_parts (is_member same_uid A q) (list_any (ancestry D q) A) t in
         quiet q p.0 (loses_at q p.0 ∙ p.1);
@@ -247,9 +247,9 @@ module _ {T : Type 0} (m n : HashMap EntityUID SharedEntity T) (gone : UidValues
       at : (q : EntityUID) (b : Bool) → is_member same_uid A q ≡ b → (l : Bool) → loses R q ≡ l
           → (finmap.get (held_map n) q ≡ finmap.get M q)
           ⊎ ((is_member same_uid A q ≡ false) × (finmap.get (held_map n) q ≡ option_map bared (finmap.get M q)))
-      at q true t l s = inl (seen_written m n gone L R is q ∙ at_applied D gone L K R all who q (alike q ∙ t)
-          (option_map (left_by gone R q) (finmap.get D q))
-          (option_map (remains D (set.contains gone) A) (finmap.get D q)) ∙ sym (x.made q))
+      at q true t l s = inl (seen_written m n removed L R is q ∙ at_applied D removed L K R all who q (alike q ∙ t)
+          (option_map (left_by removed R q) (finmap.get D q))
+          (option_map (remains D (set.contains removed) A) (finmap.get D q)) ∙ sym (x.made q))
       at q false out true s = inr (
         out,
         others q out ∙ bare_at q s (finmap.get D q)
@@ -261,50 +261,50 @@ none_last : (L : List EntityView) → L ≡ [] → (q : EntityUID) → last_enti
 none_last L none q = ap (λ l. last_entity l q) none
 
 -- An edit is finalized as its steps are, whether they remove only stale ancestors or all.
-pub edit_ends : {T X : Type 0} (anew : Bool) (m n : HashMap EntityUID SharedEntity T) (gone : UidValues)
-    (L : List EntityView) (M : Held) (A K : List EntityUID) (R : List Loss) (row : Row) (E : Held)
+pub edit_ends : {T X : Type 0} (recompute_all : Bool) (m n : HashMap EntityUID SharedEntity T) (removed : UidValues)
+    (L : List EntityView) (M : EntityMap) (A K : List EntityUID) (R : List StaleAncestors) (row : EditRules) (E : EntityMap)
     (r : Result X EntitiesError) (f : EntityUID → Bool)
-    → (anew ≡ true → IsPlainHeld (held_map m)) → (anew ≡ true → row.repairs ≡ true)
-    → (anew ≡ true → (computes row ≡ true) ⊎ (length L ≡ 0))
-    → ((q : EntityUID) → set.contains gone q ≡ true → finmap.contains_key (held_map m) q ≡ true)
-    → IsEdit (held_map m) M (set.contains gone) (last_entity L) A
-    → ((q : EntityUID) → is_member same_uid K q ≡ (is_member same_uid (uids_of L) q || set.contains gone q))
+    → (recompute_all ≡ true → IsPlainHeld (held_map m)) → (recompute_all ≡ true → row.repairs ≡ true)
+    → (recompute_all ≡ true → (computes row ≡ true) ⊎ (length L ≡ 0))
+    → ((q : EntityUID) → set.contains removed q ≡ true → finmap.contains_key (held_map m) q ≡ true)
+    → IsEdit (held_map m) M (set.contains removed) (last_entity L) A
+    → ((q : EntityUID) → is_member same_uid K q ≡ (is_member same_uid (uids_of L) q || set.contains removed q))
     → ((q : EntityUID) → loses R q ≡ is_stripped K q (ancestry (held_map m) q))
-    → AreLossesOf anew (finmap.get (held_map m)) K R
-    → IsWritten gone L R (held m) (held n)
-    → f ≡ is_touched (held_map m) A → Ends row f (held_map n) E r → Ends row (is_touched (held_map m) A) M E r
-edit_ends false m n gone L M A K R row E r f plain repairs acyclic there x all who lost is same ends =
+    → AreLossesOf recompute_all (finmap.get (held_map m)) K R
+    → IsWritten removed L R (entity_at m) (entity_at n)
+    → f ≡ is_affected (held_map m) A → Ends row f (held_map n) E r → Ends row (is_affected (held_map m) A) M E r
+edit_ends false m n removed L M A K R row E r f plain repairs acyclic there x all who lost is same ends =
     subst (λ g. Ends row g M E r) same
     (subst (λ B. Ends row f B E r)
-    (edit_same (held_map m) (held_map n) M (set.contains gone) (last_entity L) K A
-    (written_edit m n gone L K R all who lost is) x) ends)
-edit_ends true m n gone L M A K R row E r f plain repairs acyclic there x all who lost is same ends =
+    (edit_same (held_map m) (held_map n) M (set.contains removed) (last_entity L) K A
+    (written_edit m n removed L K R all who lost is) x) ends)
+edit_ends true m n removed L M A K R row E r f plain repairs acyclic there x all who lost is same ends =
     let p = plain refl in
-    renewed p.1 x there (written_forgets m n gone L M A K R x all who lost is) row E r (repairs refl)
+    renewed p.1 x there (written_forgets m n removed L M A K R x all who lost is) row E r (repairs refl)
     (elim (acyclic refl) [ inl t ↦ inl t | inr none ↦ inr (none_last L (nil_from_length L none)) ])
     (subst (λ g. Ends row g (held_map n) E r) same ends)
 
 -- The map after all indirect ancestors were removed, by a test.
-forgets_by : (touched within : EntityUID → Bool) (A : List EntityUID) (M N : Held)
+forgets_by : (affected within : EntityUID → Bool) (A : List EntityUID) (M N : EntityMap)
     → ((q : EntityUID) → within q ≡ is_member same_uid A q)
     → ((q : EntityUID) → finmap.get N q
-    ≡ cond (touched q && not (within q)) (option_map bared (finmap.get M q)) (finmap.get M q)) → Forgets touched A M N
-forgets_by touched within A M N same is = record {
+    ≡ cond (affected q && not (within q)) (option_map bared (finmap.get M q)) (finmap.get M q)) → Forgets affected A M N
+forgets_by affected within A M N same is = record {
   alone = λ q t. is q ∙ ap (λ b. cond (b && not (within q)) (option_map bared (finmap.get M q)) (finmap.get M q)) t;
-  either = λ q. at q (touched q && not (within q)) refl;
+  either = λ q. at q (affected q && not (within q)) refl;
 }
   where
-    at : (q : EntityUID) (b : Bool) → (touched q && not (within q)) ≡ b → (finmap.get N q ≡ finmap.get M q)
+    at : (q : EntityUID) (b : Bool) → (affected q && not (within q)) ≡ b → (finmap.get N q ≡ finmap.get M q)
         ⊎ ((is_member same_uid A q ≡ false) × (finmap.get N q ≡ option_map bared (finmap.get M q)))
     at q false s = inl (is q ∙ ap (λ b. cond b (option_map bared (finmap.get M q)) (finmap.get M q)) s)
     at q true s = inr (
-      sym (same q) ∙ not-true (within q) (and_parts (touched q) (not (within q)) s).1,
+      sym (same q) ∙ not-true (within q) (and_parts (affected q) (not (within q)) s).1,
       is q ∙ ap (λ b. cond b (option_map bared (finmap.get M q)) (finmap.get M q)) s,
     )
 
 -- The entity map after all indirect ancestors were removed.
 seen_forgot : {T : Type 0} (n o : HashMap EntityUID SharedEntity T) (b : EntityUID → Bool)
-    → ((q : EntityUID) → held o q ≡ cond (b q) (option_map bared (held n q)) (held n q)) → (q : EntityUID)
+    → ((q : EntityUID) → entity_at o q ≡ cond (b q) (option_map bared (entity_at n q)) (entity_at n q)) → (q : EntityUID)
     → finmap.get (held_map o) q
     ≡ cond (b q) (option_map bared (finmap.get (held_map n) q)) (finmap.get (held_map n) q)
 seen_forgot n o b is q =
@@ -316,15 +316,15 @@ parents_forgot true None p = refl
 parents_forgot true (Some e) p = refl
 parents_forgot false o p = refl
 
-pub add_ends : {T X : Type 0} (anew : Bool) (m n o : HashMap EntityUID SharedEntity T) (L : List EntityView)
-    (A : List EntityUID) (row : Row) (E : Held) (r : Result X EntitiesError) (f : EntityUID → Bool)
-    → (anew ≡ true → IsPlainHeld (held_map m)) → (anew ≡ true → computes row ≡ true)
+pub add_ends : {T X : Type 0} (recompute_all : Bool) (m n o : HashMap EntityUID SharedEntity T) (L : List EntityView)
+    (A : List EntityUID) (row : EditRules) (E : EntityMap) (r : Result X EntitiesError) (f : EntityUID → Bool)
+    → (recompute_all ≡ true → IsPlainHeld (held_map m)) → (recompute_all ≡ true → computes row ≡ true)
     → held_map n ≡ with_first (held_map m) L
     → ((q : EntityUID) → is_member same_uid A q ≡ is_member same_uid (inserted_in (held_map m) L) q)
-    → ((q : EntityUID) → held o q
-    ≡ cond (anew && (f q && not (is_member same_uid A q))) (option_map bared (held n q)) (held n q))
-    → f ≡ is_touched (held_map m) (inserted_in (held_map m) L) → Ends row f (held_map o) E r
-    → Ends row (is_touched (held_map m) (inserted_in (held_map m) L)) (held_map n) E r
+    → ((q : EntityUID) → entity_at o q
+    ≡ cond (recompute_all && (f q && not (is_member same_uid A q))) (option_map bared (entity_at n q)) (entity_at n q))
+    → f ≡ is_affected (held_map m) (inserted_in (held_map m) L) → Ends row f (held_map o) E r
+    → Ends row (is_affected (held_map m) (inserted_in (held_map m) L)) (held_map n) E r
 add_ends false m n o L A row E r f plain now put alike is same ends =
     subst (λ g. Ends row g (held_map n) E r) same
     (subst (λ B. Ends row f B E r)
@@ -334,9 +334,9 @@ add_ends true m n o L A row E r f plain now put alike is same ends =
     let J = inserted_in D L in
     let p = plain refl in
     let given = and_parts (row.repairs && row.refuses_cycles) (not row.checks) (now refl) in
-    subst (λ B. Ends row (is_touched D J) B E r) (sym put)
+    subst (λ B. Ends row (is_affected D J) B E r) (sym put)
     (renewed p.1 (add_edit D L) (λ q t. absurd (false≢true t))
-    (forgets_by (is_touched D J) (is_member same_uid A) J (with_first D L) (held_map o) alike
+    (forgets_by (is_affected D J) (is_member same_uid A) J (with_first D L) (held_map o) alike
     (λ q. seen_forgot n o (λ y. f y && not (is_member same_uid A y)) is q
     ∙ (λ i. cond (same i q && not (is_member same_uid A q)) (option_map bared (finmap.get (put i) q))
     (finmap.get (put i) q)))) row E r

@@ -12,12 +12,12 @@ use Rattle.cedar_ids.specs.UidOf.{same_uid, uid_order}
 use Rattle.cedar_ids.specs.laws.UidOfLaws.{uid_order_total}
 use Rattle.cedar_ids.specs.declared.entity.EntityUID.{EntityUID}
 use Rattle.cedar_entity.specs.declared.node.SharedEntity.{SharedEntity}
-use Rattle.cedar_entity_maps.specs.laws.Held.{held_map, shared, UidsMatch}
-use Rattle.cedar_entity_maps.specs.Plain.{Held, IsKeyed, keyed}
+use Rattle.cedar_entity_maps.specs.laws.EntityMap.{held_map, shared, UidsMatch}
+use Rattle.cedar_entity_maps.specs.Plain.{EntityMap, IsKeyed, keyed}
 use Rattle.cedar_entities.specs.Present.{first_entity, with_first}
 use Rattle.cedar_uid_sets.specs.laws.Sets.{same_tests}
 use Rattle.cedar_entity.specs.View.{EntityView}
-use Rattle.cedar_entity_maps.specs.laws.Worlds.{get_joined}
+use Rattle.cedar_entity_maps.specs.laws.InputStores.{get_joined}
 use Rattle.cedar_entity_maps.specs.laws.Seen.{get_seen, seen_as}
 use Rattle.cedar_entity_maps.specs.laws.Keyed.{key_at}
 
@@ -30,7 +30,7 @@ pub seen_keyed : {S : Type 0} (m : HashMap EntityUID SharedEntity S) → UidsMat
 seen_keyed m h q = subst (λ o. IfSome o (λ e. e.uid ≡ q)) (sym (get_seen m q)) (key_at q (get same_uid m q) (h q))
 
 -- After an addition, a uid has its old entity or, if there is none, the first entity of the list.
-pub get_with_first : (D : Held) (L : List EntityView) (q : EntityUID)
+pub get_with_first : (D : EntityMap) (L : List EntityView) (q : EntityUID)
     → finmap.get (with_first D L) q ≡ option_or (finmap.get D q) (first_entity L q)
 get_with_first D L q = get_joined (finmap.entries D) (map keyed L) q
     ∙ ap (λ o. option_or o (first_entity L q)) (sym (finmap.get-entries D q))

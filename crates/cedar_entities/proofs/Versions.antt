@@ -13,15 +13,15 @@ use Rattle.cedar_entity.specs.View.{EntityView, IsDeepEqual}
 use Rattle.cedar_entity.specs.laws.Views.{deep_equality}
 use Rattle.std.specs.HashMap.{HashMap, get}
 use Rattle.cedar_entity.specs.declared.node.SharedEntity.{SharedEntity}
-use Rattle.cedar_entity_maps.specs.laws.Held.{held, shared, UidsMatch}
+use Rattle.cedar_entity_maps.specs.laws.EntityMap.{entity_at, shared, UidsMatch}
 use Rattle.cedar_entities.specs.Present.{first_entity, MatchesPresent, FirstMismatch, present}
 use Rattle.cedar_entity_maps.specs.Plain.{keyed}
 use Rattle.cedar_entity_maps.specs.laws.Edits.{last_entity}
-use Rattle.cedar_entity_maps.specs.Refusals.{MatchRefusal}
-use Rattle.cedar_entity_maps.specs.laws.Refusals.{refusal_cases}
-use Rattle.cedar_entity_maps.specs.laws.Worlds.{found_or}
+use Rattle.cedar_entity_maps.specs.EditErrors.{MatchError}
+use Rattle.cedar_entity_maps.specs.laws.EditErrors.{refusal_cases}
+use Rattle.cedar_entity_maps.specs.laws.InputStores.{found_or}
 use Rattle.cedar_entity.specs.declared.err.EntitiesError.{EntitiesError}
-use Rattle.cedar_entity_maps.specs.World.{reversed}
+use Rattle.cedar_entity_maps.specs.InputStore.{reversed}
 use Rattle.cedar_entity_maps.specs.laws.Lists.{map_append_one}
 
 abbrev pub Fn : Type 0
@@ -51,32 +51,32 @@ pub map_cond : {X Y : Type 0} (g : X → Y) (b : Bool) (x : X) (o : Option X)
 map_cond g true x o = refl
 map_cond g false x o = refl
 
--- ---- put_new
+-- ---- insert_if_new
 pub put : {S : Type 0} (m n : HashMap EntityUID SharedEntity S) (k : EntityUID) (v : SharedEntity) (x : EntityView)
     → k ≡ x.uid → shared v ≡ x → get same_uid m k ≡ None
     → ((q : EntityUID) → get same_uid n q ≡ cond (same_uid k q) (Some v) (get same_uid m q)) → (q : EntityUID)
-    → held n q ≡ option_or (held m q) (just x q)
+    → entity_at n q ≡ option_or (entity_at m q) (just x q)
 put m n k v x key value absent step q =
     ap (option_map shared) (step q)
     ∙ map_cond shared (same_uid k q) v (get same_uid m q)
-    ∙ ap (λ y. cond (same_uid k q) (Some y) (held m q)) value
-    ∙ ap (λ u. cond (same_uid u q) (Some x) (held m q)) key
-    ∙ grows_held (held m) x (ap (held m) (sym key) ∙ ap (option_map shared) absent) q
+    ∙ ap (λ y. cond (same_uid k q) (Some y) (entity_at m q)) value
+    ∙ ap (λ u. cond (same_uid u q) (Some x) (entity_at m q)) key
+    ∙ grows_held (entity_at m) x (ap (entity_at m) (sym key) ∙ ap (option_map shared) absent) q
 
-pub put_key : {S : Type 0} (m : HashMap EntityUID SharedEntity S) (k : EntityUID) (v : SharedEntity) (q : EntityUID)
+pub insert_key_copy : {S : Type 0} (m : HashMap EntityUID SharedEntity S) (k : EntityUID) (v : SharedEntity) (q : EntityUID)
     (b : Bool) → same_uid k q ≡ b → k ≡ (shared v).uid → UidsMatch m
     → IfSome (cond b (Some v) (get same_uid m q)) (λ w. same_uid q (shared w).uid ≡ true)
-put_key m k v q true s key h = (same_uid_decides q (shared v).uid).1 (sym ((same_uid_decides k q).0 s) ∙ key)
-put_key m k v q false s key h = h q
+insert_key_copy m k v q true s key h = (same_uid_decides q (shared v).uid).1 (sym ((same_uid_decides k q).0 s) ∙ key)
+insert_key_copy m k v q false s key h = h q
 
 pub put_keys : {S : Type 0} (m n : HashMap EntityUID SharedEntity S) (k : EntityUID) (v : SharedEntity)
     → k ≡ (shared v).uid
     → ((q : EntityUID) → get same_uid n q ≡ cond (same_uid k q) (Some v) (get same_uid m q)) → UidsMatch m → UidsMatch n
 put_keys m n k v key step h q =
     subst (λ o. IfSome o (λ w. same_uid q (shared w).uid ≡ true)) (sym (step q))
-    (put_key m k v q (same_uid k q) refl key h)
+    (insert_key_copy m k v q (same_uid k q) refl key h)
 
--- ---- put_all
+-- ---- insert_each
 or_assoc : {X : Type 0} (a b c : Option X) → option_or (option_or a b) c ≡ option_or a (option_or b c)
 or_assoc None b c = refl
 or_assoc (Some x) b c = refl
@@ -140,11 +140,11 @@ pub weaker_refusal : (f now : Fn) (done : List EntityView) (e : EntityView) (res
     → items ≡ done ++ e ∷ rest → ((q : EntityUID) → now q ≡ option_or (f q) (first_entity done q))
     → AllByRecursion (MatchesPresent f items) done
     → (r : EntitiesError)
-    → MatchRefusal r (λ u. (u ≡ e.uid) × (h : EntityView) × (now e.uid ≡ Some h) × (IsDeepEqual h e → ⊥)) (λ _. ⊥)
-    → MatchRefusal r (FirstMismatch f items) (λ _. ⊥)
+    → MatchError r (λ u. (u ≡ e.uid) × (h : EntityView) × (now e.uid ≡ Some h) × (IsDeepEqual h e → ⊥)) (λ _. ⊥)
+    → MatchError r (FirstMismatch f items) (λ _. ⊥)
 weaker_refusal f now done e rest items is so agree r h =
     refusal_cases (λ u. (u ≡ e.uid) × (k : EntityView) × (now e.uid ≡ Some k) × (IsDeepEqual k e → ⊥)) (λ _. ⊥)
-    (λ s. MatchRefusal s (FirstMismatch f items) (λ _. ⊥))
+    (λ s. MatchError s (FirstMismatch f items) (λ _. ⊥))
     (λ u k. record {
       before = done;
       at = e;
@@ -156,14 +156,14 @@ weaker_refusal f now done e rest items is so agree r h =
     }) (λ t n. absurd n) tt r h
 
 -- ---- overwrite
-pub put_over : {S : Type 0} (m n : HashMap EntityUID SharedEntity S) (k : EntityUID) (v : SharedEntity) (x : EntityView)
+pub overwrite : {S : Type 0} (m n : HashMap EntityUID SharedEntity S) (k : EntityUID) (v : SharedEntity) (x : EntityView)
     → k ≡ x.uid → shared v ≡ x
     → ((q : EntityUID) → get same_uid n q ≡ cond (same_uid k q) (Some v) (get same_uid m q)) → (q : EntityUID)
-    → held n q ≡ option_or (just x q) (held m q)
-put_over m n k v x key value step q =
+    → entity_at n q ≡ option_or (just x q) (entity_at m q)
+overwrite m n k v x key value step q =
     ap (option_map shared) (step q) ∙ map_cond shared (same_uid k q) v (get same_uid m q)
-    ∙ found_or (same_uid k q) (shared v) None (held m q)
-    ∙ (λ i. option_or (cond (same_uid (key i) q) (Some (value i)) None) (held m q))
+    ∙ found_or (same_uid k q) (shared v) None (entity_at m q)
+    ∙ (λ i. option_or (cond (same_uid (key i) q) (Some (value i)) None) (entity_at m q))
 
 reversed_push : {X : Type 0} (xs : List X) (x : X) → reversed (xs ++ x ∷ []) ≡ x ∷ reversed xs
 reversed_push [] x = refl

@@ -6,7 +6,7 @@ use Rattle.cedar_ids.specs.Printed.{uid_output}
 use Rattle.cedar_ids.specs.UidOf.{uid_parts}
 use Rattle.cedar_ids.specs.declared.entity.EntityUID.{EntityUID}
 use Rattle.cedar_terms.specs.ExprTree.{ExprTree, unknown_node}
-use Rattle.cedar_entity_maps.specs.Plain.{StoreView, Held, keyed}
+use Rattle.cedar_entity_maps.specs.Plain.{StoreView, EntityMap, keyed}
 use Rattle.cedar_entity.specs.View.{EntityView, IsDeepEqual}
 use Rattle.cedar_entities.specs.declared.dereference.Dereference.{Dereference}
 use Rattle.cedar_entities.specs.declared.dereference.Dereference.TheVariants as answers
@@ -38,8 +38,8 @@ Finds o partial u answers.NoSuchEntity = (o ≡ None) × (partial ≡ false)
 Finds o partial u (answers.Residual e) = (o ≡ None) × (partial ≡ true) × IsUnknownOf u e
 
 -- Holds if the list has each entity of D once.
-pub record ListsHeld (D : Held) (es : List EntityView) : Type 0 where
-  pub held : finmap.from_entries (map keyed es) ≡ D
+pub record ListsEntityMap (D : EntityMap) (es : List EntityView) : Type 0 where
+  pub entities : finmap.from_entries (map keyed es) ≡ D
   pub once : length es ≡ finmap.len D
 
 -- Holds if both lookups found nothing, or both found entities that are deeply equal.
@@ -52,9 +52,9 @@ HasDeepEqual (Some a) (Some b) = IsDeepEqual a b
 -- Holds if both stores are partial or neither is, and they have deeply equal entities at the same uids.
 pub record AreDeepEqual (S T : StoreView) : Type 0 where
   pub mode : S.partial ≡ T.partial
-  pub entities : (q : EntityUID) → HasDeepEqual (finmap.get S.held q) (finmap.get T.held q)
+  pub entities : (q : EntityUID) → HasDeepEqual (finmap.get S.entities q) (finmap.get T.entities q)
 
 -- The effect of taking the next item of an iterator. It returns `None` if the list is empty. Otherwise it removes the
 -- first entity, and returns it or an allocation failure.
-abbrev pub TakesOut : {E : Type 0} → List EntityView → Option (Result EntityView E) → List EntityView → Type 0
-TakesOut s r t = MatchOption r ((s ≡ []) × (t ≡ [])) (λ x. (e : EntityView) × (s ≡ e ∷ t) × IfOk x (λ y. y ≡ e))
+abbrev pub RemovesUids : {E : Type 0} → List EntityView → Option (Result EntityView E) → List EntityView → Type 0
+RemovesUids s r t = MatchOption r ((s ≡ []) × (t ≡ [])) (λ x. (e : EntityView) × (s ≡ e ∷ t) × IfOk x (λ y. y ≡ e))

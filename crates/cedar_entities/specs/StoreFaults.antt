@@ -6,25 +6,25 @@ use Rattle.std.specs.declared.cmp.Ordering.TheVariants.{Less}
 use Rattle.cedar_graph.specs.declared.err.TcError.{TcError}
 use Rattle.cedar_ids.specs.UidOf.{uid_order}
 use Rattle.cedar_ids.specs.declared.entity.EntityUID.{EntityUID}
-use Rattle.cedar_entity_maps.specs.Modes.{IsSound, TellsUnsound}
-use Rattle.cedar_entity_maps.specs.Plain.{Held}
+use Rattle.cedar_entity_maps.specs.Modes.{IsSound, ReportsUnsound}
+use Rattle.cedar_entity_maps.specs.Plain.{EntityMap}
 use Rattle.cedar_entity.specs.Validity.{IsValid, IsFault}
 use Rattle.cedar_entity.specs.View.{EntityView}
 use Rattle.cedar_entity.specs.declared.err.EntitiesError.{EntitiesError}
 use Rattle.cedar_entity.specs.declared.err.EntitiesError.TheVariants as errors
 
 -- Holds if each entity is valid.
-abbrev pub AreAllValid : Held → Type 0
+abbrev pub AreAllValid : EntityMap → Type 0
 AreAllValid D = (q : EntityUID) → IfSome (finmap.get D q) IsValid
 
 -- Holds if e is an invalid entity of D, and each entity with a lesser uid is valid.
-pub record IsFirstFaulty (D : Held) (e : EntityView) : Type 0 where
-  pub held : finmap.get D e.uid ≡ Some e
+pub record IsFirstFaulty (D : EntityMap) (e : EntityView) : Type 0 where
+  pub entities : finmap.get D e.uid ≡ Some e
   pub faulty : IsValid e → ⊥
   pub before : (q : EntityUID) → uid_order q e.uid ≡ Less → IfSome (finmap.get D q) IsValid
 
 -- Holds if r is a fault of the invalid entity with the least uid.
-pub record IsFirstFault (D : Held) (r : EntitiesError) : Type 0 where
+pub record IsFirstFault (D : EntityMap) (r : EntitiesError) : Type 0 where
   pub at : EntityView
   pub first : IsFirstFaulty D at
   pub fault : IsFault at r
@@ -36,10 +36,10 @@ MatchStoreFault errors.Memory C F = ⊤
 MatchStoreFault e C F = F e
 
 -- Holds if the store is valid: the ancestors are closed, no entity is its own ancestor, and each entity is valid.
-abbrev pub IsValidStore : Held → Type 0
+abbrev pub IsValidStore : EntityMap → Type 0
 IsValidStore D = IsSound D × AreAllValid D
 
 -- Holds if r is an error of an invalid store. It is a fault of the ancestors or, only if they have none, a fault of the
 -- invalid entity with the least uid.
-abbrev pub IsStoreFault : Held → EntitiesError → Type 0
-IsStoreFault D r = MatchStoreFault r (TellsUnsound D) (λ f. IsSound D × IsFirstFault D f)
+abbrev pub IsStoreFault : EntityMap → EntitiesError → Type 0
+IsStoreFault D r = MatchStoreFault r (ReportsUnsound D) (λ f. IsSound D × IsFirstFault D f)

@@ -1,5 +1,5 @@
 pub mod Closures
 pub mod Readings
 pub mod SameUids
-pub mod Settled
+pub mod Finalized
 pub mod StoreFaults

@@ -2,8 +2,8 @@
 ghost use Rattle.std.specs.Prelude.{◌≡◌, false, map, IfOk};
 ghost use Rattle.std.specs.FinMap as finmap;
 ghost use Rattle.cedar_entities.specs.Changes.{AddsEntities, AddsPlain};
-ghost use Rattle.cedar_entity_maps.specs.Plain.{IsPlainStore, AreBare, given_of, no_entities};
-ghost use Rattle.cedar_entity_maps.specs.World.{empty_world};
+ghost use Rattle.cedar_entity_maps.specs.Plain.{IsPlainStore, HaveNoIndirect, input_of, no_entities};
+ghost use Rattle.cedar_entity_maps.specs.InputStore.{empty_input};
 
 use crate::entities::Entities;
 use cedar_entity::entity::Entity;
@@ -15,8 +15,8 @@ use std::hash::BuildHasherDefault;
 impl Entities {
     /// Creates a store without entities, not partial. Does not allocate.
     pub fn new(alloc: Global) -> Entities
-        ensures value { result ≡ record { held = finmap.empty; partial = false } }
-        ensures plain { IsPlainStore empty_world result }
+        ensures value { result ≡ record { entities = finmap.empty; partial = false } }
+        ensures plain { IsPlainStore empty_input result }
     {
         Entities::with_hasher(alloc, BuildHasherDefault::new())
     }
@@ -32,9 +32,9 @@ impl Entities {
         tc_computation: TCComputation,
     ) -> Result<Entities, EntitiesError>
         ensures partial { IfOk result (λ s. s.partial ≡ false) }
-        ensures adds { AddsEntities tc_computation no_entities list.items result (λ s. s.held) }
-        ensures plain { AreBare list.items
-            → AddsPlain tc_computation empty_world (map given_of list.items) result }
+        ensures adds { AddsEntities tc_computation no_entities list.items result (λ s. s.entities) }
+        ensures plain { HaveNoIndirect list.items
+            → AddsPlain tc_computation empty_input (map input_of list.items) result }
     {
         Entities::from_entities_with_hasher(alloc, BuildHasherDefault::new(), list, tc_computation)
     }

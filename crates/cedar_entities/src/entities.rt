@@ -5,23 +5,23 @@ ghost use Rattle.std.specs.FinMap as finmap;
 ghost use Rattle.cedar_ids.specs.UidOf.{same_uid};
 ghost use Rattle.cedar_ids.specs.declared.entity.EntityUID.{EntityUID};
 ghost use Rattle.cedar_entity.specs.View.{EntityView, IsDeepEqual, IsEquivalenceRelation};
-ghost use Rattle.cedar_entities.specs.Answers.{AreDeepEqual, Finds, ListsHeld};
+ghost use Rattle.cedar_entities.specs.Answers.{AreDeepEqual, Finds, ListsEntityMap};
 ghost use Rattle.cedar_entities.specs.Changes.{AddsEntities, AddsPlain, RemovesEntities, RemovesPlain};
 ghost use Rattle.cedar_entities.specs.Changes.{StripsPlain, UpsertsEntities, UpsertsPlain};
-ghost use Rattle.cedar_entity_maps.specs.Edits.{put_over, uids_of};
+ghost use Rattle.cedar_entity_maps.specs.Edits.{overwrite, uids_of};
 ghost use Rattle.cedar_entity_maps.specs.laws.Indexes.{HasChildren, IsIndexOf, parentage};
-ghost use Rattle.cedar_entity_maps.specs.laws.Held.{held, held_map, shared, UidsMatch};
-ghost use Rattle.cedar_entity_maps.specs.Plain.{StoreView, entities_in, IsPlainStore, IsKeyed, AreBare, given_of};
+ghost use Rattle.cedar_entity_maps.specs.laws.EntityMap.{entity_at, held_map, shared, UidsMatch};
+ghost use Rattle.cedar_entity_maps.specs.Plain.{StoreView, entities_in, IsPlainStore, IsKeyed, HaveNoIndirect, input_of};
 ghost use Rattle.cedar_entity_maps.specs.Plain.{no_entities};
 ghost use Rattle.cedar_entities.specs.Present.{first_entity, AllMatch, FirstMismatch};
-ghost use Rattle.cedar_entity_maps.specs.Refusals.{MatchRefusal};
+ghost use Rattle.cedar_entity_maps.specs.EditErrors.{MatchError};
 ghost use Rattle.cedar_entity.specs.declared.err.EntitiesError.TheVariants.{Memory};
 ghost use Rattle.cedar_entities.specs.SameUids.{HaveSameUids, same_uids_and_mode};
 ghost use Rattle.cedar_entities.specs.StoreFaults.{IsStoreFault, IsValidStore};
-ghost use Rattle.cedar_entity_maps.specs.World.{World, empty_world, graph};
+ghost use Rattle.cedar_entity_maps.specs.InputStore.{InputStore, empty_input, graph};
 
 use crate::dereference::{Dereference, unknown_of};
-use crate::edits::{put_all_over, renews_adding, take_all_out};
+use crate::edits::{overwrite_and_finalize, remove_and_finalize, renews_adding};
 use crate::incoming::{Incoming, shared_all, stays_plain, uids_in, with_uids};
 use crate::lists::absent_uids;
 use crate::store_iters::{IntoIter, Iter};
@@ -32,10 +32,10 @@ use cedar_entity::entity::Entity;
 use cedar_entity::err::EntitiesError;
 use cedar_entity::node::SharedEntity;
 pub use cedar_entity_maps::TCComputation;
-use cedar_entity_maps::index::{Index, join, list_if_it_pays, touched_by};
-use cedar_entity_maps::modes::row_of;
-use cedar_entity_maps::settling::{check, settle_touched, settle_whole};
-use cedar_entity_maps::touching::{forget_each, note_all};
+use cedar_entity_maps::affected::{forget_each, insert_uids};
+use cedar_entity_maps::finalize::{check, finalize_affected, finalize_all};
+use cedar_entity_maps::index::{Index, affected_by, join, list_if_it_pays};
+use cedar_entity_maps::modes::rules_of;
 use cedar_ids::entity::EntityUID;
 use cedar_uid_sets::SharedUid;
 use std::alloc::{AllocError, Global};
@@ -75,7 +75,7 @@ pub struct Entities<S: BuildHasher = BuildHasherDefault<FoldHasher>> {
 }
 
 impl<S: BuildHasher> Model for Entities<S> {
-    ghost use Rattle.cedar_entity_maps.specs.laws.Held.{held_map, UidsMatch};
+    ghost use Rattle.cedar_entity_maps.specs.laws.EntityMap.{held_map, UidsMatch};
     ghost use Rattle.cedar_entity_maps.specs.laws.Indexes.{IsIndexOf};
     ghost use Rattle.cedar_entity_maps.specs.Plain.{StoreView, entities_in};
     ghost use Rattle.cedar_entities.specs.Codes.{store_code};
@@ -84,27 +84,27 @@ impl<S: BuildHasher> Model for Entities<S> {
 
     ghost coded = { store_code };
 
-    ghost view = { λ s. record { held = held_map s.entities; partial = s.partial } };
+    ghost view = { λ s. record { entities = held_map s.entities; partial = s.partial } };
 
     ghost invariant = { λ s. UidsMatch s.entities × IsIndexOf s.index (held_map s.entities) };
 }
 
 // Inserts an entity if its uid is new. Otherwise the existing entity must be deeply equal to it. If it is not, the new
 // entity is returned.
-fn put_new<S: BuildHasher>(
+fn insert_if_new<S: BuildHasher>(
     entities: &mut HashMap<SharedUid, SharedEntity, S>,
-    coming: Incoming,
+    incoming: Incoming,
 ) -> Result<Option<Rc<Entity>>, AllocError>
     requires { UidsMatch entities.old }
     ensures keys { UidsMatch entities.new }
     ensures agrees { IfOk result (λ o. o ≡ None →
-        IfSome (held entities.old coming.uid) (λ h. IsDeepEqual h coming)) }
-    ensures ok { IfOk result (λ o. o ≡ None → (q : EntityUID) → held entities.new q ≡ option_or
-        (held entities.old q) (cond (same_uid coming.uid q) (Some coming) None)) }
-    ensures differs { IfOk result (λ o. IfSome o (λ e. (e.value ≡ coming) × (h : EntityView)
-        × (held entities.old coming.uid ≡ Some h) × (IsDeepEqual h coming → ⊥))) }
+        IfSome (entity_at entities.old incoming.uid) (λ h. IsDeepEqual h incoming)) }
+    ensures ok { IfOk result (λ o. o ≡ None → (q : EntityUID) → entity_at entities.new q ≡ option_or
+        (entity_at entities.old q) (cond (same_uid incoming.uid q) (Some incoming) None)) }
+    ensures differs { IfOk result (λ o. IfSome o (λ e. (e.value ≡ incoming) × (h : EntityView)
+        × (entity_at entities.old incoming.uid ≡ Some h) × (IsDeepEqual h incoming → ⊥))) }
 {
-    let Incoming { uid, entity } = coming;
+    let Incoming { uid, entity } = incoming;
     match entities.entry(uid)? {
         Entry::Occupied(place) => {
             if place.get().0.deep_eq(&entity) {
@@ -120,20 +120,20 @@ fn put_new<S: BuildHasher>(
 }
 
 // Inserts the entities one after another.
-fn put_all<S: BuildHasher>(
+fn insert_each<S: BuildHasher>(
     entities: &mut HashMap<SharedUid, SharedEntity, S>,
     list: Vec<Incoming>,
 ) -> Result<(), EntitiesError>
     requires { UidsMatch entities.old }
     ensures keys { UidsMatch entities.new }
-    ensures agree { OnOk result (AllMatch (held entities.old) list.items) }
-    ensures ok { OnOk result ((q : EntityUID) → held entities.new q ≡ option_or
-        (held entities.old q) (first_entity list.items q)) }
-    ensures err { IfErr result (λ e. MatchRefusal e
-        (FirstMismatch (held entities.old) list.items) (λ _. ⊥)) }
+    ensures agree { OnOk result (AllMatch (entity_at entities.old) list.items) }
+    ensures ok { OnOk result ((q : EntityUID) → entity_at entities.new q ≡ option_or
+        (entity_at entities.old q) (first_entity list.items q)) }
+    ensures err { IfErr result (λ e. MatchError e
+        (FirstMismatch (entity_at entities.old) list.items) (λ _. ⊥)) }
 {
     for entity in list {
-        if let Some(other) = put_new(entities, entity)? {
+        if let Some(other) = insert_if_new(entities, entity)? {
             return Err(EntitiesError::Duplicate(other.uid().clone()?));
         }
     }
@@ -147,7 +147,7 @@ fn make_room<S: BuildHasher>(
 ) -> Result<(), AllocError>
     requires { UidsMatch entities.old }
     ensures keys { UidsMatch entities.new }
-    ensures held { (q : EntityUID) → held entities.new q ≡ held entities.old q }
+    ensures entities { (q : EntityUID) → entity_at entities.new q ≡ entity_at entities.old q }
 {
     entities.reserve(count)
 }
@@ -160,14 +160,14 @@ fn fill<S: BuildHasher + Clone>(
     tc_computation: TCComputation,
 ) -> Result<(), EntitiesError>
     requires keys { UidsMatch entities.old }
-    requires empty { (q : EntityUID) → held entities.old q ≡ None }
+    requires empty { (q : EntityUID) → entity_at entities.old q ≡ None }
     ensures keys { UidsMatch entities.new }
     ensures adds { AddsEntities tc_computation (held_map entities.old) list.items result
         (λ _. held_map entities.new) }
 {
     make_room(entities, list.len())?;
-    put_all(entities, list)?;
-    settle_whole(alloc, entities, tc_computation)
+    insert_each(entities, list)?;
+    finalize_all(alloc, entities, tc_computation)
 }
 
 // Adds entities, and finalizes the affected entities. In a plain store, all indirect ancestors of the affected entities
@@ -182,7 +182,7 @@ fn add_to<S: BuildHasher + Clone>(
     requires keys { UidsMatch entities.old }
     requires index { IsIndexOf index.old (held_map entities.old) }
     ensures plain { index.new.plain ≡ index.old.plain }
-    ensures children { OnOk result (IfSome index.new.children (HasChildren (parentage (held entities.new)))) }
+    ensures children { OnOk result (IfSome index.new.children (HasChildren (parentage (entity_at entities.new)))) }
     ensures keys { OnOk result (UidsMatch entities.new) }
     ensures adds { AddsEntities tc_computation (held_map entities.old) list.items result
         (λ _. held_map entities.new) }
@@ -190,15 +190,15 @@ fn add_to<S: BuildHasher + Clone>(
     let uids = uids_in(alloc, &list)?;
     let fresh = absent_uids(alloc, entities, uids)?;
     let mut inserted = HashSet::with_hasher(alloc, entities.hasher().clone()?);
-    note_all(&mut inserted, fresh)?;
+    insert_uids(&mut inserted, fresh)?;
     let joining = listed(alloc, &inserted)?;
     list_if_it_pays(alloc, entities, index);
-    put_all(entities, list)?;
-    let touched = touched_by(alloc, entities, index, &inserted)?;
-    let anew = renews_adding(index, row_of(tc_computation));
-    forget_each(alloc, entities, &inserted, &touched, anew)?;
+    insert_each(entities, list)?;
+    let affected = affected_by(alloc, entities, index, &inserted)?;
+    let recompute_all = renews_adding(index, rules_of(tc_computation));
+    forget_each(alloc, entities, &inserted, &affected, recompute_all)?;
     join(alloc, index, entities, &joining);
-    settle_touched(alloc, entities, &touched, tc_computation)
+    finalize_affected(alloc, entities, &affected, tc_computation)
 }
 
 // Adds entities.
@@ -212,7 +212,7 @@ fn add_all<S: BuildHasher + Clone>(
     requires keys { UidsMatch entities.old }
     requires index { IsIndexOf index.old (held_map entities.old) }
     ensures plain { index.new.plain ≡ index.old.plain }
-    ensures children { OnOk result (IfSome index.new.children (HasChildren (parentage (held entities.new)))) }
+    ensures children { OnOk result (IfSome index.new.children (HasChildren (parentage (entity_at entities.new)))) }
     ensures keys { OnOk result (UidsMatch entities.new) }
     ensures adds { AddsEntities tc_computation (held_map entities.old) list.items result
         (λ _. held_map entities.new) }
@@ -229,7 +229,7 @@ fn copy_of_map<S: BuildHasher + Clone>(
     entities: &HashMap<SharedUid, SharedEntity, S>,
 ) -> Result<HashMap<SharedUid, SharedEntity, S>, AllocError>
     requires { UidsMatch entities.now }
-    ensures held { IfOk result (λ copy. held_map copy ≡ held_map entities.now) }
+    ensures entities { IfOk result (λ copy. held_map copy ≡ held_map entities.now) }
     ensures keys { IfOk result (λ copy. UidsMatch copy) }
 {
     let copy = entities.clone()?;
@@ -243,8 +243,8 @@ impl<S: BuildHasher + Clone> Entities<S> {
     ///
     /// The original has a fixed hasher.
     pub fn with_hasher(alloc: Global, hasher: S) -> Entities<S>
-        ensures value { result ≡ record { held = finmap.empty; partial = false } }
-        ensures plain { IsPlainStore empty_world result }
+        ensures value { result ≡ record { entities = finmap.empty; partial = false } }
+        ensures plain { IsPlainStore empty_input result }
     {
         Entities {
             entities: HashMap::with_hasher(alloc, hasher),
@@ -260,8 +260,8 @@ impl<S: BuildHasher + Clone> Entities<S> {
 
     /// Returns the store with the same entities, now partial. Does not allocate.
     pub fn partial(self) -> Entities<S>
-        ensures value { result ≡ record { held = self.held; partial = true } }
-        ensures plain { (W : World) → IsPlainStore W self →
+        ensures value { result ≡ record { entities = self.entities; partial = true } }
+        ensures plain { (W : InputStore) → IsPlainStore W self →
             IsPlainStore (record W { partial = true }) result }
     {
         Entities {
@@ -279,7 +279,7 @@ impl<S: BuildHasher + Clone> Entities<S> {
     ///
     /// The original has no such function.
     pub fn known_plain_with(self, other: &Entities<S>) -> Entities<S>
-        requires { (W : World) → IsPlainStore W other.now → (V : World) × IsPlainStore V self }
+        requires { (W : InputStore) → IsPlainStore W other.now → (V : InputStore) × IsPlainStore V self }
         ensures { result ≡ self }
     {
         Entities {
@@ -309,9 +309,9 @@ impl<S: BuildHasher + Clone> Entities<S> {
         tc_computation: TCComputation,
     ) -> Result<Entities<S>, EntitiesError>
         ensures partial { IfOk result (λ s. s.partial ≡ false) }
-        ensures adds { AddsEntities tc_computation no_entities list.items result (λ s. s.held) }
-        ensures plain { AreBare list.items
-            → AddsPlain tc_computation empty_world (map given_of list.items) result }
+        ensures adds { AddsEntities tc_computation no_entities list.items result (λ s. s.entities) }
+        ensures plain { HaveNoIndirect list.items
+            → AddsPlain tc_computation empty_input (map input_of list.items) result }
     {
         let list = shared_all(alloc, list)?;
         Entities::with_hasher(alloc, hasher).add_entities(alloc, list, tc_computation)
@@ -344,18 +344,18 @@ impl<S: BuildHasher + Clone> Entities<S> {
         tc_computation: TCComputation,
     ) -> Result<Entities<S>, EntitiesError>
         ensures partial { IfOk result (λ s. s.partial ≡ self.partial) }
-        ensures adds { AddsEntities tc_computation self.held (entities_in list.items) result (λ s. s.held) }
-        ensures plain { (W : World) → IsPlainStore W self → AreBare (entities_in list.items)
-            → AddsPlain tc_computation W (map given_of (entities_in list.items)) result }
+        ensures adds { AddsEntities tc_computation self.entities (entities_in list.items) result (λ s. s.entities) }
+        ensures plain { (W : InputStore) → IsPlainStore W self → HaveNoIndirect (entities_in list.items)
+            → AddsPlain tc_computation W (map input_of (entities_in list.items)) result }
     {
         let Entities {
             mut entities,
             partial,
             mut index,
         } = self;
-        let coming = with_uids(alloc, list)?;
-        let stays = stays_plain(tc_computation, &coming);
-        add_all(alloc, &mut entities, &mut index, coming, tc_computation)?;
+        let incoming = with_uids(alloc, list)?;
+        let stays = stays_plain(tc_computation, &incoming);
+        add_all(alloc, &mut entities, &mut index, incoming, tc_computation)?;
         Ok(Entities {
             entities,
             partial,
@@ -397,20 +397,20 @@ impl<S: BuildHasher + Clone> Entities<S> {
         tc_computation: TCComputation,
     ) -> Result<Entities<S>, EntitiesError>
         ensures partial { IfOk result (λ s. s.partial ≡ self.partial) }
-        ensures upserts { UpsertsEntities tc_computation self.held (entities_in list.items) result }
-        ensures strips { (W : World) → IsPlainStore W self
-            → StripsPlain tc_computation W self.held (uids_of (entities_in list.items)) result }
-        ensures plain { (W : World) → IsPlainStore W self → AreBare (entities_in list.items)
-            → UpsertsPlain tc_computation W (map given_of (entities_in list.items)) result }
+        ensures upserts { UpsertsEntities tc_computation self.entities (entities_in list.items) result }
+        ensures strips { (W : InputStore) → IsPlainStore W self
+            → StripsPlain tc_computation W self.entities (uids_of (entities_in list.items)) result }
+        ensures plain { (W : InputStore) → IsPlainStore W self → HaveNoIndirect (entities_in list.items)
+            → UpsertsPlain tc_computation W (map input_of (entities_in list.items)) result }
     {
         let Entities {
             mut entities,
             partial,
             mut index,
         } = self;
-        let coming = with_uids(alloc, list)?;
-        let stays = stays_plain(tc_computation, &coming);
-        put_all_over(alloc, &mut entities, &mut index, coming, tc_computation)?;
+        let incoming = with_uids(alloc, list)?;
+        let stays = stays_plain(tc_computation, &incoming);
+        overwrite_and_finalize(alloc, &mut entities, &mut index, incoming, tc_computation)?;
         Ok(Entities {
             entities,
             partial,
@@ -444,15 +444,15 @@ impl<S: BuildHasher + Clone> Entities<S> {
         tc_computation: TCComputation,
     ) -> Result<Entities<S>, EntitiesError>
         ensures partial { IfOk result (λ s. s.partial ≡ self.partial) }
-        ensures removes { RemovesEntities tc_computation self.held list.items result }
-        ensures plain { (W : World) → IsPlainStore W self → RemovesPlain W list.items result }
+        ensures removes { RemovesEntities tc_computation self.entities list.items result }
+        ensures plain { (W : InputStore) → IsPlainStore W self → RemovesPlain W list.items result }
     {
         let Entities {
             mut entities,
             partial,
             mut index,
         } = self;
-        take_all_out(alloc, &mut entities, &mut index, list, tc_computation)?;
+        remove_and_finalize(alloc, &mut entities, &mut index, list, tc_computation)?;
         Ok(Entities {
             entities,
             partial,
@@ -462,15 +462,15 @@ impl<S: BuildHasher + Clone> Entities<S> {
 
     /// Returns the number of entities. Does not allocate.
     pub fn len(&self) -> usize
-        ensures value { result ≡ finmap.len self.now.held }
-        ensures plain { (W : World) → IsPlainStore W self.now → result ≡ finmap.len W.entities }
+        ensures value { result ≡ finmap.len self.now.entities }
+        ensures plain { (W : InputStore) → IsPlainStore W self.now → result ≡ finmap.len W.entities }
     {
         self.entities.len()
     }
 
     /// Returns whether the store has no entities. Does not allocate.
     pub fn is_empty(&self) -> bool
-        ensures { IsTrue result ↔ (self.now.held ≡ no_entities) }
+        ensures { IsTrue result ↔ (self.now.entities ≡ no_entities) }
     {
         self.len() == 0
     }
@@ -481,8 +481,8 @@ impl<S: BuildHasher + Clone> Entities<S> {
     ///
     /// The original has no such function.
     pub fn stored(&self, uid: &EntityUID) -> Option<&Entity>
-        ensures value { option_map (λ e. e.now) result ≡ finmap.get self.now.held uid.now }
-        ensures keyed { IsKeyed self.now.held }
+        ensures value { option_map (λ e. e.now) result ≡ finmap.get self.now.entities uid.now }
+        ensures keyed { IsKeyed self.now.entities }
     {
         match self.entities.get(uid) {
             Some(node) => Some(&*node.0),
@@ -502,8 +502,8 @@ impl<S: BuildHasher + Clone> Entities<S> {
         uid: &EntityUID,
     ) -> Result<Dereference<'_, Entity>, AllocError>
         ensures ok { IfOk result (Finds
-            (finmap.get self.now.held uid.now) self.now.partial uid.now) }
-        ensures err { OnErr result ((finmap.get self.now.held uid.now ≡ None)
+            (finmap.get self.now.entities uid.now) self.now.partial uid.now) }
+        ensures err { OnErr result ((finmap.get self.now.entities uid.now ≡ None)
             × (self.now.partial ≡ true)) }
     {
         match self.stored(uid) {
@@ -519,8 +519,8 @@ impl<S: BuildHasher + Clone> Entities<S> {
 
     /// Iterates over the entities, each once, in no specified order. Does not allocate.
     pub fn iter(&self) -> Iter<'_>
-        ensures lists { ListsHeld self.now.held result }
-        ensures keyed { IsKeyed self.now.held }
+        ensures lists { ListsEntityMap self.now.entities result }
+        ensures keyed { IsKeyed self.now.entities }
     {
         Iter::of(&self.entities)
     }
@@ -561,8 +561,8 @@ impl<S: BuildHasher + Clone> Entities<S> {
     ///
     /// If several entities are invalid, the original reports any of them.
     pub fn try_validate(self, alloc: Global) -> Result<Entities<S>, EntitiesError>
-        ensures ok { IfOk result (λ s. (s ≡ self) × IsValidStore self.held) }
-        ensures err { IfErr result (IsStoreFault self.held) }
+        ensures ok { IfOk result (λ s. (s ≡ self) × IsValidStore self.entities) }
+        ensures err { IfErr result (IsStoreFault self.entities) }
     {
         check(alloc, &self.entities)?;
         check_each(alloc, &self.entities)?;
@@ -630,7 +630,7 @@ impl<S: BuildHasher + Clone> IntoIterator for Entities<S> {
 
     type IntoIter = IntoIter;
 
-    ghost into_iter_gives = { λ s r. ListsHeld s.held r };
+    ghost into_iter_gives = { λ s r. ListsEntityMap s.entities r };
 
     /// Iterates over the entities, each once, in no specified order. This call does not allocate, but each item may.
     fn into_iter(self) -> IntoIter {

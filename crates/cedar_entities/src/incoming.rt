@@ -2,8 +2,8 @@
 //! call.
 ghost use Rattle.std.specs.Prelude.{◌≡◌, IfOk, IsTrue};
 ghost use Rattle.cedar_entity_maps.specs.Edits.{uids_of};
-ghost use Rattle.cedar_entity_maps.specs.Modes.{computes, row_of};
-ghost use Rattle.cedar_entity_maps.specs.Plain.{AreBare, IsBare, entities_in};
+ghost use Rattle.cedar_entity_maps.specs.Modes.{computes, rules_of};
+ghost use Rattle.cedar_entity_maps.specs.Plain.{HaveNoIndirect, HasNoIndirect, entities_in};
 
 use cedar_entity::entity::Entity;
 use cedar_entity_maps::TCComputation;
@@ -57,11 +57,11 @@ fn with_uid(alloc: Global, entity: Rc<Entity>) -> Result<Incoming, AllocError>
 pub(crate) fn with_uids(alloc: Global, list: Vec<Rc<Entity>>) -> Result<Vec<Incoming>, AllocError>
     ensures { IfOk result (λ v. v.items ≡ entities_in list.items) }
 {
-    let mut coming = Vec::with_capacity(alloc, list.len())?;
+    let mut incoming = Vec::with_capacity(alloc, list.len())?;
     for entity in list {
-        coming.push(with_uid(alloc, entity)?)?;
+        incoming.push(with_uid(alloc, entity)?)?;
     }
-    Ok(coming)
+    Ok(incoming)
 }
 
 // Returns the shared uids of the entities.
@@ -76,18 +76,18 @@ pub(crate) fn uids_in(alloc: Global, list: &[Incoming]) -> Result<Vec<SharedUid>
 }
 
 // Checks whether an entity has no indirect ancestors.
-fn is_bare(entity: &Entity) -> bool
-    ensures { IsTrue result → IsBare entity.now }
+fn has_no_indirect(entity: &Entity) -> bool
+    ensures { IsTrue result → HasNoIndirect entity.now }
 {
     entity.indirect_ancestors().next().is_none()
 }
 
 // Checks whether none of the entities has indirect ancestors.
-fn are_bare(list: &[Incoming]) -> bool
-    ensures { IsTrue result → AreBare list.now }
+fn have_no_indirect(list: &[Incoming]) -> bool
+    ensures { IsTrue result → HaveNoIndirect list.now }
 {
-    for coming in list {
-        if !is_bare(&coming.entity) {
+    for incoming in list {
+        if !has_no_indirect(&incoming.entity) {
             return false;
         }
     }
@@ -97,10 +97,10 @@ fn are_bare(list: &[Incoming]) -> bool
 // Returns `true` only if adding or overwriting the entities keeps a plain store plain: the mode computes the closure,
 // and no entity has indirect ancestors.
 pub(crate) fn stays_plain(tc_computation: TCComputation, list: &[Incoming]) -> bool
-    ensures { IsTrue result → IsTrue (computes (row_of tc_computation)) × AreBare list.now }
+    ensures { IsTrue result → IsTrue (computes (rules_of tc_computation)) × HaveNoIndirect list.now }
 {
     if !computes(tc_computation) {
         return false;
     }
-    are_bare(list)
+    have_no_indirect(list)
 }

@@ -5,7 +5,7 @@ ghost use Rattle.std.specs.List.{filter};
 ghost use Rattle.std.specs.Set.{is_member};
 ghost use Rattle.cedar_ids.specs.UidOf.{same_uid};
 ghost use Rattle.cedar_ids.specs.declared.entity.EntityUID.{EntityUID};
-ghost use Rattle.cedar_entity_maps.specs.laws.Held.{held};
+ghost use Rattle.cedar_entity_maps.specs.laws.EntityMap.{entity_at};
 
 use cedar_entity::node::SharedEntity;
 use cedar_ids::entity::EntityUID;
@@ -28,7 +28,7 @@ pub(crate) fn held_uids<S: BuildHasher>(
     entities: &HashMap<SharedUid, SharedEntity, S>,
     list: Vec<EntityUID>,
 ) -> Result<Vec<SharedUid>, AllocError>
-    ensures { IfOk result (λ v. v.items ≡ filter (λ u. is_some (held entities.now u)) list.items) }
+    ensures { IfOk result (λ v. v.items ≡ filter (λ u. is_some (entity_at entities.now u)) list.items) }
 {
     let mut kept = Vec::new(alloc);
     for uid in list {
@@ -45,7 +45,7 @@ pub(crate) fn absent_uids<S: BuildHasher>(
     entities: &HashMap<SharedUid, SharedEntity, S>,
     list: Vec<SharedUid>,
 ) -> Result<Vec<SharedUid>, AllocError>
-    ensures { IfOk result (λ v. v.items ≡ filter (λ u. not (is_some (held entities.now u))) list.items) }
+    ensures { IfOk result (λ v. v.items ≡ filter (λ u. not (is_some (entity_at entities.now u))) list.items) }
 {
     let mut kept = Vec::new(alloc);
     for shared in list {

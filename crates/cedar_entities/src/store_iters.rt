@@ -4,8 +4,8 @@ ghost use Rattle.std.specs.Iterator.{YieldsFirstRef, item_count};
 ghost use Rattle.std.specs.List.{IsDistinct};
 ghost use Rattle.std.specs.HashMap.{keys};
 ghost use Rattle.cedar_ids.specs.UidOf.{same_uid};
-ghost use Rattle.cedar_entities.specs.Answers.{ListsHeld};
-ghost use Rattle.cedar_entity_maps.specs.laws.Held.{held_map, shared, UidsMatch};
+ghost use Rattle.cedar_entities.specs.Answers.{ListsEntityMap};
+ghost use Rattle.cedar_entity_maps.specs.laws.EntityMap.{held_map, shared, UidsMatch};
 
 use cedar_entity::entity::Entity;
 use cedar_entity::node::SharedEntity;
@@ -26,7 +26,7 @@ pub struct Iter<'a> {
 impl<'a> Model for Iter<'a> {
     ghost use Rattle.std.specs.Prelude.{List, map};
     ghost use Rattle.std.specs.Coded.{coded_list};
-    ghost use Rattle.cedar_entity_maps.specs.laws.Held.{shared};
+    ghost use Rattle.cedar_entity_maps.specs.laws.EntityMap.{shared};
     ghost use Rattle.cedar_entity.specs.View.{EntityView};
     ghost use Rattle.cedar_entity.specs.Codes.{view_code};
 
@@ -40,7 +40,7 @@ impl<'a> Model for Iter<'a> {
 impl<'a> Iter<'a> {
     pub(crate) fn of<S: BuildHasher>(entities: &'a HashMap<SharedUid, SharedEntity, S>) -> Iter<'a>
         requires { UidsMatch entities.now }
-        ensures { ListsHeld (held_map entities.now) result }
+        ensures { ListsEntityMap (held_map entities.now) result }
     {
         Iter {
             inner: entities.iter(),
@@ -71,7 +71,7 @@ pub struct IntoIter {
 impl Model for IntoIter {
     ghost use Rattle.std.specs.Prelude.{List, map};
     ghost use Rattle.std.specs.Coded.{coded_list};
-    ghost use Rattle.cedar_entity_maps.specs.laws.Held.{shared};
+    ghost use Rattle.cedar_entity_maps.specs.laws.EntityMap.{shared};
     ghost use Rattle.cedar_entity.specs.View.{EntityView};
     ghost use Rattle.cedar_entity.specs.Codes.{view_code};
 
@@ -87,7 +87,7 @@ impl IntoIter {
         entities: HashMap<SharedUid, SharedEntity, S>,
     ) -> IntoIter
         requires { UidsMatch entities }
-        ensures { ListsHeld (held_map entities) result }
+        ensures { ListsEntityMap (held_map entities) result }
     {
         // No effect at run time: the contract of this call states that each entry is found in the map.
         let _ = entities.iter();
@@ -100,9 +100,9 @@ impl IntoIter {
 impl Iterator for IntoIter {
     type Item = Result<Entity, AllocError>;
 
-    ghost use Rattle.cedar_entities.specs.Answers.{TakesOut};
+    ghost use Rattle.cedar_entities.specs.Answers.{RemovesUids};
 
-    ghost next_gives = { TakesOut };
+    ghost next_gives = { RemovesUids };
 
     ghost remaining = { item_count (λ s. s) };
 

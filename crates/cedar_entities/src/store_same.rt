@@ -5,7 +5,7 @@ ghost use Rattle.std.specs.Option.{IfSome};
 ghost use Rattle.cedar_ids.specs.UidOf.{same_uid};
 ghost use Rattle.cedar_ids.specs.declared.entity.EntityUID.{EntityUID};
 ghost use Rattle.cedar_entities.specs.Answers.{HasDeepEqual};
-ghost use Rattle.cedar_entity_maps.specs.laws.Held.{held};
+ghost use Rattle.cedar_entity_maps.specs.laws.EntityMap.{entity_at};
 
 use cedar_entity::entity::Entity;
 use cedar_entity::node::SharedEntity;
@@ -19,7 +19,7 @@ fn has_deep_equal_at<S: BuildHasher>(
     uid: &SharedUid,
     other: &HashMap<SharedUid, SharedEntity, S>,
 ) -> bool
-    ensures { IsTrue result ↔ HasDeepEqual (Some entity.now) (held other.now uid.now) }
+    ensures { IsTrue result ↔ HasDeepEqual (Some entity.now) (entity_at other.now uid.now) }
 {
     match other.get(uid) {
         Some(node) => entity.deep_eq(&node.0),
@@ -33,7 +33,7 @@ pub(crate) fn have_deep_equals<S: BuildHasher>(
     other: &HashMap<SharedUid, SharedEntity, S>,
 ) -> bool
     ensures { IsTrue result ↔ ((q : EntityUID) →
-        IfSome (held one.now q) (λ e. HasDeepEqual (Some e) (held other.now q))) }
+        IfSome (entity_at one.now q) (λ e. HasDeepEqual (Some e) (entity_at other.now q))) }
 {
     for (uid, node) in one {
         if !has_deep_equal_at(&node.0, uid, other) {

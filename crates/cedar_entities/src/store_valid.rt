@@ -1,7 +1,7 @@
 //! The first invalid entity of a store.
 ghost use Rattle.std.specs.Prelude.{MatchOption, OnOk, IfErr};
 ghost use Rattle.std.specs.Option.{option_copied};
-ghost use Rattle.cedar_entity_maps.specs.laws.Held.{held_map, UidsMatch};
+ghost use Rattle.cedar_entity_maps.specs.laws.EntityMap.{held_map, UidsMatch};
 ghost use Rattle.cedar_entities.specs.StoreFaults.{AreAllValid, IsFirstFaulty, IsFirstFault};
 ghost use Rattle.cedar_entities.specs.laws.StoreFaults.{TakesFaulty};
 
@@ -15,7 +15,7 @@ use std::collections::HashMap;
 use std::hash::BuildHasher;
 
 // Returns the lesser of an invalid entity and the least one so far.
-fn lesser_faulty<'a>(entity: &'a Entity, least: Option<&'a Entity>) -> Option<&'a Entity>
+fn min_faulty<'a>(entity: &'a Entity, least: Option<&'a Entity>) -> Option<&'a Entity>
     ensures { TakesFaulty entity.now (option_copied least.entry) (option_copied result) }
 {
     if entity.is_valid() {
@@ -43,7 +43,7 @@ fn first_faulty<'a, S: BuildHasher>(
 {
     let mut least = None;
     for (_uid, node) in entities {
-        least = lesser_faulty(&node.0, least);
+        least = min_faulty(&node.0, least);
     }
     least
 }

@@ -1,4 +1,4 @@
-pub mod ClosureRefusals
+pub mod ClosureErrors
 pub mod Codes
 pub mod Fields
 pub mod Least

@@ -49,9 +49,9 @@ abbrev pub overlap : EntityView → UidValues
 overlap e = set.intersection e.parents e.indirect
 
 -- A uid, attributes, tags and parents, and a set of uids.
-abbrev pub Kept : Type 0
-Kept = EntityUID × (Rest × UidValues)
+abbrev pub UnchangedParts : Type 0
+UnchangedParts = EntityUID × (Rest × UidValues)
 
 -- The content of an entity that adding an ancestor does not change.
-abbrev pub kept : EntityView → Kept
-kept e = (e.uid, (rest e, overlap e))
+abbrev pub unchanged_parts : EntityView → UnchangedParts
+unchanged_parts e = (e.uid, (rest e, overlap e))

@@ -536,7 +536,7 @@ impl Entity {
 
     // Returns the ancestor that an error for an action names: an ancestor that is not an action. Returns `None` if the
     // entity is not an action.
-    fn misfit(&self) -> Option<&EntityUID>
+    fn invalid_action_ancestor(&self) -> Option<&EntityUID>
         ensures { MatchOption (option_copied result)
             (IsTrue (is_action self.now.uid) → HasOnlyActionAncestors self.now)
             (λ p. IsTrue (is_action self.now.uid) × IsLeastNonAction self.now p) }
@@ -567,7 +567,7 @@ impl Entity {
         if let Some(ancestor) = self.least_duplicate() {
             return Some(Fault::DuplicateAncestor(ancestor));
         }
-        if let Some(parent) = self.misfit() {
+        if let Some(parent) = self.invalid_action_ancestor() {
             return Some(Fault::ActionParentIsNotAction(parent));
         }
         match self.reserved_key() {

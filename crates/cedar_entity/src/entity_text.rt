@@ -20,14 +20,14 @@ impl fmt::Display for Entity {
     fn fmt<W: fmt::Write>(&self, f: &mut fmt::Formatter<W>) -> fmt::Result {
         let uid = self.uid();
         write!(f, "{uid}:\n  attrs:")?;
-        show_pairs(self.attrs(), f)?;
+        write_pairs(self.attrs(), f)?;
         f.write_str("\n  ancestors:")?;
-        show_ancestors(self, f)
+        write_ancestors(self, f)
     }
 }
 
 // Writes pairs, separated by a semicolon and a blank.
-fn show_pairs<W: fmt::Write>(pairs: Pairs<'_>, f: &mut fmt::Formatter<W>) -> fmt::Result {
+fn write_pairs<W: fmt::Write>(pairs: Pairs<'_>, f: &mut fmt::Formatter<W>) -> fmt::Result {
     let mut is_first = true;
     for (key, value) in pairs {
         if !is_first {
@@ -40,7 +40,7 @@ fn show_pairs<W: fmt::Write>(pairs: Pairs<'_>, f: &mut fmt::Formatter<W>) -> fmt
 }
 
 // Writes the ancestors in order, separated by a comma and a blank.
-fn show_ancestors<W: fmt::Write>(entity: &Entity, f: &mut fmt::Formatter<W>) -> fmt::Result {
+fn write_ancestors<W: fmt::Write>(entity: &Entity, f: &mut fmt::Formatter<W>) -> fmt::Result {
     let mut is_first = true;
     for uid in entity.ancestors_in_order() {
         if !is_first {

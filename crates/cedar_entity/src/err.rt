@@ -1,7 +1,7 @@
 //! The errors of entities and of stores of entities.
 ghost use Rattle.std.specs.Prelude.{◌≡◌, IfOk};
 ghost use Rattle.cedar_entity.specs.declared.err.EntitiesError.TheVariants.{Memory};
-ghost use Rattle.cedar_entity.specs.ClosureRefusals.{refusal_of, Tells};
+ghost use Rattle.cedar_entity.specs.ClosureErrors.{refusal_of, ReportsClosureError};
 
 use cedar_graph::{HasCycle, MissingTcEdge, TcError};
 use cedar_ids::entity::EntityUID;
@@ -118,7 +118,7 @@ fn unshared(fault: TcError<SharedUid>) -> Result<TcError<EntityUID>, AllocError>
 /// `Memory` becomes `Memory`. Any other error becomes `TransitiveClosureError`. If the allocation of a copy fails, the
 /// result is `Memory` too.
 impl From<TcError<SharedUid>> for EntitiesError {
-    ghost from_gives = { λ t e. Tells t e };
+    ghost from_gives = { λ t e. ReportsClosureError t e };
 
     fn from(error: TcError<SharedUid>) -> EntitiesError {
         match unshared(error) {

@@ -31,12 +31,12 @@ pub(crate) fn reset(entity: &mut Entity)
 impl TCNode<EntityUID> for Entity {
     ghost use Rattle.cedar_ids.specs.declared.entity.EntityUID.{EntityUID};
     ghost use Rattle.std.specs.FinSet as set;
-    ghost use Rattle.cedar_entity.specs.View.{EntityView, has_ancestor, Rest, rest, Kept, kept};
+    ghost use Rattle.cedar_entity.specs.View.{EntityView, has_ancestor, Rest, rest, UnchangedParts, unchanged_parts};
     ghost use Rattle.cedar_entity.specs.laws.Views.{ancestors_respect, parents_are_ancestors};
 
     ghost Rest = { Rest };
 
-    ghost Kept = { Kept };
+    ghost UnchangedParts = { UnchangedParts };
 
     ghost key = { λ e. e.uid };
 
@@ -46,7 +46,7 @@ impl TCNode<EntityUID> for Entity {
 
     ghost rest = { rest };
 
-    ghost kept = { kept };
+    ghost unchanged_parts = { unchanged_parts };
 
     /// Returns a copy of the uid.
     ///
@@ -87,7 +87,7 @@ impl TCNode<EntityUID> for Entity {
         ensures ok { OnOk result ((q : _) →
             has_ancestor self.new q ≡ set.contains self.old.parents q) }
         ensures err { OnErr result ((q : _) → has_ancestor self.new q ≡ has_ancestor self.old q) }
-        ensures err_kept { OnErr result (kept self.new ≡ kept self.old) }
+        ensures err_kept { OnErr result (unchanged_parts self.new ≡ unchanged_parts self.old) }
         ensures direct { (q : _) →
             set.contains self.new.parents q ≡ set.contains self.old.parents q }
         ensures key { self.new.uid ≡ self.old.uid }
@@ -121,12 +121,12 @@ pub struct SharedEntity(pub Rc<Entity>);
 impl TCNode<EntityUID> for SharedEntity {
     ghost use Rattle.cedar_ids.specs.declared.entity.EntityUID.{EntityUID};
     ghost use Rattle.std.specs.FinSet as set;
-    ghost use Rattle.cedar_entity.specs.View.{EntityView, has_ancestor, Rest, rest, Kept, kept};
+    ghost use Rattle.cedar_entity.specs.View.{EntityView, has_ancestor, Rest, rest, UnchangedParts, unchanged_parts};
     ghost use Rattle.cedar_entity.specs.laws.Views.{ancestors_respect, parents_are_ancestors};
 
     ghost Rest = { Rest };
 
-    ghost Kept = { Kept };
+    ghost UnchangedParts = { UnchangedParts };
 
     ghost key = { λ n. n.0.value.uid };
 
@@ -136,7 +136,7 @@ impl TCNode<EntityUID> for SharedEntity {
 
     ghost rest = { λ n. rest n.0.value };
 
-    ghost kept = { λ n. kept n.0.value };
+    ghost unchanged_parts = { λ n. unchanged_parts n.0.value };
 
     /// Returns a copy of the uid.
     ///
@@ -186,7 +186,7 @@ impl TCNode<EntityUID> for SharedEntity {
             has_ancestor self.new.0.value q ≡ set.contains self.old.0.value.parents q) }
         ensures err { OnErr result ((q : _) →
             has_ancestor self.new.0.value q ≡ has_ancestor self.old.0.value q) }
-        ensures err_kept { OnErr result (kept self.new.0.value ≡ kept self.old.0.value) }
+        ensures err_kept { OnErr result (unchanged_parts self.new.0.value ≡ unchanged_parts self.old.0.value) }
         ensures direct { (q : _) →
             set.contains self.new.0.value.parents q ≡ set.contains self.old.0.value.parents q }
         ensures key { self.new.0.value.uid ≡ self.old.0.value.uid }

@@ -7,7 +7,7 @@ ghost use Rattle.std.specs.Set.{is_member};
 ghost use Rattle.cedar_ids.specs.UidOf.{same_uid};
 ghost use Rattle.cedar_ids.specs.declared.entity.EntityUID.{EntityUID};
 ghost use Rattle.cedar_graph.specs.Graph.{Grows};
-ghost use Rattle.cedar_entity.specs.View.{has_ancestor, rest, kept};
+ghost use Rattle.cedar_entity.specs.View.{has_ancestor, rest, unchanged_parts};
 ghost use Rattle.cedar_entity.specs.laws.Views.{AreNewTo};
 
 use crate::entity::Entity;
@@ -61,7 +61,7 @@ fn add_pointer(entity: &mut Entity, shared: SharedUid) -> Result<(), AllocError>
     ensures direct { entity.new.parents ≡ entity.old.parents }
     ensures key { entity.new.uid ≡ entity.old.uid }
     ensures rest { rest entity.new ≡ rest entity.old }
-    ensures kept { kept entity.new ≡ kept entity.old }
+    ensures kept { unchanged_parts entity.new ≡ unchanged_parts entity.old }
 {
     entity.add_shared_ancestor(shared)
 }
@@ -74,7 +74,7 @@ fn add_row(alloc: Global, entity: &mut Entity, keys: &mut Vec<SharedUid>) -> Res
         (is_member same_uid keys.old.items) }
     ensures key { entity.new.uid ≡ entity.old.uid }
     ensures rest { rest entity.new ≡ rest entity.old }
-    ensures kept { kept entity.new ≡ kept entity.old }
+    ensures kept { unchanged_parts entity.new ≡ unchanged_parts entity.old }
 {
     let keys = taken(alloc, keys);
     entity.add_shared_ancestors(keys)
@@ -93,7 +93,7 @@ fn add_new_row(
         (is_member same_uid keys.old.items) }
     ensures key { entity.new.uid ≡ entity.old.uid }
     ensures rest { rest entity.new ≡ rest entity.old }
-    ensures kept { kept entity.new ≡ kept entity.old }
+    ensures kept { unchanged_parts entity.new ≡ unchanged_parts entity.old }
 {
     let keys = taken(alloc, keys);
     entity.add_new_ancestors(keys)
@@ -102,12 +102,12 @@ fn add_new_row(
 impl TCNode<SharedUid> for SharedEntity {
     ghost use Rattle.cedar_ids.specs.declared.entity.EntityUID.{EntityUID};
     ghost use Rattle.std.specs.FinSet as set;
-    ghost use Rattle.cedar_entity.specs.View.{EntityView, has_ancestor, Rest, rest, Kept, kept};
+    ghost use Rattle.cedar_entity.specs.View.{EntityView, has_ancestor, Rest, rest, UnchangedParts, unchanged_parts};
     ghost use Rattle.cedar_entity.specs.laws.Views.{ancestors_respect, parents_are_ancestors};
 
     ghost Rest = { Rest };
 
-    ghost Kept = { Kept };
+    ghost UnchangedParts = { UnchangedParts };
 
     ghost key = { λ n. n.0.value.uid };
 
@@ -117,7 +117,7 @@ impl TCNode<SharedUid> for SharedEntity {
 
     ghost rest = { λ n. rest n.0.value };
 
-    ghost kept = { λ n. kept n.0.value };
+    ghost unchanged_parts = { λ n. unchanged_parts n.0.value };
 
     /// Returns a copy of the uid, as a shared uid.
     ///
@@ -182,7 +182,7 @@ impl TCNode<SharedUid> for SharedEntity {
             has_ancestor self.new.0.value q ≡ set.contains self.old.0.value.parents q) }
         ensures err { OnErr result ((q : _) →
             has_ancestor self.new.0.value q ≡ has_ancestor self.old.0.value q) }
-        ensures err_kept { OnErr result (kept self.new.0.value ≡ kept self.old.0.value) }
+        ensures err_kept { OnErr result (unchanged_parts self.new.0.value ≡ unchanged_parts self.old.0.value) }
         ensures direct { (q : _) →
             set.contains self.new.0.value.parents q ≡ set.contains self.old.0.value.parents q }
         ensures key { self.new.0.value.uid ≡ self.old.0.value.uid }

@@ -22,22 +22,22 @@ use Rattle.cedar_ids.specs.declared.entity.EntityUID.{EntityUID}
 use Rattle.cedar_entity.specs.Fields.{Fields, AreFieldsOf, field_at}
 use Rattle.cedar_uid_sets.specs.laws.Sets.{contains_listed}
 use Rattle.cedar_entities.specs.Changes.{AddsPlain, RemovesPlain, UpsertsPlain}
-use Rattle.cedar_entity_maps.specs.Plain.{StoreView, IsPlainStore, parts_of, given_of, IsBare, AreBare}
+use Rattle.cedar_entity_maps.specs.Plain.{StoreView, IsPlainStore, parts_of, input_of, HasNoIndirect, HaveNoIndirect}
 use Rattle.cedar_entity.specs.View.{EntityView, has_ancestor}
-use Rattle.cedar_entity_maps.specs.Refusals.{IsAddingRefused, IsOverwritingRefused}
-use Rattle.cedar_entity_maps.specs.World.{World, Parts, Given, given, graph, is_parent_in, entry_of, reversed, goes}
-use Rattle.cedar_entity_maps.specs.World.{without, added, overwritten, deleted, empty_world}
+use Rattle.cedar_entity_maps.specs.EditErrors.{IsAddError, IsOverwriteError}
+use Rattle.cedar_entity_maps.specs.InputStore.{InputStore, Parts, InputEntity, input_entity, graph, is_parent_in, entry_of, reversed, is_removed}
+use Rattle.cedar_entity_maps.specs.InputStore.{without, added, overwritten, deleted, empty_input}
 use Rattle.cedar_entity.specs.declared.err.EntitiesError.{EntitiesError}
 use Rattle.cedar_entity.specs.declared.err.EntitiesError.TheVariants as errors
 use Rattle.cedar_entity_maps.specs.declared.modes.TCComputation.TheVariants.{ComputeNow}
-use Rattle.cedar_entity_maps.specs.laws.Worlds.{get_added, get_overwritten, get_deleted}
+use Rattle.cedar_entity_maps.specs.laws.InputStores.{get_added, get_overwritten, get_deleted}
 use Rattle.cedar_lines.specs.Lines.{written_line}
 use Rattle.cedar_slice.specs.Slices.{IsPlainSlice}
 use Rattle.cedar_slice.specs.laws.OneSlice.{slice_edges}
 use Rattle.cedar_entity_lines.specs.EntityCommand.{Ent, Build, Add, Upsert, Remove, Slice, Anc}
-use Rattle.cedar_entity_lines.specs.EntityOutput.{EntityState, Adds, Overwrites, AreAncestors, ShowsAncestors}
+use Rattle.cedar_entity_lines.specs.EntityOutput.{EntityState, Adds, Overwrites, AreAncestors, WritesAncestors}
 use Rattle.cedar_entity_lines.specs.EntityOutput.{count_line, uid_text, field_of}
-use Rattle.cedar_entity_lines.specs.Holding.{StoreAndWaiting, IsAsciiUid, IsAsciiGiven, IsAsciiWorld, AreAsciiUids}
+use Rattle.cedar_entity_lines.specs.Holding.{StoreAndWaiting, IsAsciiUid, IsAsciiInputEntity, IsAsciiInput, AreAsciiUids}
 use Rattle.cedar_entity_lines.specs.Holding.{Holds, EntityWrites}
 use Rattle.cedar_entity_lines.specs.laws.Machines.{Refused, KeepsAndTells}
 use Rattle.cedar_entity_lines.specs.laws.OneAnswer.{all_at}
@@ -48,11 +48,11 @@ use Rattle.cedar_entity.specs.laws.UidSets.{kept_in}
 use Rattle.cedar_entity_maps.specs.laws.Lists.{all_push}
 
 -- The output of an error of adding.
-pub refused_adds : (base : World) (L : List Given) (e : EntitiesError) (old new : List ℕ)
-    → AllByRecursion IsAsciiGiven L → IsAddingRefused base L e → Refused e old new
-    → (text : List ℕ) × Adds base L empty_world text × (new ≡ old ++ text)
+pub refused_adds : (base : InputStore) (L : List InputEntity) (e : EntitiesError) (old new : List ℕ)
+    → AllByRecursion IsAsciiInputEntity L → IsAddError base L e → Refused e old new
+    → (text : List ℕ) × Adds base L empty_input text × (new ≡ old ++ text)
 refused_adds base L (errors.Duplicate u) old new ascii h r =
-    let g = all_at IsAsciiGiven h.before h.at h.after (subst (AllByRecursion IsAsciiGiven) h.place ascii) in
+    let g = all_at IsAsciiInputEntity h.before h.at h.after (subst (AllByRecursion IsAsciiInputEntity) h.place ascii) in
     (written_line (codes "refused: duplicate " ++ uid_text u), inl (u, h, refl, refl), r (subst IsAsciiUid h.uid g.0))
 refused_adds base L (errors.TransitiveClosureError (tc.MissingTcEdge x)) old new ascii h r = absurd r
 refused_adds base L (errors.TransitiveClosureError (tc.HasCycle x)) old new ascii h r =
@@ -65,9 +65,9 @@ refused_adds base L (errors.ReservedKey k) old new ascii h r = absurd r
 refused_adds base L errors.Memory old new ascii h r = absurd r
 
 -- The output of an error of upserting.
-pub refused_overwrites : (base : World) (L : List Given) (e : EntitiesError) (old new : List ℕ)
-    → IsOverwritingRefused base L e → Refused e old new
-    → (text : List ℕ) × Overwrites base L empty_world text × (new ≡ old ++ text)
+pub refused_overwrites : (base : InputStore) (L : List InputEntity) (e : EntitiesError) (old new : List ℕ)
+    → IsOverwriteError base L e → Refused e old new
+    → (text : List ℕ) × Overwrites base L empty_input text × (new ≡ old ++ text)
 refused_overwrites base L (errors.Duplicate u) old new h r = absurd h
 refused_overwrites base L (errors.TransitiveClosureError (tc.MissingTcEdge x)) old new h r = absurd r
 refused_overwrites base L (errors.TransitiveClosureError (tc.HasCycle x)) old new h r =
@@ -98,7 +98,7 @@ find_ascii [] a h = tt
 find_ascii (e ∷ es) a h =
     pick_ascii (eq_by_cmp uid_order a e.0) e.1 (finmap.find uid_order a es) h.0 (find_ascii es a h.1)
 
-entries_ascii : (L : List Given) → AllByRecursion IsAsciiGiven L → AllByRecursion ascii_entry (map entry_of L)
+entries_ascii : (L : List InputEntity) → AllByRecursion IsAsciiInputEntity L → AllByRecursion ascii_entry (map entry_of L)
 entries_ascii [] h = tt
 entries_ascii (g ∷ L) h = (h.0.1, entries_ascii L h.1)
 
@@ -118,22 +118,22 @@ parts_or : (o p : Option Parts) → ascii_parts o → ascii_parts p → ascii_pa
 parts_or None p h k = k
 parts_or (Some x) p h k = h
 
--- If the parents of all entries have ASCII eids, the input store satisfies `IsAsciiWorld`.
-from_parts : (W : World) → ((a : EntityUID) → ascii_parts (finmap.get W.entities a)) → IsAsciiWorld W
+-- If the parents of all entries have ASCII eids, the input store satisfies `IsAsciiInput`.
+from_parts : (W : InputStore) → ((a : EntityUID) → ascii_parts (finmap.get W.entities a)) → IsAsciiInput W
 from_parts W h a b e = parent_ascii (finmap.get W.entities a) b (h a) e
 
-parts_in : (W : World) → IsAsciiWorld W → (a : EntityUID) → ascii_parts (finmap.get W.entities a)
+parts_in : (W : InputStore) → IsAsciiInput W → (a : EntityUID) → ascii_parts (finmap.get W.entities a)
 parts_in W h a = found_parts (finmap.get W.entities a) (h a)
 
-pub added_ascii : (W : World) (L : List Given) → IsAsciiWorld W → AllByRecursion IsAsciiGiven L
-    → IsAsciiWorld (added W L)
+pub added_ascii : (W : InputStore) (L : List InputEntity) → IsAsciiInput W → AllByRecursion IsAsciiInputEntity L
+    → IsAsciiInput (added W L)
 added_ascii W L h k =
     from_parts (added W L)
     (λ a. subst ascii_parts (sym (get_added W L a))
     (parts_or _ _ (parts_in W h a) (find_ascii (map entry_of L) a (entries_ascii L k))))
 
-pub overwritten_ascii : (W : World) (L : List Given) → IsAsciiWorld W → AllByRecursion IsAsciiGiven L
-    → IsAsciiWorld (overwritten W L)
+pub overwritten_ascii : (W : InputStore) (L : List InputEntity) → IsAsciiInput W → AllByRecursion IsAsciiInputEntity L
+    → IsAsciiInput (overwritten W L)
 overwritten_ascii W L h k =
     from_parts (overwritten W L)
     (λ a. subst ascii_parts (sym (get_overwritten W L a))
@@ -147,13 +147,13 @@ left_ascii gone a true None h = tt
 left_ascii gone a true (Some p) h =
     λ q e. h q (first_so (set.contains p.parents q) (not (gone q)) (sym (kept_in p.parents gone q) ∙ e))
 
-pub deleted_ascii : (W : World) (U : List EntityUID) → IsAsciiWorld W → IsAsciiWorld (deleted W U)
+pub deleted_ascii : (W : InputStore) (U : List EntityUID) → IsAsciiInput W → IsAsciiInput (deleted W U)
 deleted_ascii W U h =
     from_parts (deleted W U)
     (λ a. subst ascii_parts (sym (get_deleted W U a))
-    (left_ascii (goes W U) a (not (goes W U a)) (finmap.get W.entities a) (parts_in W h a)))
+    (left_ascii (is_removed W U) a (not (is_removed W U a)) (finmap.get W.entities a) (parts_in W h a)))
 
-pub empty_ascii : IsAsciiWorld empty_world
+pub empty_ascii : IsAsciiInput empty_input
 empty_ascii a b e = absurd (false≢true (sym (ap (λ o. is_parent_in o b) (finmap.get-empty uid_order a)) ∙ e))
 
 -- The parents of a queued entity have ASCII eids.
@@ -164,7 +164,7 @@ listed_ascii (p ∷ ps) h q m = elim (or_cases (same_uid q p) (is_member same_ui
   | inr r ↦ listed_ascii ps h.1 q r
 ]
 
-pub given_ascii : (u : EntityUID) (ps : List EntityUID) → AreAsciiUids (u ∷ ps) → IsAsciiGiven (given u ps)
+pub given_ascii : (u : EntityUID) (ps : List EntityUID) → AreAsciiUids (u ∷ ps) → IsAsciiInputEntity (input_entity u ps)
 given_ascii u ps h = (h.0, λ q m. listed_ascii ps h.1 q (sym (contains_listed ps q) ∙ m))
 
 -- The last uid of a path is a parent of some uid.
@@ -182,28 +182,28 @@ all_members P (u ∷ us) h = (
 )
 
 -- Whether an entity of a plain store has the ancestors that the input store implies.
-abbrev pub FoundAt : World → EntityUID → EntityView → Type 0
+abbrev pub FoundAt : InputStore → EntityUID → EntityView → Type 0
 FoundAt W u e = (x : EntityUID) → (has_ancestor e x ≡ true) ↔ Reach (graph W) u x
 
-pub found_reach : (W : World) (S : StoreView) (u : EntityUID) (e : EntityView) → IsPlainStore W S
-    → Some e ≡ finmap.get S.held u → FoundAt W u e
+pub found_reach : (W : InputStore) (S : StoreView) (u : EntityUID) (e : EntityView) → IsPlainStore W S
+    → Some e ≡ finmap.get S.entities u → FoundAt W u e
 found_reach W S u e plain at = subst (λ o. IfSome o (FoundAt W u)) (sym at) (plain.reached u)
 
-pub found_ascii : (W : World) (u : EntityUID) (e : EntityView) (us : List EntityUID) → FoundAt W u e → IsAsciiWorld W
+pub found_ascii : (W : InputStore) (u : EntityUID) (e : EntityView) (us : List EntityUID) → FoundAt W u e → IsAsciiInput W
     → ((q : EntityUID) → is_member same_uid us q ≡ has_ancestor e q) → AreAsciiUids us
 found_ascii W u e us found ascii members = all_members IsAsciiUid us (λ q m.
     let r = (found q).0 (sym (members q) ∙ m) in
     let s = last_step (graph W) u q r.0 r.1 in
     ascii s.0 q s.1)
 
-holds_key : (W : World) (S : StoreView) (u : EntityUID) (o : Option EntityView) → IsPlainStore W S
-    → o ≡ finmap.get S.held u → finmap.contains_key W.entities u ≡ is_some (option_map parts_of o)
+holds_key : (W : InputStore) (S : StoreView) (u : EntityUID) (o : Option EntityView) → IsPlainStore W S
+    → o ≡ finmap.get S.entities u → finmap.contains_key W.entities u ≡ is_some (option_map parts_of o)
 holds_key W S u o plain at = ap is_some (sym (plain.holds u)) ∙ ap (λ r. is_some (option_map parts_of r)) (sym at)
 
-pub shows_some : (W : World) (S : StoreView) (u : EntityUID) (e : EntityView) (us : List EntityUID) → IsPlainStore W S
-    → Some e ≡ finmap.get S.held u
+pub shows_some : (W : InputStore) (S : StoreView) (u : EntityUID) (e : EntityView) (us : List EntityUID) → IsPlainStore W S
+    → Some e ≡ finmap.get S.entities u
     → IsStrictlySortedBy uid_order us → ((q : EntityUID) → is_member same_uid us q ≡ has_ancestor e q)
-    → ShowsAncestors W u (written_line (codes "anc" ++ flat_map field_of us))
+    → WritesAncestors W u (written_line (codes "anc" ++ flat_map field_of us))
 shows_some W S u e us plain at ascend members =
     let found = found_reach W S u e plain at in
     let text = written_line (codes "anc" ++ flat_map field_of us) in
@@ -219,8 +219,8 @@ shows_some W S u e us plain at ascend members =
       refl,
     )
 
-pub shows_none : (W : World) (S : StoreView) (u : EntityUID) → IsPlainStore W S → None ≡ finmap.get S.held u
-    → ShowsAncestors W u (written_line (codes "no entity"))
+pub shows_none : (W : InputStore) (S : StoreView) (u : EntityUID) → IsPlainStore W S → None ≡ finmap.get S.entities u
+    → WritesAncestors W u (written_line (codes "no entity"))
 shows_none W S u plain at =
     let text = written_line (codes "no entity") in
     subst (λ b. MatchBool b ((uids : List EntityUID) × AreAncestors W u uids
@@ -237,153 +237,153 @@ no_fields (f ∷ fs) h =
 -- The command `ent`.
 pub ent_takes : (m n : StoreAndWaiting) (s : EntityState) (u : EntityUID) (ps : List EntityUID) (e : EntityView)
     (out : List ℕ) → Holds m s → n.waiting ≡ m.waiting ++ e ∷ [] → n.store ≡ m.store
-    → given_of e ≡ given u ps → IsBare e → AreAsciiUids (u ∷ ps) → EntityWrites (Ent u ps) s n out out
+    → input_of e ≡ input_entity u ps → HasNoIndirect e → AreAsciiUids (u ∷ ps) → EntityWrites (Ent u ps) s n out out
 ent_takes m n s u ps e out h items store is bare ascii = (
-  record { waiting = s.waiting ++ given u ps ∷ []; world = s.world },
+  record { waiting = s.waiting ++ input_entity u ps ∷ []; input_store = s.input_store },
   [],
   (refl, refl),
   record {
-    waiting = ap (map given_of) items ∙ map-append given_of m.waiting (e ∷ []) ∙ (λ i. h.waiting i ++ is i ∷ []);
-    bare = subst AreBare (sym items) (all_push IsBare m.waiting e h.bare bare);
-    plain = subst (IsPlainStore s.world) (sym store) h.plain;
-    ascii_waiting = all_push IsAsciiGiven s.waiting (given u ps) h.ascii_waiting (given_ascii u ps ascii);
-    ascii_world = h.ascii_world;
+    waiting = ap (map input_of) items ∙ map-append input_of m.waiting (e ∷ []) ∙ (λ i. h.waiting i ++ is i ∷ []);
+    bare = subst HaveNoIndirect (sym items) (all_push HasNoIndirect m.waiting e h.bare bare);
+    plain = subst (IsPlainStore s.input_store) (sym store) h.plain;
+    ascii_waiting = all_push IsAsciiInputEntity s.waiting (input_entity u ps) h.ascii_waiting (given_ascii u ps ascii);
+    ascii_input = h.ascii_input;
   },
   sym (append-nil out),
 )
 
 -- A plain store with an empty queue is in the state of its input store.
-pub settled : (n : StoreAndWaiting) (W : World) → n.waiting ≡ [] → IsPlainStore W n.store → IsAsciiWorld W
-    → Holds n (record { waiting = []; world = W })
+pub settled : (n : StoreAndWaiting) (W : InputStore) → n.waiting ≡ [] → IsPlainStore W n.store → IsAsciiInput W
+    → Holds n (record { waiting = []; input_store = W })
 settled n W none plain ascii = record {
-  waiting = ap (map given_of) none;
-  bare = subst AreBare (sym none) tt;
+  waiting = ap (map input_of) none;
+  bare = subst HaveNoIndirect (sym none) tt;
   plain = plain;
   ascii_waiting = tt;
-  ascii_world = ascii;
+  ascii_input = ascii;
 }
 
 -- The command `add`.
 pub add_takes : (m n : StoreAndWaiting) (s : EntityState) (list : List EntityView) (store : StoreView)
     (r : Result StoreView EntitiesError) (old new : List ℕ) → Holds m s → list ≡ m.waiting → store ≡ m.store
     → n.waiting ≡ []
-    → ((W : World) → IsPlainStore W store → AreBare list → AddsPlain ComputeNow W (map given_of list) r)
+    → ((W : InputStore) → IsPlainStore W store → HaveNoIndirect list → AddsPlain ComputeNow W (map input_of list) r)
     → KeepsAndTells r n old new → EntityWrites Add s n old new
 add_takes m n s list store (Ok S) old new h same at none adds tells =
-    let L : map given_of list ≡ s.waiting = ap (map given_of) same ∙ h.waiting in
-    let bare = subst AreBare (sym same) h.bare in
-    let before = subst (IsPlainStore s.world) (sym at) h.plain in
-    let given = subst (λ l. AddsPlain ComputeNow s.world l (Ok S)) L (adds s.world before bare) in
-    let plain : IsPlainStore (added s.world s.waiting) S = given.ok in
-    let k = tells (added s.world s.waiting) plain in (
-      record { waiting = []; world = added s.world s.waiting },
-      count_line (added s.world s.waiting),
-      (refl, inr (inr ((given.agree, (λ c. plain.acyclic c.0 c.1)), refl, refl))),
-      settled n (added s.world s.waiting) none k.0 (added_ascii s.world s.waiting h.ascii_world h.ascii_waiting),
+    let L : map input_of list ≡ s.waiting = ap (map input_of) same ∙ h.waiting in
+    let bare = subst HaveNoIndirect (sym same) h.bare in
+    let before = subst (IsPlainStore s.input_store) (sym at) h.plain in
+    let input_entity = subst (λ l. AddsPlain ComputeNow s.input_store l (Ok S)) L (adds s.input_store before bare) in
+    let plain : IsPlainStore (added s.input_store s.waiting) S = input_entity.ok in
+    let k = tells (added s.input_store s.waiting) plain in (
+      record { waiting = []; input_store = added s.input_store s.waiting },
+      count_line (added s.input_store s.waiting),
+      (refl, inr (inr ((input_entity.agree, (λ c. plain.acyclic c.0 c.1)), refl, refl))),
+      settled n (added s.input_store s.waiting) none k.0 (added_ascii s.input_store s.waiting h.ascii_input h.ascii_waiting),
       k.1,
     )
 add_takes m n s list store (Err e) old new h same at none adds tells =
-    let L : map given_of list ≡ s.waiting = ap (map given_of) same ∙ h.waiting in
-    let bare = subst AreBare (sym same) h.bare in
-    let before = subst (IsPlainStore s.world) (sym at) h.plain in
-    let given = subst (λ l. AddsPlain ComputeNow s.world l (Err e)) L (adds s.world before bare) in
-    let r = refused_adds s.world s.waiting e old new h.ascii_waiting given.err tells.1 in (
-      record { waiting = []; world = empty_world },
+    let L : map input_of list ≡ s.waiting = ap (map input_of) same ∙ h.waiting in
+    let bare = subst HaveNoIndirect (sym same) h.bare in
+    let before = subst (IsPlainStore s.input_store) (sym at) h.plain in
+    let input_entity = subst (λ l. AddsPlain ComputeNow s.input_store l (Err e)) L (adds s.input_store before bare) in
+    let r = refused_adds s.input_store s.waiting e old new h.ascii_waiting input_entity.err tells.1 in (
+      record { waiting = []; input_store = empty_input },
       r.0,
       (refl, r.1),
-      settled n empty_world none tells.0 empty_ascii,
+      settled n empty_input none tells.0 empty_ascii,
       r.2,
     )
 
 -- The command `build`: adding to an empty store.
 pub build_takes : (m n : StoreAndWaiting) (s : EntityState) (old new : List ℕ) → Holds m s → n.waiting ≡ m.waiting
-    → IsPlainStore empty_world n.store
+    → IsPlainStore empty_input n.store
     → (o : StoreAndWaiting) → ((t : EntityState) → Holds n t → EntityWrites Add t o old new)
     → EntityWrites Build s o old new
 build_takes m n s old new h same plain o takes =
-    takes (record { waiting = s.waiting; world = empty_world })
+    takes (record { waiting = s.waiting; input_store = empty_input })
     (record {
-      waiting = ap (map given_of) same ∙ h.waiting;
-      bare = subst AreBare (sym same) h.bare;
+      waiting = ap (map input_of) same ∙ h.waiting;
+      bare = subst HaveNoIndirect (sym same) h.bare;
       plain = plain;
       ascii_waiting = h.ascii_waiting;
-      ascii_world = empty_ascii;
+      ascii_input = empty_ascii;
     })
 
 -- The command `upsert`.
 pub upsert_takes : (m n : StoreAndWaiting) (s : EntityState) (list : List EntityView) (store : StoreView)
     (r : Result StoreView EntitiesError) (old new : List ℕ) → Holds m s → list ≡ m.waiting → store ≡ m.store
     → n.waiting ≡ []
-    → ((W : World) → IsPlainStore W store → AreBare list → UpsertsPlain ComputeNow W (map given_of list) r)
+    → ((W : InputStore) → IsPlainStore W store → HaveNoIndirect list → UpsertsPlain ComputeNow W (map input_of list) r)
     → KeepsAndTells r n old new → EntityWrites Upsert s n old new
 upsert_takes m n s list store (Ok S) old new h same at none upserts tells =
-    let L : map given_of list ≡ s.waiting = ap (map given_of) same ∙ h.waiting in
-    let bare = subst AreBare (sym same) h.bare in
-    let before = subst (IsPlainStore s.world) (sym at) h.plain in
-    let given = subst (λ l. UpsertsPlain ComputeNow s.world l (Ok S)) L (upserts s.world before bare) in
-    let plain : IsPlainStore (overwritten s.world s.waiting) S = given.ok in
-    let k = tells (overwritten s.world s.waiting) plain in (
-      record { waiting = []; world = overwritten s.world s.waiting },
-      count_line (overwritten s.world s.waiting),
+    let L : map input_of list ≡ s.waiting = ap (map input_of) same ∙ h.waiting in
+    let bare = subst HaveNoIndirect (sym same) h.bare in
+    let before = subst (IsPlainStore s.input_store) (sym at) h.plain in
+    let input_entity = subst (λ l. UpsertsPlain ComputeNow s.input_store l (Ok S)) L (upserts s.input_store before bare) in
+    let plain : IsPlainStore (overwritten s.input_store s.waiting) S = input_entity.ok in
+    let k = tells (overwritten s.input_store s.waiting) plain in (
+      record { waiting = []; input_store = overwritten s.input_store s.waiting },
+      count_line (overwritten s.input_store s.waiting),
       (refl, inr ((λ c. plain.acyclic c.0 c.1), refl, refl)),
-      settled n (overwritten s.world s.waiting) none k.0
-          (overwritten_ascii s.world s.waiting h.ascii_world h.ascii_waiting),
+      settled n (overwritten s.input_store s.waiting) none k.0
+          (overwritten_ascii s.input_store s.waiting h.ascii_input h.ascii_waiting),
       k.1,
     )
 upsert_takes m n s list store (Err e) old new h same at none upserts tells =
-    let L : map given_of list ≡ s.waiting = ap (map given_of) same ∙ h.waiting in
-    let bare = subst AreBare (sym same) h.bare in
-    let before = subst (IsPlainStore s.world) (sym at) h.plain in
-    let given = subst (λ l. UpsertsPlain ComputeNow s.world l (Err e)) L (upserts s.world before bare) in
-    let r = refused_overwrites s.world s.waiting e old new given.err tells.1 in (
-      record { waiting = []; world = empty_world },
+    let L : map input_of list ≡ s.waiting = ap (map input_of) same ∙ h.waiting in
+    let bare = subst HaveNoIndirect (sym same) h.bare in
+    let before = subst (IsPlainStore s.input_store) (sym at) h.plain in
+    let input_entity = subst (λ l. UpsertsPlain ComputeNow s.input_store l (Err e)) L (upserts s.input_store before bare) in
+    let r = refused_overwrites s.input_store s.waiting e old new input_entity.err tells.1 in (
+      record { waiting = []; input_store = empty_input },
       r.0,
       (refl, r.1),
-      settled n empty_world none tells.0 empty_ascii,
+      settled n empty_input none tells.0 empty_ascii,
       r.2,
     )
 
 -- The command `remove`.
 pub remove_takes : (m n : StoreAndWaiting) (s : EntityState) (us : List EntityUID) (store : StoreView)
     (r : Result StoreView EntitiesError) (old new : List ℕ) → Holds m s → store ≡ m.store → n.waiting ≡ m.waiting
-    → ((W : World) → IsPlainStore W store → RemovesPlain W us r)
+    → ((W : InputStore) → IsPlainStore W store → RemovesPlain W us r)
     → KeepsAndTells r n old new → EntityWrites (Remove us) s n old new
 remove_takes m n s us store (Ok S) old new h at same removes tells =
-    let k = tells (deleted s.world us) (removes s.world (subst (IsPlainStore s.world) (sym at) h.plain)).ok in (
-      record { waiting = s.waiting; world = deleted s.world us },
-      count_line (deleted s.world us),
+    let k = tells (deleted s.input_store us) (removes s.input_store (subst (IsPlainStore s.input_store) (sym at) h.plain)).ok in (
+      record { waiting = s.waiting; input_store = deleted s.input_store us },
+      count_line (deleted s.input_store us),
       (refl, (refl, refl)),
       record {
-        waiting = ap (map given_of) same ∙ h.waiting;
-        bare = subst AreBare (sym same) h.bare;
+        waiting = ap (map input_of) same ∙ h.waiting;
+        bare = subst HaveNoIndirect (sym same) h.bare;
         plain = k.0;
         ascii_waiting = h.ascii_waiting;
-        ascii_world = deleted_ascii s.world us h.ascii_world;
+        ascii_input = deleted_ascii s.input_store us h.ascii_input;
       },
       k.1,
     )
 remove_takes m n s us store (Err e) old new h at same removes tells =
-    let given = removes s.world (subst (IsPlainStore s.world) (sym at) h.plain) in
-    absurd (subst (λ x. Refused x old new) given.err tells.1)
+    let input_entity = removes s.input_store (subst (IsPlainStore s.input_store) (sym at) h.plain) in
+    absurd (subst (λ x. Refused x old new) input_entity.err tells.1)
 
 -- The command `slice`.
 pub slice_takes : (m n : StoreAndWaiting) (s : EntityState) (us : List EntityUID) (r : Result StoreView EntitiesError)
     (old new : List ℕ) → Holds m s → n.waiting ≡ m.waiting
-    → IfOk r (λ S. (W : World) → IsPlainStore W m.store → IsPlainSlice W us S)
+    → IfOk r (λ S. (W : InputStore) → IsPlainStore W m.store → IsPlainSlice W us S)
     → IfErr r (λ e. e ≡ errors.Memory)
     → KeepsAndTells r n old new → EntityWrites (Slice us) s n old new
 slice_takes m n s us (Ok S) old new h same ok err tells =
-    let p = ok s.world h.plain in
-    let k = tells p.world p.is_plain in (
-      record { waiting = s.waiting; world = p.world },
-      count_line p.world,
+    let p = ok s.input_store h.plain in
+    let k = tells p.input_store p.is_plain in (
+      record { waiting = s.waiting; input_store = p.input_store },
+      count_line p.input_store,
       (refl, (p.is_slice, refl)),
       record {
-        waiting = ap (map given_of) same ∙ h.waiting;
-        bare = subst AreBare (sym same) h.bare;
+        waiting = ap (map input_of) same ∙ h.waiting;
+        bare = subst HaveNoIndirect (sym same) h.bare;
         plain = k.0;
         ascii_waiting = h.ascii_waiting;
-        ascii_world = λ a b e. h.ascii_world a b (slice_edges s.world us p.world p.is_slice a b e);
+        ascii_input = λ a b e. h.ascii_input a b (slice_edges s.input_store us p.input_store p.is_slice a b e);
       },
       k.1,
     )
@@ -391,7 +391,7 @@ slice_takes m n s us (Err e) old new h same ok err tells = absurd (subst (λ x. 
 
 -- The command `anc`.
 pub anc_takes : (m : StoreAndWaiting) (s : EntityState) (u : EntityUID) (old new : List ℕ) → Holds m s
-    → (text : List ℕ) × ShowsAncestors s.world u text × (new ≡ old ++ text) → EntityWrites (Anc u) s m old new
+    → (text : List ℕ) × WritesAncestors s.input_store u text × (new ≡ old ++ text) → EntityWrites (Anc u) s m old new
 anc_takes m s u old new h k = (s, k.0, (refl, k.1), h, k.2)
 
 -- The step of one written field.

@@ -6,11 +6,11 @@ use Rattle.cedar_ids.specs.Escape.{is_ascii}
 use Rattle.cedar_ids.specs.UidOf.{uid_parts}
 use Rattle.cedar_ids.specs.declared.entity.EntityUID.{EntityUID}
 use Rattle.cedar_entity.specs.View.{EntityView}
-use Rattle.cedar_entity_maps.specs.Plain.{StoreView, IsPlainStore, AreBare, given_of}
-use Rattle.cedar_entity_maps.specs.World.{Given, World, graph}
+use Rattle.cedar_entity_maps.specs.Plain.{StoreView, IsPlainStore, HaveNoIndirect, input_of}
+use Rattle.cedar_entity_maps.specs.InputStore.{InputEntity, InputStore, graph}
 use Rattle.cedar_entity_lines.specs.EntityCommand.{EntityCommand, Ent, Build, Add, Upsert, Remove, Slice, Anc}
 use Rattle.cedar_entity_lines.specs.EntityCommand.{IsEntityCommand}
-use Rattle.cedar_entity_lines.specs.EntityOutput.{EntityState, EntityGives}
+use Rattle.cedar_entity_lines.specs.EntityOutput.{EntityState, RunsEntityCommand}
 
 -- The queued entities, and the store.
 pub record StoreAndWaiting : Type 0 where
@@ -22,25 +22,25 @@ abbrev pub IsAsciiUid : EntityUID → Type 0
 IsAsciiUid u = IsTrue (is_ascii (uid_parts u).eid)
 
 -- Whether the eids of an entity and of its parents are ASCII.
-abbrev pub IsAsciiGiven : Given → Type 0
-IsAsciiGiven g = IsAsciiUid g.uid × ((q : EntityUID) → set.contains g.parts.parents q ≡ true → IsAsciiUid q)
+abbrev pub IsAsciiInputEntity : InputEntity → Type 0
+IsAsciiInputEntity g = IsAsciiUid g.uid × ((q : EntityUID) → set.contains g.parts.parents q ≡ true → IsAsciiUid q)
 
 -- Whether the eids of all parents in an input store are ASCII.
-abbrev pub IsAsciiWorld : World → Type 0
-IsAsciiWorld W = (a b : EntityUID) → graph W a b ≡ true → IsAsciiUid b
+abbrev pub IsAsciiInput : InputStore → Type 0
+IsAsciiInput W = (a b : EntityUID) → graph W a b ≡ true → IsAsciiUid b
 
 -- Whether a store with its queue is in the state `s`:
 --
 -- - `waiting`: the queue has the entities of the state.
 -- - `bare`: the queued entities have no indirect ancestors.
 -- - `plain`: the store is a plain store with this input store (see `Plain.antt` of `cedar_entity_maps`).
--- - `ascii_waiting`, `ascii_world`: all uids that can be written have ASCII eids.
+-- - `ascii_waiting`, `ascii_input`: all uids that can be written have ASCII eids.
 pub record Holds (m : StoreAndWaiting) (s : EntityState) : Type 0 where
-  pub waiting : map given_of m.waiting ≡ s.waiting
-  pub bare : AreBare m.waiting
-  pub plain : IsPlainStore s.world m.store
-  pub ascii_waiting : AllByRecursion IsAsciiGiven s.waiting
-  pub ascii_world : IsAsciiWorld s.world
+  pub waiting : map input_of m.waiting ≡ s.waiting
+  pub bare : HaveNoIndirect m.waiting
+  pub plain : IsPlainStore s.input_store m.store
+  pub ascii_waiting : AllByRecursion IsAsciiInputEntity s.waiting
+  pub ascii_input : IsAsciiInput s.input_store
 
 -- Whether the eids of all uids are ASCII.
 abbrev pub AreAsciiUids : List EntityUID → Type 0
@@ -58,12 +58,12 @@ HasAsciiUids (Anc u) = Unit {0}
 
 -- Whether a command in the state `s` leads to the next state, in which the store `m` is, and appends its output.
 abbrev pub EntityWrites : EntityCommand → EntityState → StoreAndWaiting → List ℕ → List ℕ → Type 0
-EntityWrites c s m old new = (t : EntityState) × (out : List ℕ) × EntityGives c s t out × Holds m t × (new ≡ old ++ out)
+EntityWrites c s m old new = (t : EntityState) × (out : List ℕ) × RunsEntityCommand c s t out × Holds m t × (new ≡ old ++ out)
 
 -- Whether fields are run correctly as `ent`, given the returned truth value. If they are the fields of an entity, the
 -- store is in the next state, and nothing is written. Any other fields change nothing.
-abbrev pub TakesEntity : Bool → List (List ℕ) → StoreAndWaiting → StoreAndWaiting → Type 0
-TakesEntity true fs old new =
+abbrev pub RunsEntityFields : Bool → List (List ℕ) → StoreAndWaiting → StoreAndWaiting → Type 0
+RunsEntityFields true fs old new =
     (u : EntityUID) × (ps : List EntityUID) × IsEntityCommand (Ent u ps) fs
     × ((s : EntityState) → Holds old s → (out : List ℕ) → EntityWrites (Ent u ps) s new out out)
-TakesEntity false fs old new = ((u : EntityUID) (ps : List EntityUID) → IsEntityCommand (Ent u ps) fs → ⊥) × (new ≡ old)
+RunsEntityFields false fs old new = ((u : EntityUID) (ps : List EntityUID) → IsEntityCommand (Ent u ps) fs → ⊥) × (new ≡ old)

@@ -6,9 +6,9 @@
 #![tactic(auto, using(cedar_ids::specs::laws::UidOfLaws::same_uid_decides))]
 
 mod command;
-mod given;
 mod machine;
 mod parent_fields;
+mod parse_entity;
 
 pub use command::{EntityCommand, read_entity_command};
 pub use machine::LineStore;

@@ -4,15 +4,15 @@ ghost use Rattle.std.specs.List.{flat_map};
 ghost use Rattle.std.specs.Fmt.{decimal};
 ghost use Rattle.cedar_lines.specs.Lines.{written_line};
 ghost use Rattle.cedar_entity_lines.specs.EntityCommand.{Ent, Build, Add, Upsert, Remove, Slice};
-ghost use Rattle.cedar_entity_lines.specs.EntityOutput.{EntityState, no_entity, ShowsAncestors, uid_text, field_of};
+ghost use Rattle.cedar_entity_lines.specs.EntityOutput.{EntityState, no_entity, WritesAncestors, uid_text, field_of};
 ghost use Rattle.cedar_entity_lines.specs.CommandOf.{entity_command_of};
-ghost use Rattle.cedar_entity_lines.specs.Holding.{Holds, EntityWrites, TakesEntity, IsAsciiUid, AreAsciiUids};
+ghost use Rattle.cedar_entity_lines.specs.Holding.{Holds, EntityWrites, RunsEntityFields, IsAsciiUid, AreAsciiUids};
 ghost use Rattle.cedar_entity_lines.specs.Holding.{HasAsciiUids};
 ghost use Rattle.cedar_entity_lines.specs.laws.Machines.{IsTold, Refused, KeepsAndTells};
 
 use crate::command::EntityCommand;
-use crate::given::{entity_of_fields, shared_entity};
 use crate::parent_fields::KnownUids;
+use crate::parse_entity::{entity_of_fields, shared_entity};
 use cedar_entities::{Entities, EntitiesError, Entity, TCComputation};
 use cedar_graph::TcError;
 use cedar_ids::entity::EntityUID;
@@ -160,7 +160,7 @@ impl<S: BuildHasher + Copy> LineStore<S> {
 
     // Stores the result of a call and writes the number of its entities. After an error the store is empty, and the
     // error is written.
-    fn keep_and_tell(
+    fn store_and_report(
         &mut self,
         alloc: Global,
         given: Result<Entities<S>, EntitiesError>,
@@ -193,7 +193,7 @@ impl<S: BuildHasher + Copy> LineStore<S> {
         let hasher = *self.store.hasher();
         let store = mem::replace(&mut self.store, Entities::with_hasher(alloc, hasher));
         let given = store.add_entities(alloc, list, TCComputation::ComputeNow);
-        self.keep_and_tell(alloc, given, out)
+        self.store_and_report(alloc, given, out)
     }
 
     // Runs `build`: replaces the store by a store of the queued entities.
@@ -214,7 +214,7 @@ impl<S: BuildHasher + Copy> LineStore<S> {
         let hasher = *self.store.hasher();
         let store = mem::replace(&mut self.store, Entities::with_hasher(alloc, hasher));
         let given = store.upsert_entities(alloc, list, TCComputation::ComputeNow);
-        self.keep_and_tell(alloc, given, out)
+        self.store_and_report(alloc, given, out)
     }
 
     // Runs `remove`: removes the entities with these uids.
@@ -230,7 +230,7 @@ impl<S: BuildHasher + Copy> LineStore<S> {
         let hasher = *self.store.hasher();
         let store = mem::replace(&mut self.store, Entities::with_hasher(alloc, hasher));
         let given = store.remove_entities(alloc, uids, TCComputation::ComputeNow);
-        self.keep_and_tell(alloc, given, out)
+        self.store_and_report(alloc, given, out)
     }
 
     // Runs `slice`: replaces the store by its slice at these uids.
@@ -244,13 +244,13 @@ impl<S: BuildHasher + Copy> LineStore<S> {
             EntityWrites (Slice uids.items) s self.new out.old.items out.new.items) }
     {
         let given = slice(alloc, &self.store, &uids);
-        self.keep_and_tell(alloc, given, out)
+        self.store_and_report(alloc, given, out)
     }
 
     // Runs `anc`: writes the ancestors of an entity.
     fn anc(&self, alloc: Global, uid: &EntityUID, out: &mut Vec<u8>) -> Result<(), AllocError>
         ensures { OnOk result ((s : EntityState) → Holds self.now s →
-            (text : List ℕ) × ShowsAncestors s.world uid.now text × (out.new.items ≡ out.old.items ++ text)) }
+            (text : List ℕ) × WritesAncestors s.input_store uid.now text × (out.new.items ≡ out.old.items ++ text)) }
     {
         match self.store.stored(uid) {
             None => push_line(out, "no entity"),
@@ -270,13 +270,13 @@ impl<S: BuildHasher + Copy> LineStore<S> {
     /// # Differences from cedar-policy-core
     ///
     /// The original has no such function.
-    pub fn take_ent(
+    pub fn apply_ent(
         &mut self,
         alloc: Global,
         known: &mut KnownUids,
         fields: &[&str],
     ) -> Result<bool, AllocError>
-        ensures { IfOk result (λ taken. TakesEntity taken (map (λ f. f.now) fields.now) self.old self.new) }
+        ensures { IfOk result (λ taken. RunsEntityFields taken (map (λ f. f.now) fields.now) self.old self.new) }
     {
         let Some((word, rest)) = fields.split_first() else {
             return Ok(false);

@@ -14,21 +14,21 @@ use Rattle.cedar_ids.specs.declared.entity.EntityUID.{EntityUID}
 use Rattle.cedar_entity.specs.declared.node.SharedEntity.{SharedEntity}
 use Rattle.std.specs.Result.{IsErrAnd}
 use Rattle.cedar_entity.specs.declared.err.EntitiesError.{EntitiesError}
-use Rattle.cedar_entity.specs.ClosureRefusals.{refusal_of, Tells}
+use Rattle.cedar_entity.specs.ClosureErrors.{refusal_of, ReportsClosureError}
 use Rattle.cedar_entity_maps.specs.ClosureFaults.{IsClosureFault}
-use Rattle.cedar_entity_maps.specs.Refusals.{MatchRefusal, NamesOneOf}
-use Rattle.cedar_entity_maps.specs.laws.Held.{held, held_map, shared}
-use Rattle.cedar_entity_maps.specs.Modes.{ancestry, is_ancestor_in, IsSound, TellsCycle, TellsUnsound}
-use Rattle.cedar_entity_maps.specs.laws.Refusals.{refusal_cases}
-use Rattle.cedar_entity_maps.specs.Touching.{IsRepairOf, IsAcyclicAt}
-use Rattle.cedar_entity.specs.View.{has_ancestor, Kept, kept}
+use Rattle.cedar_entity_maps.specs.EditErrors.{MatchError, NamesOneOf}
+use Rattle.cedar_entity_maps.specs.laws.EntityMap.{entity_at, held_map, shared}
+use Rattle.cedar_entity_maps.specs.Modes.{ancestry, is_ancestor_in, IsSound, ReportsCycle, ReportsUnsound}
+use Rattle.cedar_entity_maps.specs.laws.EditErrors.{refusal_cases}
+use Rattle.cedar_entity_maps.specs.Affected.{IsRepairOf, IsAcyclicAt}
+use Rattle.cedar_entity.specs.View.{has_ancestor, UnchangedParts, unchanged_parts}
 use Rattle.cedar_entity_maps.specs.laws.Seen.{get_seen}
 
 abbrev pub node_edges : SharedEntity → EntityUID → Bool
 node_edges n = has_ancestor (shared n)
 
-abbrev pub node_kept : SharedEntity → Kept
-node_kept n = kept (shared n)
+abbrev pub node_kept : SharedEntity → UnchangedParts
+node_kept n = unchanged_parts (shared n)
 
 leads_at : (o : Option SharedEntity) (b : EntityUID) → edge_at node_edges o b ≡ is_ancestor_in (option_map shared o) b
 leads_at None b = refl
@@ -39,7 +39,7 @@ pub same_ancestry : {S : Type 0} (m : HashMap EntityUID SharedEntity S)
     → graph_of same_uid node_edges m ≡ ancestry (held_map m)
 same_ancestry m = λ i a b. (leads_at (get same_uid m a) b ∙ ap (λ o. is_ancestor_in o b) (sym (get_seen m a))) i
 
-kept_at : (o : Option SharedEntity) → option_map kept (option_map shared o) ≡ option_map node_kept o
+kept_at : (o : Option SharedEntity) → option_map unchanged_parts (option_map shared o) ≡ option_map node_kept o
 kept_at None = refl
 kept_at (Some n) = refl
 
@@ -55,8 +55,8 @@ repair_of m n fix keeps alone stays only closed =
     let G = same_ancestry m in
     let H = same_ancestry n in
     record {
-      parts = λ q. ap (option_map kept) (get_seen n q) ∙ kept_at (get same_uid n q) ∙ keeps.rests q
-          ∙ sym (kept_at (get same_uid m q)) ∙ sym (ap (option_map kept) (get_seen m q));
+      parts = λ q. ap (option_map unchanged_parts) (get_seen n q) ∙ kept_at (get same_uid n q) ∙ keeps.rests q
+          ∙ sym (kept_at (get same_uid m q)) ∙ sym (ap (option_map unchanged_parts) (get_seen m q));
       alone = λ q t. get_seen n q ∙ ap (option_map shared) (alone q t) ∙ sym (get_seen m q);
       stays =
           subst (λ F. KeepsEdges F (ancestry (held_map n))) G
@@ -77,14 +77,14 @@ acyclic_of m fix h = subst (λ F. IsTrusted fix F → HasNoCycleAt fix F) (same_
 
 -- An error of the closure, as the call returns it.
 pub told : (P : EntityUID → EntityUID → EntityUID → Type 0) (Q : EntityUID → Type 0) (t : TcError EntityUID)
-    → MatchFault t P Q → MatchRefusal (refusal_of t) (λ _. ⊥) (λ u. IsClosureFault u P Q)
+    → MatchFault t P Q → MatchError (refusal_of t) (λ _. ⊥) (λ u. IsClosureFault u P Q)
 told P Q (tc.MissingTcEdge x) h = h
 told P Q (tc.HasCycle x) h = h
 told P Q tc.Memory h = tt
 
 pub cycle_told : {S : Type 0} (m : HashMap EntityUID SharedEntity S) (asked : Bool) (fix : EntityUID → Bool)
     (t : TcError EntityUID) → NamesCycleAt asked fix (graph_of same_uid node_edges m) t
-    → MatchRefusal (refusal_of t) (λ _. ⊥) (λ u. IsTrue asked × TellsCycle (held_map m) u)
+    → MatchError (refusal_of t) (λ _. ⊥) (λ u. IsTrue asked × ReportsCycle (held_map m) u)
 cycle_told m asked fix (tc.MissingTcEdge x) h = absurd h
 cycle_told m asked fix (tc.HasCycle x) h = (h.0, subst (λ F. Reach F x.vertex x.vertex) (same_ancestry m) h.2)
 cycle_told m asked fix tc.Memory h = tt
@@ -92,7 +92,7 @@ cycle_told m asked fix tc.Memory h = tt
 pub closed_told : {S : Type 0} (m : HashMap EntityUID SharedEntity S) (t : TcError EntityUID)
     → MatchFault t (BreaksClosed (graph_of same_uid node_edges m))
     (λ v. IsClosed (graph_of same_uid node_edges m) × (graph_of same_uid node_edges m v v ≡ true))
-    → MatchRefusal (refusal_of t) (λ _. ⊥) (TellsUnsound (held_map m))
+    → MatchError (refusal_of t) (λ _. ⊥) (ReportsUnsound (held_map m))
 closed_told m t h =
     told (BreaksClosed (ancestry (held_map m)))
     (λ v. IsClosed (ancestry (held_map m)) × (ancestry (held_map m) v v ≡ true)) t
@@ -100,10 +100,10 @@ closed_told m t h =
 
 -- A property of the store's error for a closure error is a property of the converted error.
 pub refused_as : {X : Type 0} (C : TcError EntityUID → Type 0) (r : Result X EntitiesError) (t : TcError EntityUID)
-    → IsErrAnd r (Tells t) → MatchRefusal (refusal_of t) (λ _. ⊥) C → IfErr r (λ e. MatchRefusal e (λ _. ⊥) C)
+    → IsErrAnd r (ReportsClosureError t) → MatchError (refusal_of t) (λ _. ⊥) C → IfErr r (λ e. MatchError e (λ _. ⊥) C)
 refused_as C (Ok x) t h k = tt
-refused_as C (Err e) t (inl h) k = subst (λ f. MatchRefusal f (λ _. ⊥) C) (sym h) k
-refused_as C (Err e) t (inr h) k = subst (λ f. MatchRefusal f (λ _. ⊥) C) (sym h) tt
+refused_as C (Err e) t (inl h) k = subst (λ f. MatchError f (λ _. ⊥) C) (sym h) k
+refused_as C (Err e) t (inr h) k = subst (λ f. MatchError f (λ _. ⊥) C) (sym h) tt
 
 pub closed_seen : {S : Type 0} (m : HashMap EntityUID SharedEntity S)
     → IsClosedWithoutLoop (graph_of same_uid node_edges m) → IsSound (held_map m)
@@ -117,7 +117,7 @@ alone_at None (Some n) b same all out = absurd (false≢true (sym (ap is_some sa
 alone_at (Some m) p b same all out = absurd (false≢true (sym out ∙ all refl))
 
 pub repair_of_whole : {S : Type 0} (m n : HashMap EntityUID SharedEntity S) (fix : EntityUID → Bool)
-    → ((q : EntityUID) → is_some (held m q) ≡ true → fix q ≡ true)
+    → ((q : EntityUID) → is_some (entity_at m q) ≡ true → fix q ≡ true)
     → KeepsNodes same_uid (λ e. (shared e).uid) node_kept m n
     → KeepsEdges (graph_of same_uid node_edges m) (graph_of same_uid node_edges n)
     → AddsOnlyReached (graph_of same_uid node_edges m) (graph_of same_uid node_edges n)
@@ -134,7 +134,7 @@ acyclic_whole m fix h = acyclic_of m fix (λ t a p. h a)
 -- The uid of a cycle error is one of the checked uids.
 pub cycle_named : {S : Type 0} (m : HashMap EntityUID SharedEntity S) (asked : Bool) (fix : EntityUID → Bool)
     (t : TcError EntityUID) → NamesCycleAt asked fix (graph_of same_uid node_edges m) t
-    → MatchRefusal (refusal_of t) (λ _. ⊥) (λ u. IsClosureFault u (λ _ _ _. ⊤) (λ v. fix v ≡ true))
+    → MatchError (refusal_of t) (λ _. ⊥) (λ u. IsClosureFault u (λ _ _ _. ⊤) (λ v. fix v ≡ true))
 cycle_named m asked fix (tc.MissingTcEdge x) h = absurd h
 cycle_named m asked fix (tc.HasCycle x) h = h.1
 cycle_named m asked fix tc.Memory h = tt
@@ -144,18 +144,18 @@ held_there None h = h
 held_there (Some n) h = refl
 
 -- If all entities are affected, a cycle of the whole is a cycle at an affected entity.
-pub touched_named : {S : Type 0} (m : HashMap EntityUID SharedEntity S) (touched : EntityUID → Bool)
-    → ((q : EntityUID) → is_some (held m q) ≡ true → touched q ≡ true) → (asked : Bool) (t : TcError EntityUID)
+pub touched_named : {S : Type 0} (m : HashMap EntityUID SharedEntity S) (affected : EntityUID → Bool)
+    → ((q : EntityUID) → is_some (entity_at m q) ≡ true → affected q ≡ true) → (asked : Bool) (t : TcError EntityUID)
     → NamesCycleAt asked (λ v. is_some (get same_uid m v)) (graph_of same_uid node_edges m) t
-    → NamesCycleAt asked touched (graph_of same_uid node_edges m) t
-touched_named m touched all asked (tc.MissingTcEdge x) h = absurd h
-touched_named m touched all asked (tc.HasCycle x) h =
+    → NamesCycleAt asked affected (graph_of same_uid node_edges m) t
+touched_named m affected all asked (tc.MissingTcEdge x) h = absurd h
+touched_named m affected all asked (tc.HasCycle x) h =
     (h.0, all x.vertex (held_there (get same_uid m x.vertex) h.1), h.2)
-touched_named m touched all asked tc.Memory h = tt
+touched_named m affected all asked tc.Memory h = tt
 
 -- If no duplicate error is possible, the statement holds for duplicates too.
-pub named_for : (touched : EntityUID → Bool) (e : EntitiesError)
-    → MatchRefusal e (λ _. ⊥) (λ u. IsClosureFault u (λ _ _ _. ⊤) (λ v. touched v ≡ true)) → NamesOneOf touched e
-named_for touched e h =
-    refusal_cases (λ _. ⊥) (λ u. IsClosureFault u (λ _ _ _. ⊤) (λ v. touched v ≡ true)) (NamesOneOf touched) (λ u n. tt)
+pub named_for : (affected : EntityUID → Bool) (e : EntitiesError)
+    → MatchError e (λ _. ⊥) (λ u. IsClosureFault u (λ _ _ _. ⊤) (λ v. affected v ≡ true)) → NamesOneOf affected e
+named_for affected e h =
+    refusal_cases (λ _. ⊥) (λ u. IsClosureFault u (λ _ _ _. ⊤) (λ v. affected v ≡ true)) (NamesOneOf affected) (λ u n. tt)
     (λ t k. k) tt e h

@@ -11,12 +11,12 @@ use Rattle.std.specs.FinMap as finmap
 use Rattle.cedar_graph.specs.Graph.{Reach}
 use Rattle.cedar_ids.specs.UidOf.{same_uid}
 use Rattle.cedar_ids.specs.declared.entity.EntityUID.{EntityUID}
-use Rattle.cedar_children.specs.Children.{IsBelow}
+use Rattle.cedar_children.specs.Children.{IsDescendantOrSelf}
 use Rattle.cedar_entity_maps.specs.Modes.{ancestry}
-use Rattle.cedar_entity_maps.specs.Plain.{Held}
-use Rattle.cedar_entity_maps.specs.Touching.{is_touched}
-use Rattle.cedar_entity_maps.specs.World.{World, graph, is_parent_in}
-use Rattle.cedar_entity_maps.specs.laws.Held.{held}
+use Rattle.cedar_entity_maps.specs.Plain.{EntityMap}
+use Rattle.cedar_entity_maps.specs.Affected.{is_affected}
+use Rattle.cedar_entity_maps.specs.InputStore.{InputStore, graph, is_parent_in}
+use Rattle.cedar_entity_maps.specs.laws.EntityMap.{entity_at}
 use Rattle.cedar_entity_maps.specs.laws.Indexes.{IsPlainHeld, parentage, parent_held}
 use Rattle.cedar_entity_maps.specs.laws.PlainAncestors.{ancestry_plain}
 use Rattle.cedar_entity_maps.specs.laws.AnyOf.{any_found, any_member, same_bool}
@@ -46,12 +46,12 @@ forgotten_more true false x = refl
 forgotten_more false k x = refl
 
 -- In a plain store, the descendants of some uids are the entities that an edit of the uids affects.
-pub below_touched : (D : Held) → IsPlainHeld D → (child : EntityUID → EntityUID → Bool)
+pub below_touched : (D : EntityMap) → IsPlainHeld D → (child : EntityUID → EntityUID → Bool)
     → ((p q : EntityUID) → child p q ≡ parentage (finmap.get D) p q)
     → (A : List EntityUID) (seen : EntityUID → Bool)
-    → ((q : EntityUID) → (seen q ≡ true) ↔ IsBelow (λ a b. child b a) A q)
-    → (q : EntityUID) → seen q ≡ is_touched D A q
-below_touched D held child is A seen all q = same_bool (seen q) (is_touched D A q)
+    → ((q : EntityUID) → (seen q ≡ true) ↔ IsDescendantOrSelf (λ a b. child b a) A q)
+    → (q : EntityUID) → seen q ≡ is_affected D A q
+below_touched D entity_at child is A seen all q = same_bool (seen q) (is_affected D A q)
     (λ t. elim ((all q).0 t) [
       | inl m ↦ or_left (is_member same_uid A q) (list_any (ancestry D q) A) m
       | inr r ↦ or_right (is_member same_uid A q) (list_any (ancestry D q) A)
@@ -63,14 +63,14 @@ below_touched D held child is A seen all q = same_bool (seen q) (is_touched D A 
           (all q).1 (inr (f.0, f.1, subst (λ G. Reach G q f.0) (sym same) ((plain q f.0).0 f.2)))
     ])
   where
-    W : World
-    W = held.0
+    W : InputStore
+    W = entity_at.0
 
     plain : (a b : EntityUID) → (ancestry D a b ≡ true) ↔ Reach (graph W) a b
-    plain = ancestry_plain W (record { held = D; partial = W.partial }) held.1
+    plain = ancestry_plain W (record { entities = D; partial = W.partial }) entity_at.1
 
     same : (λ a b. child b a) ≡ graph W
-    same = λ i a b. (is b a ∙ sym (parent_held (finmap.get D a) b) ∙ ap (λ o. is_parent_in o b) (held.1.holds a)) i
+    same = λ i a b. (is b a ∙ sym (parent_held (finmap.get D a) b) ∙ ap (λ o. is_parent_in o b) (entity_at.1.holds a)) i
 
 pub if_ok : {X E : Type 0} (P : X → Type 0) (r : Result X E) → IfOk r P → IfSome (result_ok r) P
 if_ok P (Ok x) h = h

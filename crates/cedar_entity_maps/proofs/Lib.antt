@@ -1,4 +1,4 @@
 pub mod Closures
 pub mod EditEnds
 pub mod Indexes
-pub mod Touched
+pub mod AffectedLists

@@ -2,7 +2,7 @@ pub mod ClosureFaults
 pub mod Edits
 pub mod Modes
 pub mod Plain
-pub mod Refusals
-pub mod Touching
-pub mod World
+pub mod EditErrors
+pub mod Affected
+pub mod InputStore
 pub mod laws

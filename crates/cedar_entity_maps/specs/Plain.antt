@@ -10,19 +10,19 @@ use Rattle.cedar_graph.specs.Graph.{Reach}
 use Rattle.cedar_ids.specs.UidOf.{uid_order}
 use Rattle.cedar_ids.specs.declared.entity.EntityUID.{EntityUID}
 use Rattle.cedar_entity.specs.View.{EntityView, has_ancestor}
-use Rattle.cedar_entity_maps.specs.World.{World, Parts, Given, graph}
+use Rattle.cedar_entity_maps.specs.InputStore.{InputStore, Parts, InputEntity, graph}
 
 -- A map from uids to entities: the entity map of a store.
-abbrev pub Held : Type 0
-Held = finmap.FinMap uid_order EntityView
+abbrev pub EntityMap : Type 0
+EntityMap = finmap.FinMap uid_order EntityView
 
 -- The empty entity map.
-abbrev pub no_entities : Held
+abbrev pub no_entities : EntityMap
 no_entities = finmap.empty
 
 -- A store as contracts describe it: its entity map, and whether it is partial.
 pub record StoreView : Type 0 where
-  pub held : Held
+  pub entities : EntityMap
   pub partial : Bool
 
 -- The entities of a list of shared entities.
@@ -34,23 +34,23 @@ abbrev pub parts_of : EntityView → Parts
 parts_of e = record { attrs = e.attrs; tags = e.tags; parents = e.parents }
 
 -- The entity without its indirect ancestors, as an input entity.
-abbrev pub given_of : EntityView → Given
-given_of e = record { uid = e.uid; parts = parts_of e }
+abbrev pub input_of : EntityView → InputEntity
+input_of e = record { uid = e.uid; parts = parts_of e }
 
 -- Holds if the entity has no indirect ancestors.
-abbrev pub IsBare : EntityView → Type 0
-IsBare e = (q : EntityUID) → set.contains e.indirect q ≡ false
+abbrev pub HasNoIndirect : EntityView → Type 0
+HasNoIndirect e = (q : EntityUID) → set.contains e.indirect q ≡ false
 
 -- Holds if no entity of the list has indirect ancestors.
-abbrev pub AreBare : List EntityView → Type 0
-AreBare L = AllByRecursion IsBare L
+abbrev pub HaveNoIndirect : List EntityView → Type 0
+HaveNoIndirect L = AllByRecursion HasNoIndirect L
 
 -- Holds if no parent is also an indirect ancestor.
-abbrev pub IsApart : EntityView → Type 0
-IsApart e = (x : EntityUID) → set.contains e.parents x ≡ true → set.contains e.indirect x ≡ false
+abbrev pub HasDisjointParents : EntityView → Type 0
+HasDisjointParents e = (x : EntityUID) → set.contains e.parents x ≡ true → set.contains e.indirect x ≡ false
 
 -- Holds if each entity is stored under its own uid.
-abbrev pub IsKeyed : Held → Type 0
+abbrev pub IsKeyed : EntityMap → Type 0
 IsKeyed D = (q : EntityUID) → IfSome (finmap.get D q) (λ e. e.uid ≡ q)
 
 -- Holds if S is the plain store of the input store W: its ancestors are exactly what the parents imply.
@@ -64,13 +64,13 @@ IsKeyed D = (q : EntityUID) → IfSome (finmap.get D q) (λ e. e.uid ≡ q)
 --
 -- For example, let W have the entity `A` with the parent `B`, and the entity `B` with the parent `C`. Then in S the
 -- entity `A` has the parent `B` and the indirect ancestor `C`. It does not matter whether W has an entity `C`.
-pub record IsPlainStore (W : World) (S : StoreView) : Type 0 where
+pub record IsPlainStore (W : InputStore) (S : StoreView) : Type 0 where
   pub partial : S.partial ≡ W.partial
-  pub holds : (q : EntityUID) → option_map parts_of (finmap.get S.held q) ≡ finmap.get W.entities q
-  pub keyed : IsKeyed S.held
-  pub reached : (q : EntityUID) → IfSome (finmap.get S.held q) (λ e. (x : EntityUID) → (has_ancestor e x ≡ true)
+  pub holds : (q : EntityUID) → option_map parts_of (finmap.get S.entities q) ≡ finmap.get W.entities q
+  pub keyed : IsKeyed S.entities
+  pub reached : (q : EntityUID) → IfSome (finmap.get S.entities q) (λ e. (x : EntityUID) → (has_ancestor e x ≡ true)
       ↔ Reach (graph W) q x)
-  pub apart : (q : EntityUID) → IfSome (finmap.get S.held q) IsApart
+  pub apart : (q : EntityUID) → IfSome (finmap.get S.entities q) HasDisjointParents
   pub acyclic : (q : EntityUID) → Reach (graph W) q q → ⊥
 
 -- An entity as an entry of a map.

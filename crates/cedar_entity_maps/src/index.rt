@@ -8,12 +8,12 @@ ghost use Rattle.cedar_ids.specs.UidOf.{same_uid};
 ghost use Rattle.cedar_ids.specs.declared.entity.EntityUID.{EntityUID};
 ghost use Rattle.cedar_children.specs.Children.{is_child};
 ghost use Rattle.cedar_entity.specs.declared.err.EntitiesError.TheVariants.{Memory};
-ghost use Rattle.cedar_entity_maps.specs.Plain.{Held};
-ghost use Rattle.cedar_entity_maps.specs.Touching.{is_touched};
-ghost use Rattle.cedar_entity_maps.specs.laws.Held.{held, held_map};
+ghost use Rattle.cedar_entity_maps.specs.Plain.{EntityMap};
+ghost use Rattle.cedar_entity_maps.specs.Affected.{is_affected};
+ghost use Rattle.cedar_entity_maps.specs.laws.EntityMap.{entity_at, held_map};
 ghost use Rattle.cedar_entity_maps.specs.laws.Indexes.{HasChildren, IsIndexOf, is_parent_at, parentage};
 
-use crate::touching::{note_all, touched_by_any};
+use crate::affected::{affected_by_any, insert_uids};
 use cedar_children::{Children, listed};
 use cedar_entity::err::EntitiesError;
 use cedar_entity::node::SharedEntity;
@@ -82,7 +82,7 @@ fn keys_in_order<S: BuildHasher>(
     alloc: Global,
     entities: &HashMap<SharedUid, SharedEntity, S>,
 ) -> Result<Vec<SharedUid>, AllocError>
-    ensures { IfOk result (λ v. (q : EntityUID) → is_member same_uid v.items q ≡ is_some (held entities.now q)) }
+    ensures { IfOk result (λ v. (q : EntityUID) → is_member same_uid v.items q ≡ is_some (entity_at entities.now q)) }
 {
     let mut keys = Vec::new(alloc);
     for (key, _) in entities {
@@ -100,7 +100,7 @@ fn with_at<S: BuildHasher + Clone>(
     uid: &SharedUid,
 ) -> Result<Children<S>, AllocError>
     ensures { IfOk result (λ c. (p q : EntityUID) → is_child c p q
-        ≡ (is_child children p q || (same_uid uid.now q && is_parent_at (held entities.now q) p))) }
+        ≡ (is_child children p q || (same_uid uid.now q && is_parent_at (entity_at entities.now q) p))) }
 {
     match entities.get(uid) {
         Some(node) => children.with(alloc, uid, &node.0),
@@ -116,7 +116,7 @@ fn with_all<S: BuildHasher + Clone>(
     uids: &[SharedUid],
 ) -> Result<Children<S>, AllocError>
     ensures { IfOk result (λ c. (p q : EntityUID) → is_child c p q
-        ≡ (is_child children p q || (is_member same_uid uids.now q && is_parent_at (held entities.now q) p))) }
+        ≡ (is_child children p q || (is_member same_uid uids.now q && is_parent_at (entity_at entities.now q) p))) }
 {
     let mut all = children;
     for uid in uids {
@@ -130,7 +130,7 @@ fn children_of<S: BuildHasher + Clone>(
     alloc: Global,
     entities: &HashMap<SharedUid, SharedEntity, S>,
 ) -> Result<Children<S>, AllocError>
-    ensures { IfOk result (HasChildren (parentage (held entities.now))) }
+    ensures { IfOk result (HasChildren (parentage (entity_at entities.now))) }
 {
     let keys = keys_in_order(alloc, entities)?;
     let none = Children::with_hasher(alloc, entities.hasher().clone()?);
@@ -166,8 +166,8 @@ fn walk_down<S: BuildHasher + Clone>(
     index: &Index<S>,
     uids: &HashSet<SharedUid, S>,
 ) -> Result<Option<HashSet<SharedUid, S>>, AllocError>
-    ensures { (D : Held) → IsIndexOf index.now D → IfOk result (λ o. IfSome o (λ s.
-        (q : EntityUID) → contains same_uid s q ≡ is_touched D uids.now.keys q)) }
+    ensures { (D : EntityMap) → IsIndexOf index.now D → IfOk result (λ o. IfSome o (λ s.
+        (q : EntityUID) → contains same_uid s q ≡ is_affected D uids.now.keys q)) }
 {
     if !index.plain {
         return Ok(None);
@@ -185,14 +185,14 @@ fn walk_all<S: BuildHasher + Clone>(
     uids: &HashSet<SharedUid, S>,
 ) -> Result<HashSet<SharedUid, S>, EntitiesError>
     ensures ok { IfOk result (λ s. (q : EntityUID) → contains same_uid s q
-        ≡ is_touched (held_map entities.now) uids.now.keys q) }
+        ≡ is_affected (held_map entities.now) uids.now.keys q) }
     ensures err { IfErr result (λ e. e ≡ Memory) }
 {
-    let by = touched_by_any(alloc, entities, uids)?;
-    let mut touched = HashSet::with_hasher(alloc, entities.hasher().clone()?);
-    note_all(&mut touched, listed(alloc, uids)?)?;
-    note_all(&mut touched, by)?;
-    Ok(touched)
+    let by = affected_by_any(alloc, entities, uids)?;
+    let mut affected = HashSet::with_hasher(alloc, entities.hasher().clone()?);
+    insert_uids(&mut affected, listed(alloc, uids)?)?;
+    insert_uids(&mut affected, by)?;
+    Ok(affected)
 }
 
 /// Returns the uids of all entities that an edit of `uids` affects. The index may belong to another map if the edit
@@ -203,15 +203,15 @@ fn walk_all<S: BuildHasher + Clone>(
 /// # Errors
 ///
 /// Returns `Memory` if an allocation fails.
-pub fn touched_by<S: BuildHasher + Clone>(
+pub fn affected_by<S: BuildHasher + Clone>(
     alloc: Global,
     entities: &HashMap<SharedUid, SharedEntity, S>,
     index: &Index<S>,
     uids: &HashSet<SharedUid, S>,
 ) -> Result<HashSet<SharedUid, S>, EntitiesError>
-    ensures ok { (D : Held) → IsIndexOf index.now D
-        → ((q : EntityUID) → is_touched (held_map entities.now) uids.now.keys q ≡ is_touched D uids.now.keys q)
-        → IfOk result (λ s. (q : EntityUID) → contains same_uid s q ≡ is_touched D uids.now.keys q) }
+    ensures ok { (D : EntityMap) → IsIndexOf index.now D
+        → ((q : EntityUID) → is_affected (held_map entities.now) uids.now.keys q ≡ is_affected D uids.now.keys q)
+        → IfOk result (λ s. (q : EntityUID) → contains same_uid s q ≡ is_affected D uids.now.keys q) }
     ensures err { IfErr result (λ e. e ≡ Memory) }
 {
     if let Some(below) = walk_down(alloc, index, uids)? {
@@ -227,7 +227,7 @@ fn leave_at<S: BuildHasher + Clone>(
     uid: &SharedUid,
 )
     ensures { (p q : EntityUID) → is_child children.new p q
-        ≡ (is_child children.old p q && not (same_uid uid.now q && is_parent_at (held entities.now q) p)) }
+        ≡ (is_child children.old p q && not (same_uid uid.now q && is_parent_at (entity_at entities.now q) p)) }
 {
     if let Some(node) = entities.get(uid) {
         children.remove(uid, &node.0);
@@ -241,7 +241,7 @@ fn leave_all<S: BuildHasher + Clone>(
     uids: &[SharedUid],
 )
     ensures { (p q : EntityUID) → is_child children.new p q
-        ≡ (is_child children.old p q && not (is_member same_uid uids.now q && is_parent_at (held entities.now q) p)) }
+        ≡ (is_child children.old p q && not (is_member same_uid uids.now q && is_parent_at (entity_at entities.now q) p)) }
 {
     for uid in uids {
         leave_at(children, entities, uid);
@@ -258,22 +258,22 @@ fn forget_all<S: BuildHasher + Clone>(children: &mut Children<S>, uids: &[Shared
     }
 }
 
-/// Removes the entities at `uids` from the listed children, and removes the uids in `gone` as parents. Call it before
+/// Removes the entities at `uids` from the listed children, and removes the uids in `removed` as parents. Call it before
 /// the entities are changed. Does not allocate.
 pub fn part<S: BuildHasher + Clone>(
     index: &mut Index<S>,
     entities: &HashMap<SharedUid, SharedEntity, S>,
     uids: &[SharedUid],
-    gone: &[SharedUid],
+    removed: &[SharedUid],
 )
     ensures plain { index.new.plain ≡ index.old.plain }
-    ensures children { IfSome index.old.children (HasChildren (parentage (held entities.now)))
-        → IfSome index.new.children (HasChildren (λ p q. not (is_member same_uid gone.now p)
-        && (not (is_member same_uid uids.now q) && is_parent_at (held entities.now q) p))) }
+    ensures children { IfSome index.old.children (HasChildren (parentage (entity_at entities.now)))
+        → IfSome index.new.children (HasChildren (λ p q. not (is_member same_uid removed.now p)
+        && (not (is_member same_uid uids.now q) && is_parent_at (entity_at entities.now q) p))) }
 {
     if let Some(children) = &mut index.children {
         leave_all(children, entities, uids);
-        forget_all(children, gone);
+        forget_all(children, removed);
     }
 }
 
@@ -288,7 +288,7 @@ pub fn join<S: BuildHasher + Clone>(
     ensures plain { index.new.plain ≡ index.old.plain }
     ensures children { (f : EntityUID → EntityUID → Bool) → IfSome index.old.children (HasChildren f)
         → IfSome index.new.children (HasChildren (λ p q. f p q
-        || (is_member same_uid uids.now q && is_parent_at (held entities.now q) p))) }
+        || (is_member same_uid uids.now q && is_parent_at (entity_at entities.now q) p))) }
 {
     if let Some(children) = index.children.take() {
         index.children = with_all(alloc, children, entities, uids).ok();

@@ -5,10 +5,10 @@
 //! entity map. Proved: the effect of each step. The calls of the store are in `cedar_entities`.
 #![tactic(auto, using(cedar_ids::specs::laws::UidOfLaws::same_uid_decides))]
 
+pub mod affected;
+pub mod finalize;
 pub mod index;
 pub mod modes;
-pub mod settling;
-mod sought;
-pub mod touching;
+mod uid_lookup;
 
 pub use modes::TCComputation;

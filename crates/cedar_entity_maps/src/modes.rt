@@ -1,6 +1,6 @@
 //! The modes of edits, and their edit rules.
 ghost use Rattle.std.specs.Prelude.{◌≡◌};
-ghost use Rattle.cedar_entity_maps.specs.Modes.{computes, mending, row_of};
+ghost use Rattle.cedar_entity_maps.specs.Modes.{computes, with_repair, rules_of};
 
 /// The mode of a call: how it ensures that ancestors are complete.
 ///
@@ -21,7 +21,7 @@ pub enum TCComputation {
 
 /// The edit rules of a mode. A removal repairs the affected entities in every mode.
 #[derive(Clone, Copy, Debug, Drop)]
-pub struct Row {
+pub struct EditRules {
     /// Whether added entities, and the entities that have one of them as an ancestor, are repaired.
     pub repairs: bool,
     /// Whether a repair reports a cycle, before it writes an ancestor.
@@ -31,21 +31,21 @@ pub struct Row {
 }
 
 /// Returns the edit rules of a mode. Does not allocate.
-pub fn row_of(tc_computation: TCComputation) -> Row
-    ensures { result ≡ row_of tc_computation }
+pub fn rules_of(tc_computation: TCComputation) -> EditRules
+    ensures { result ≡ rules_of tc_computation }
 {
     match tc_computation {
-        TCComputation::AssumeAlreadyComputed => Row {
+        TCComputation::AssumeAlreadyComputed => EditRules {
             repairs: false,
             refuses_cycles: false,
             checks: false,
         },
-        TCComputation::EnforceAlreadyComputed => Row {
+        TCComputation::EnforceAlreadyComputed => EditRules {
             repairs: false,
             refuses_cycles: false,
             checks: true,
         },
-        TCComputation::ComputeNow => Row {
+        TCComputation::ComputeNow => EditRules {
             repairs: true,
             refuses_cycles: true,
             checks: false,
@@ -54,10 +54,10 @@ pub fn row_of(tc_computation: TCComputation) -> Row
 }
 
 /// Returns the edit rules with repair on. A removal uses them. Does not allocate.
-pub fn mending(row: Row) -> Row
-    ensures { result ≡ mending row }
+pub fn with_repair(row: EditRules) -> EditRules
+    ensures { result ≡ with_repair row }
 {
-    Row {
+    EditRules {
         repairs: true,
         refuses_cycles: row.refuses_cycles,
         checks: row.checks,
@@ -66,7 +66,7 @@ pub fn mending(row: Row) -> Row
 
 /// Returns whether the edit rules compute the closure of added entities: they repair, report a cycle, and check nothing
 /// else. Does not allocate.
-pub fn row_computes(row: Row) -> bool
+pub fn rules_compute(row: EditRules) -> bool
     ensures { result ≡ computes row }
 {
     row.repairs && row.refuses_cycles && !row.checks
@@ -74,7 +74,7 @@ pub fn row_computes(row: Row) -> bool
 
 /// Returns whether a mode computes the closure of added entities. Does not allocate.
 pub fn computes(tc_computation: TCComputation) -> bool
-    ensures { result ≡ computes (row_of tc_computation) }
+    ensures { result ≡ computes (rules_of tc_computation) }
 {
-    row_computes(row_of(tc_computation))
+    rules_compute(rules_of(tc_computation))
 }

@@ -4,7 +4,7 @@ use Rattle.std.specs.HashMap.{HashMap}
 use Rattle.std.specs.List.{IsDistinct}
 use Rattle.std.proofs.Common.{◌≡◌, Bool, true, ℕ, ◌<◌, inl, inr, List, sym, subst}
 use Rattle.std.proofs.Common.{◌∙◌, [], ◌∷◌, refl}
-use Rattle.cedar_components.specs.Reach.{Goes, Leads}
+use Rattle.cedar_components.specs.Reach.{HasPath, Leads}
 use Rattle.cedar_graph.specs.Graph.{graph_of, IsClosed}
 use Rattle.cedar_graph.specs.Faults.{BreaksClosed}
 use Rattle.cedar_graph.specs.laws.Arcs.{AreSameEdges, HasNumberBelow, IsKeyAt}
@@ -13,7 +13,7 @@ use Rattle.cedar_graph.proofs.Keyed.{number_same}
 use Rattle.cedar_graph.proofs.Reaches.{both, graph_to}
 
 -- Two arcs form a path.
-pub goes_two : (E : ℕ → ℕ → Type 0) (a b c : ℕ) → E a b → E b c → Goes E a c
+pub goes_two : (E : ℕ → ℕ → Type 0) (a b c : ℕ) → E a b → E b c → HasPath E a c
 unfolding Leads
 goes_two E a b c p q = (b, p, (c ∷ [], (q, refl)))
 

@@ -6,7 +6,7 @@ use Rattle.std.specs.Set.{is_member}
 use Rattle.std.proofs.lemmas.Bool.{false≢true}
 use Rattle.std.proofs.Common.{◌≡◌, Bool, true, false, ℕ, List, [], ◌∷◌, Result, Ok, Err, refl, subst, sym}
 use Rattle.std.proofs.Common.{◌∙◌, ◌&&◌, ap}
-use Rattle.cedar_components.specs.Reach.{Walk, Leads, Goes}
+use Rattle.cedar_components.specs.Reach.{Walk, Leads, HasPath}
 use Rattle.cedar_graph.specs.Calls.{ClosesDag, OnlyAdds, RepairsDag}
 use Rattle.cedar_graph.specs.Faults.{MatchFault}
 use Rattle.cedar_graph.specs.Graph.{graph_of, HasNoCycleAt, HasNoLoop, IsTrusted, Reach}
@@ -27,7 +27,7 @@ module _ (E : ℕ → ℕ → Type 0) where
   last_arc a z b (u ∷ us) e w = last_arc z u b us w.0 w.1
 
   -- An arc leads to a number that reaches itself.
-  pub arc_back : (n : ℕ) → Goes E n n → (w : ℕ) × E w n
+  pub arc_back : (n : ℕ) → HasPath E n n → (w : ℕ) × E w n
   unfolding Leads
   arc_back n g = last_arc n g.0 n g.2.0 g.1 g.2.1
 
@@ -136,7 +136,7 @@ module _ {K V S : Type 0} {eq : K → K → Bool} (laws : IsEquivalence eq) (edg
           let r = row_complete eq H keys E same n.0 n.1 a n.3 (reach_alike eq H keys E same a n.1 a n.4 q) in
           let is : r.0 ≡ n.0 = number_same laws keys unique r.0 n.0 r.1 n.1 r.3 n.3
           (laws.congr r.1 a n.1 (laws.symm r.1 a ∙ r.4) ∙ n.4) in
-          let goes : Goes E n.0 n.0 = subst (λ v. Goes E n.0 v) is r.2 in
+          let goes : HasPath E n.0 n.0 = subst (λ v. HasPath E n.0 v) is r.2 in
           let w = arc_back E n.0 goes in
           none w.0 n.0 n.2 w.1 goes
 

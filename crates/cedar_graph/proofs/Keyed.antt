@@ -15,7 +15,7 @@ use Rattle.cedar_graph.specs.Graph.{Path, Reach, IsTrusted}
 use Rattle.cedar_graph.specs.laws.Arcs.{IsPrefix, HasNumber, HasArcTo, AreArcsOf, AreArcsIn, AreSameEdges, ReachesKey}
 use Rattle.cedar_graph.specs.laws.Arcs.{IsRowEdge, near_graph}
 use Rattle.cedar_graph.proofs.Reaches.{or_cases, and_parts, and_from, both}
-use Rattle.cedar_components.specs.Reach.{Walk, Leads, Goes}
+use Rattle.cedar_components.specs.Reach.{Walk, Leads, HasPath}
 
 pub got_more : {K : Type 0} (ks xs : List K) (i : ℕ) (x : K) → slice_get ks i ≡ Some x → slice_get (ks ++ xs) i ≡ Some x
 got_more [] xs i x h = cc
@@ -239,7 +239,7 @@ module _ {K : Type 0} (eq : K → K → Bool) (G : K → K → Bool) (keys : Lis
       let r = path_from_walk z b u m.0 y xs m.1 k w.0 w.1 in
       (m.0 ∷ r.0, (s.sound a z x m.0 e h m.1, r.1))
 
-  pub reach_from_goes : (a b : ℕ) (x y : K) → slice_get keys a ≡ Some x → slice_get keys b ≡ Some y → Goes E a b
+  pub reach_from_goes : (a b : ℕ) (x y : K) → slice_get keys a ≡ Some x → slice_get keys b ≡ Some y → HasPath E a b
       → Reach G x y
   unfolding Leads
   reach_from_goes a b x y h k g = path_from_walk a b g.0 x y g.2.0 h k g.1 g.2.1

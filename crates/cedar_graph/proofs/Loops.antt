@@ -5,7 +5,7 @@ use Rattle.std.specs.List.{IsDistinct}
 use Rattle.std.proofs.lemmas.Bool.{cases_eq, cases_lt}
 use Rattle.std.proofs.Common.{◌≡◌, Bool, true, ℕ, ◌+◌, ◌<◌, ◌≤◌, ◌⊎◌, inl, inr, List, [], ◌∷◌, ◌++◌, refl, slice_index}
 use Rattle.std.proofs.Common.{ap, sym, subst, ◌∙◌, arith}
-use Rattle.cedar_components.specs.Reach.{Walk, Leads, Goes}
+use Rattle.cedar_components.specs.Reach.{Walk, Leads, HasPath}
 use Rattle.cedar_graph.specs.Graph.{graph_of, AddsOnlyReached, HasNoLoop}
 use Rattle.cedar_graph.specs.laws.Arcs.{AreSameEdges, HasNumberBelow}
 use Rattle.cedar_graph.specs.laws.Writings.{AreMarked, NoneGoesBack}
@@ -18,7 +18,7 @@ module _ (E : ℕ → ℕ → Type 0) where
   walk_on a b c (x ∷ xs) ys p q = (p.0, walk_on x b c xs ys p.1 q)
 
   -- A walk followed by an arc.
-  goes_after : (a w x : ℕ) (xs : List ℕ) → Walk E a xs w → E w x → Goes E a x
+  goes_after : (a w x : ℕ) (xs : List ℕ) → Walk E a xs w → E w x → HasPath E a x
   unfolding Leads
   goes_after a w x [] p e = (x, subst (λ v. E v x) (sym p) e, ([], refl))
   goes_after a w x (y ∷ ys) p e = (y, p.0, (ys ++ x ∷ [], walk_on y w x ys (x ∷ []) p.1 (e, refl)))
@@ -39,7 +39,7 @@ module _ (E : ℕ → ℕ → Type 0) where
   ]
 
   -- A number on a cycle has an arc to it from a number that is not above it.
-  pub back_upward : (n : ℕ) → Goes E n n → (w : ℕ) × (x : ℕ) × (w ≤ x) × E w x × Goes E x x
+  pub back_upward : (n : ℕ) → HasPath E n n → (w : ℕ) × (x : ℕ) × (w ≤ x) × E w x × HasPath E x x
   unfolding Leads
   back_upward n g = elim (upward n g.0 n g.2.0 g.1 g.2.1) [
     | inl f ↦ (f.0, f.1, f.4, f.5, goes_after f.1 f.0 f.1 (f.3 ++ f.2) (walk_on f.1 n f.0 f.3 f.2 f.7 f.6) f.5)
@@ -51,7 +51,7 @@ module _ (E : ℕ → ℕ → Type 0) where
   walk_down m down a b [] p = omega (arith, ap m p)
   walk_down m down a b (x ∷ xs) p = omega (arith, down a x p.0, walk_down m down x b xs p.1)
 
-  pub none_down : (m : ℕ → ℕ) → ((a b : ℕ) → E a b → m b < m a) → (x : ℕ) → Goes E x x → ⊥
+  pub none_down : (m : ℕ → ℕ) → ((a b : ℕ) → E a b → m b < m a) → (x : ℕ) → HasPath E x x → ⊥
   unfolding Leads
   none_down m down x g = omega (arith, down x g.0 g.1, walk_down m down g.0 x g.2.0 g.2.1)
 
@@ -65,11 +65,11 @@ module _ (E : ℕ → ℕ → Type 0) where
   ]
 
   -- One more number was checked.
-  pub none_further : (x : ℕ) (marks : List ℕ) → NoneGoesBack E x → (0 < slice_index marks x → Goes E x x → ⊥)
+  pub none_further : (x : ℕ) (marks : List ℕ) → NoneGoesBack E x → (0 < slice_index marks x → HasPath E x x → ⊥)
       → AreMarked E (x + 1) marks → NoneGoesBack E (x + 1)
   none_further x marks none here marked w u le h e goes = elim (cases_eq u x) [
     | inl same ↦ here (subst (λ y. 0 < slice_index marks y) same (marked w u (omega arith) e))
-        (subst (λ y. Goes E y y) same goes)
+        (subst (λ y. HasPath E y y) same goes)
     | inr ne ↦ none w u le (omega arith) e goes
   ]
 
@@ -98,7 +98,7 @@ module _ {K V S : Type 0} {eq : K → K → Bool} (laws : IsEquivalence eq) (edg
         let r = row_complete eq G keys E same n.0 n.1 a n.3 (reach_alike eq G keys E same a n.1 a n.4 p) in
         let is : r.0 ≡ n.0 = number_same laws keys unique r.0 n.0 r.1 n.1 r.3 n.3
         (laws.congr r.1 a n.1 (laws.symm r.1 a ∙ r.4) ∙ n.4) in
-        let u = back_upward E n.0 (subst (λ v. Goes E n.0 v) is r.2) in
+        let u = back_upward E n.0 (subst (λ v. HasPath E n.0 v) is r.2) in
         absurd (none u.0 u.1 u.2 (is_fixed u.0 u.1 u.4.0 u.3 u.4.1) u.3 u.4)
     | inr none_here ↦ none_here
   ]

@@ -29,8 +29,8 @@ placed numbers others places s =
     (by_places numbers) (IsPermutation-map at (range_with_len 0 (length numbers)) places s))
 
 -- Appending a number to the first part.
-pub put_first : (led others : List ℕ) (n : ℕ) → IsPermutation (led ++ others ++ n ∷ []) ((led ++ n ∷ []) ++ others)
-put_first led others n =
+pub insert_first_child : (led others : List ℕ) (n : ℕ) → IsPermutation (led ++ others ++ n ∷ []) ((led ++ n ∷ []) ++ others)
+insert_first_child led others n =
     subst (λ v. IsPermutation v ((led ++ n ∷ []) ++ others)) (sym (append_assoc led others (n ∷ [])))
     (subst (λ v. IsPermutation (led ++ (others ++ n ∷ [])) v) (sym (append_assoc led (n ∷ []) others))
     (IsPermutation-append_right led (others ++ n ∷ []) ((n ∷ []) ++ others)

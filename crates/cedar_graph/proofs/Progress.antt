@@ -8,7 +8,7 @@ use Rattle.std.specs.Cmp.{IsEquivalence}
 use Rattle.std.specs.List.{slice_get, IsDistinct}
 use Rattle.indexmap.proofs.MapLemmas.{distinct-take}
 use Rattle.indexmap.specs.IndexSet.{IndexSet}
-use Rattle.cedar_graph.specs.Calls.{IsAtMostNear, IsNear}
+use Rattle.cedar_graph.specs.Calls.{IsAtMostNeeded, NeedsEdges}
 use Rattle.cedar_graph.specs.declared.arcs.Reading.{Reading}
 use Rattle.cedar_graph.specs.laws.Readings.{HasPut, ReadsArc, ReadsOn}
 use Rattle.cedar_graph.proofs.Keyed.{got_some, number_same, prefix_got, prefix_refl, prefix_trans, some_and}
@@ -70,7 +70,7 @@ module _ {K S H : Type 0} where
 -- The first n keys show that n is at most the number of keys whose edges a repair has to know.
 pub at_most_near : {K : Type 0} {eq : K → K → Bool} (laws : IsEquivalence eq) (fix : K → Bool) (G : K → K → Bool)
     (keys : List K) (n m : ℕ) → IsDistinct eq keys → n ≤ length keys → m ≤ n
-    → ((i : ℕ) (k : K) → i < n → slice_get keys i ≡ Some k → IsNear fix G k) → IsAtMostNear eq fix G m
+    → ((i : ℕ) (k : K) → i < n → slice_get keys i ≡ Some k → NeedsEdges fix G k) → IsAtMostNeeded eq fix G m
 at_most_near laws fix G keys n m distinct within less near =
     let first = take n keys in
     let all : length first ≡ n = length-take-le n keys within in (

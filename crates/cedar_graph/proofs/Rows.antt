@@ -9,7 +9,7 @@ use Rattle.std.proofs.lemmas.List.Folds.{list_any_at}
 use Rattle.std.proofs.lemmas.Result.{on_ok_weaker}
 use Rattle.std.proofs.Common.{◌≡◌, Bool, true, ℕ, ◌<◌, ◌≤◌, ◌+◌, ◌-◌, inl, inr, nat_eq, suc, List, [], ◌∷◌, Some, Result, Ok, OnOk}
 use Rattle.std.proofs.Common.{length, drop, get_or, arith, ap, refl, sym, subst, ◌∙◌, length-take, length-drop}
-use Rattle.cedar_components.specs.Reach.{Goes, IsReach, IsWithin}
+use Rattle.cedar_components.specs.Reach.{HasPath, IsReach, IsWithin}
 use Rattle.cedar_graph.specs.Graph.{graph_of}
 use Rattle.cedar_graph.specs.declared.close.Known.{Known}
 use Rattle.cedar_graph.specs.laws.Arcs.{IsKeyAt, IsRowEdge, IsRowEdgeBelow, ReachesKey}
@@ -71,7 +71,7 @@ module _ {K : Type 0} (eq : K → K → Bool) (keys : List K) (E : ℕ → ℕ �
       (n, p.1, omega (arith, part_len lists i j ordered inside), rw at p.3, p.4)
 
   -- A reached number has a position in the list.
-  pub part_place : (y : ℕ) → Goes E x y
+  pub part_place : (y : ℕ) → HasPath E x y
       → (n : ℕ) × (n < length (slice_range lists i j)) × (get_or (slice_range lists i j) n 0 ≡ y)
   part_place y goes =
       let w = r.complete x y within goes in
@@ -84,13 +84,13 @@ module _ {K : Type 0} (eq : K → K → Bool) (keys : List K) (E : ℕ → ℕ �
       )
 
   -- A reached number is found in the list.
-  pub part_has : (y : ℕ) → Goes E x y → list_any (λ v. nat_eq v y) (slice_range lists i j) ≡ true
+  pub part_has : (y : ℕ) → HasPath E x y → list_any (λ v. nat_eq v y) (slice_range lists i j) ≡ true
   part_has y goes =
       let p = part_place y goes in
       list_any_at (λ v. nat_eq v y) (slice_range lists i j) p.0 0 p.1 (rw p.2 (nat_eq_equiv.refl y))
 
   -- A number that is found in the list is reached.
-  pub part_only : (y : ℕ) → list_any (λ v. nat_eq v y) (slice_range lists i j) ≡ true → Goes E x y
+  pub part_only : (y : ℕ) → list_any (λ v. nat_eq v y) (slice_range lists i j) ≡ true → HasPath E x y
   part_only y h =
       let f = found_at y (slice_range lists i j) h in
       let n_in : f.0 < j - i = omega (arith, f.1, part_len lists i j ordered inside) in

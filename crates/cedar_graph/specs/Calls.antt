@@ -88,13 +88,13 @@ abbrev pub CoversEdged : {K : Type 0} → (K → K → Bool) → (K → K → Bo
 CoversEdged {K} eq G n = (keys : List K) → AreEdged eq G keys → length keys ≤ n
 
 -- Whether a repair needs the edges of a key: the key is to be fixed, or a key to fix has an edge to it.
-abbrev pub IsNear : {K : Type 0} → (K → Bool) → (K → K → Bool) → K → Type 0
-IsNear {K} fix G k = (fix k ≡ true) ⊎ ((x : K) × (fix x ≡ true) × (G x k ≡ true))
+abbrev pub NeedsEdges : {K : Type 0} → (K → Bool) → (K → K → Bool) → K → Type 0
+NeedsEdges {K} fix G k = (fix k ≡ true) ⊎ ((x : K) × (fix x ≡ true) × (G x k ≡ true))
 
 -- Holds if n is at most the number of keys whose edges a repair needs: there are n different ones.
-abbrev pub IsAtMostNear : {K : Type 0} → (K → K → Bool) → (K → Bool) → (K → K → Bool) → ℕ → Type 0
-IsAtMostNear {K} eq fix G n =
-    (keys : List K) × IsDistinct eq keys × ((i : ℕ) (k : K) → slice_get keys i ≡ Some k → IsNear fix G k)
+abbrev pub IsAtMostNeeded : {K : Type 0} → (K → K → Bool) → (K → Bool) → (K → K → Bool) → ℕ → Type 0
+IsAtMostNeeded {K} eq fix G n =
+    (keys : List K) × IsDistinct eq keys × ((i : ℕ) (k : K) → slice_get keys i ≡ Some k → NeedsEdges fix G k)
     × (n ≤ length keys)
 
 -- Holds if the map has a node at each key of the set.

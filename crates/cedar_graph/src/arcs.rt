@@ -26,7 +26,7 @@ ghost use Rattle.cedar_graph.specs.laws.Readings.{ReadsNode, ReadsNodes, ReadsOn
 ghost use Rattle.indexmap.specs.IndexSet.{IsUnique};
 
 use crate::copies::members_of;
-use crate::numbering::{number_of, put_key};
+use crate::numbering::{insert_key_copy, number_of};
 use crate::transitive_closure::TCNode;
 use indexmap::IndexSet;
 use std::alloc::{AllocError, Global};
@@ -57,7 +57,7 @@ struct Edged<'a, K: Eq + Hash, V, S: BuildHasher> {
 }
 
 // Appends a node and its key, unless the node has no edges.
-fn put_edged<'a, K: Clone + Eq + Hash, V: TCNode<K>, S: BuildHasher>(
+fn push_with_edges<'a, K: Clone + Eq + Hash, V: TCNode<K>, S: BuildHasher>(
     edged: &mut Edged<'a, K, V, S>,
     key: &K,
     node: &'a V,
@@ -71,7 +71,7 @@ fn put_edged<'a, K: Clone + Eq + Hash, V: TCNode<K>, S: BuildHasher>(
     if !node.may_have_edges() {
         return Ok(());
     }
-    put_key(&mut edged.keys, key)?;
+    insert_key_copy(&mut edged.keys, key)?;
     if edged.keys.len() > edged.nodes.len() {
         edged.nodes.push(node)?;
     }
@@ -102,7 +102,7 @@ fn number_edged<'a, K: Clone + Eq + Hash, V: TCNode<K>, S: BuildHasher + Clone>(
         return Ok(edged);
     }
     for (key, node) in nodes {
-        put_edged(&mut edged, key, node)?;
+        push_with_edges(&mut edged, key, node)?;
     }
     Ok(edged)
 }
@@ -197,7 +197,7 @@ fn read_rows<K: Clone + Eq + Hash, V: TCNode<K>, S: BuildHasher>(
 }
 
 // Creates an empty reading of the keys, with capacity for `room` arcs.
-fn nothing_read<K: Clone + Eq + Hash, S: BuildHasher + Drop>(
+fn empty_reading<K: Clone + Eq + Hash, S: BuildHasher + Drop>(
     alloc: Global,
     keys: IndexSet<K, S>,
     room: usize,
@@ -250,7 +250,7 @@ pub(crate) fn read_arcs<K: Clone + Eq + Hash, V: TCNode<K>, S: BuildHasher + Clo
 {
     let edged = number_edged(alloc, nodes)?;
     let count = edged.nodes.len();
-    let mut s = nothing_read(alloc, edged.keys, count)?;
+    let mut s = empty_reading(alloc, edged.keys, count)?;
     read_nodes(alloc, &edged.nodes, &mut s)?;
     Ok(FixReading {
         reading: s,
@@ -277,7 +277,7 @@ fn number_set<K: Clone + Eq + Hash, S: BuildHasher + Drop, F: BuildHasher>(
     let all = members_of(alloc, fix)?;
     let mut keys = IndexSet::with_capacity_and_hasher(alloc, all.len(), hasher)?;
     for key in &all {
-        put_key(&mut keys, *key)?;
+        insert_key_copy(&mut keys, *key)?;
     }
     Ok(keys)
 }
@@ -293,7 +293,7 @@ pub(crate) fn read_fix<K: Clone + Eq + Hash, V: TCNode<K>, S: BuildHasher + Clon
 {
     let keys = number_set(alloc, nodes.hasher().clone()?, fix)?;
     let fixed = keys.len();
-    let mut s = nothing_read(alloc, keys, ARCS)?;
+    let mut s = empty_reading(alloc, keys, ARCS)?;
     read_rows(alloc, nodes, &mut s, 0, fixed)?;
     let near = s.keys.len();
     read_rows(alloc, nodes, &mut s, fixed, near)?;

@@ -19,9 +19,9 @@ ghost use Rattle.std.specs.Set.{is_member, ClonesAreEqual};
 ghost use Rattle.std.specs.HashMap.{get, hash_map_len};
 ghost use Rattle.std.specs.HashSet.{contains, hash_set_len};
 ghost use Rattle.indexmap.specs.IndexSet.{IsUnique};
-ghost use Rattle.cedar_components.specs.Reach.{AreArcs, Goes};
+ghost use Rattle.cedar_components.specs.Reach.{AreArcs, HasPath};
 ghost use Rattle.cedar_graph.specs.Graph.{graph_of, Grows, HasNoLoop, IsTrusted};
-ghost use Rattle.cedar_graph.specs.Calls.{CoversEdged, HasAll, IsAtMostNear, KeepsAll, OnlyAdds};
+ghost use Rattle.cedar_graph.specs.Calls.{CoversEdged, HasAll, IsAtMostNeeded, KeepsAll, OnlyAdds};
 ghost use Rattle.cedar_graph.specs.laws.Reaches.{HasReached};
 ghost use Rattle.cedar_graph.specs.laws.Arcs.{Ascends, IsKeyAt, IsRowEdge};
 ghost use Rattle.cedar_graph.specs.laws.Readings.{AreRead, IsArc};
@@ -125,7 +125,7 @@ fn next_known(numbers: &[usize], start: usize, known: &Known) -> usize
 
 // Appends to an empty row copies of the keys of the numbers, in order, without the only known one. Comparing with one
 // number is faster than reading marks.
-fn pick_others<K: Clone + Eq + Hash>(
+fn push_unknown_keys<K: Clone + Eq + Hash>(
     row: &mut Vec<K>,
     keys: &[K],
     numbers: &[usize],
@@ -164,7 +164,7 @@ fn pick_runs<K: Clone + Eq + Hash>(
     ensures { OnOk result (IsRowOf K.eq keys.now numbers.now known.now row.new.items) }
 {
     if known.count == 1 {
-        return pick_others(row, keys, numbers, known);
+        return push_unknown_keys(row, keys, numbers, known);
     }
     let mut end = next_known(numbers, 0, known);
     pick_run(row, keys, numbers, 0, end)?;
@@ -370,15 +370,15 @@ pub(crate) fn mark_targets(
 }
 
 // Checks whether number `x` reaches itself.
-pub(crate) fn goes_back<K: Clone + Eq + Hash, S: BuildHasher>(
+pub(crate) fn reaches_itself<K: Clone + Eq + Hash, S: BuildHasher>(
     read: &Reading<K, S>,
     reached: &Reached,
     x: usize,
 ) -> bool
     requires reach { IsReachOf read.now reached.now }
     requires within { x < length read.now.keys.keys }
-    ensures none { result ≡ false → Goes (IsArc read.now) x x → ⊥ }
-    ensures some { result ≡ true → Goes (IsArc read.now) x x }
+    ensures none { result ≡ false → HasPath (IsArc read.now) x x → ⊥ }
+    ensures some { result ≡ true → HasPath (IsArc read.now) x x }
 {
     listed_for(read, reached, x).contains(&x)
 }
@@ -423,7 +423,7 @@ pub(crate) fn write_rows<K: Clone + Eq + Hash, V: TCNode<K>, S: BuildHasher>(
     for x in 0..read.fixed {
         place = mark_targets(&arcs.from, &arcs.to, &mut known, x, place);
         closings += write_number(alloc, nodes, arcs, reached, x, &known)?;
-        has_loop = has_loop || known.marks[x] != 0 && goes_back(arcs, reached, x);
+        has_loop = has_loop || known.marks[x] != 0 && reaches_itself(arcs, reached, x);
     }
     let work = Work {
         reads: arcs.reads,
@@ -505,7 +505,7 @@ pub(crate) fn repair<K: Clone + Eq + Hash, V: TCNode<K>, S: BuildHasher + Clone,
     ensures ok { OnOk result (
         IsTrusted (contains K.eq fix.now) (graph_of K.eq V.edges nodes.old)
         → HasReached (graph_of K.eq V.edges nodes.old) (graph_of K.eq V.edges nodes.new)) }
-    ensures reads { IfOk result (λ w. IsAtMostNear K.eq (contains K.eq fix.now)
+    ensures reads { IfOk result (λ w. IsAtMostNeeded K.eq (contains K.eq fix.now)
         (graph_of K.eq V.edges nodes.old) w.reads) }
     ensures closings { IfOk result (λ w. w.closings ≤ hash_set_len fix.now) }
     ensures visits { IfOk result (λ w. HasAll K.eq fix.now nodes.old

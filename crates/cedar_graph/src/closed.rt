@@ -2,7 +2,7 @@
 ghost use Rattle.std.specs.Prelude.{◌≡◌, ℕ, ◌<◌, ◌≤◌, true, None, IfErr, IfOk, OnOk, length, slice_index};
 ghost use Rattle.std.specs.Option.{IfSome};
 ghost use Rattle.std.specs.Set.{ClonesAreEqual};
-ghost use Rattle.cedar_components.specs.Reach.{AreArcs, Goes};
+ghost use Rattle.cedar_components.specs.Reach.{AreArcs, HasPath};
 ghost use Rattle.cedar_graph.specs.Graph.{graph_of, IsClosed};
 ghost use Rattle.cedar_graph.specs.Faults.{BreaksClosed, MatchFault};
 ghost use Rattle.cedar_graph.specs.laws.Arcs.{Ascends, IsKeyAt};
@@ -30,7 +30,7 @@ fn knows_reached<K: Clone + Eq + Hash, S: BuildHasher>(
     requires reach { IsReachOf read.now reached.now }
     requires within { x < length read.now.keys.keys }
     requires marks { length known.now.marks.items ≡ length read.now.keys.keys }
-    ensures { result ≡ true → (y : ℕ) → Goes (IsArc read.now) x y
+    ensures { result ≡ true → (y : ℕ) → HasPath (IsArc read.now) x y
         → slice_index known.now.marks.items y ≡ known.now.mark }
 {
     for y in listed_for(read, reached, x) {

@@ -3,7 +3,7 @@ ghost use Rattle.std.specs.Prelude.{◌≡◌, ℕ, ◌<◌, ◌≤◌, true, No
 ghost use Rattle.std.specs.Option.{IfSome};
 ghost use Rattle.std.specs.Set.{ClonesAreEqual};
 ghost use Rattle.std.specs.HashSet.{contains};
-ghost use Rattle.cedar_components.specs.Reach.{AreArcs, Goes};
+ghost use Rattle.cedar_components.specs.Reach.{AreArcs, HasPath};
 ghost use Rattle.cedar_graph.specs.Calls.{ClosesDag, KeepsAll, RepairsDag};
 ghost use Rattle.cedar_graph.specs.Faults.{MatchFault};
 ghost use Rattle.cedar_graph.specs.Graph.{KeysMatch};
@@ -11,7 +11,7 @@ ghost use Rattle.cedar_graph.specs.laws.Readings.{IsArc};
 ghost use Rattle.cedar_graph.specs.laws.Writings.{HasMarks, IsKeyOfLoop, IsReachOf, NoneLoops};
 
 use crate::arcs::{FixReading, Reading, read_arcs, read_fix};
-use crate::close::{goes_back, reach_of, write_rows};
+use crate::close::{reach_of, reaches_itself, write_rows};
 use crate::err::{HasCycle, Result, TcError};
 use crate::transitive_closure::TCNode;
 use cedar_components::Reached;
@@ -45,11 +45,11 @@ fn first_loop<K: Clone + Eq + Hash, S: BuildHasher>(
     requires fixed { read.now.fixed ≤ length read.now.reading.keys.keys }
     requires led { HasMarks read.now.reading (length read.now.reading.to.items) led.now }
     requires same { length read.now.reading.to.items ≡ length read.now.reading.from.items }
-    ensures some { IfSome result (λ x. (x < read.now.fixed) × Goes (IsArc read.now.reading) x x) }
+    ensures some { IfSome result (λ x. (x < read.now.fixed) × HasPath (IsArc read.now.reading) x x) }
     ensures none { result ≡ None → NoneLoops (IsArc read.now.reading) read.now.fixed }
 {
     for x in 0..read.fixed {
-        if led[x] && goes_back(&read.reading, reached, x) {
+        if led[x] && reaches_itself(&read.reading, reached, x) {
             return Some(x);
         }
     }
@@ -61,7 +61,7 @@ fn first_loop<K: Clone + Eq + Hash, S: BuildHasher>(
 fn descends<K: Clone + Eq + Hash, S: BuildHasher>(read: &Reading<K, S>, reached: &Reached) -> bool
     requires reach { IsReachOf read.now reached.now }
     requires arcs { AreArcs read.now.from.items read.now.to.items (length read.now.keys.keys) }
-    ensures { result ≡ true → (x : ℕ) → Goes (IsArc read.now) x x → ⊥ }
+    ensures { result ≡ true → (x : ℕ) → HasPath (IsArc read.now) x x → ⊥ }
 {
     for k in 0..read.from.len() {
         if reached.component[read.from[k]] <= reached.component[read.to[k]] {

@@ -9,7 +9,7 @@ use std::alloc::AllocError;
 use std::hash::{BuildHasher, Hash};
 
 // Inserts a copy of a key, if there is no equal key. Returns the number of the key.
-pub(crate) fn put_key<K: Clone + Eq + Hash, S: BuildHasher>(
+pub(crate) fn insert_key_copy<K: Clone + Eq + Hash, S: BuildHasher>(
     keys: &mut IndexSet<K, S>,
     key: &K,
 ) -> Result<usize, AllocError>
@@ -32,5 +32,5 @@ pub(crate) fn number_of<K: Clone + Eq + Hash, S: BuildHasher>(
     if let Some(number) = keys.get_index_of(key) {
         return Ok(number);
     }
-    put_key(keys, key)
+    insert_key_copy(keys, key)
 }

@@ -7,7 +7,7 @@ use crate::transitive_closure::TCNode;
 use std::alloc::{AllocError, Global};
 
 // Computes for each number whether an arc leads to it.
-fn led_to(alloc: Global, to: &[usize], count: usize) -> Result<Vec<bool>, AllocError>
+fn has_incoming(alloc: Global, to: &[usize], count: usize) -> Result<Vec<bool>, AllocError>
     ensures { IfOk result (λ v. length v.items ≡ count) }
 {
     let mut led = vec![in alloc; false; count]?;
@@ -55,7 +55,7 @@ fn parts_of<K: Clone>(alloc: Global, keys: &[K], to: &[usize]) -> Result<Parts<K
     ensures all { IfOk result (λ p.
         IsPermutation (range_with_len 0 (length keys.now)) (p.led.items ++ p.others.items)) }
 {
-    let led = led_to(alloc, to, keys.len())?;
+    let led = has_incoming(alloc, to, keys.len())?;
     let mut parts = Parts {
         keys: Vec::new(alloc),
         led: Vec::new(alloc),

@@ -19,7 +19,7 @@ ghost use Rattle.std.specs.List.Sorted.{IsPermutation};
 ghost use Rattle.std.specs.Set.{is_member, ClonesAreEqual};
 ghost use Rattle.std.specs.HashMap.{hash_map_len};
 ghost use Rattle.std.specs.HashSet.{contains, hash_set_len};
-ghost use Rattle.cedar_graph.specs.Calls.{Closes, CoversEdged, HasAll, IsAtMostNear, KeepsAll, Repairs};
+ghost use Rattle.cedar_graph.specs.Calls.{Closes, CoversEdged, HasAll, IsAtMostNeeded, KeepsAll, Repairs};
 ghost use Rattle.cedar_graph.specs.Graph.{graph_of, Grows, IsClosedWithoutLoop, KeysMatch};
 ghost use Rattle.cedar_graph.specs.Faults.{DeniesClosed};
 
@@ -434,7 +434,7 @@ pub fn repair_tc_counted<
     ensures keeps { KeepsAll K.eq V.key V.rest V.kept nodes.old nodes.new }
     ensures repairs { Repairs K.eq V.edges enforce_dag (contains K.eq nodes_to_fix.now)
         nodes.old nodes.new result }
-    ensures reads { IfOk result (λ w. IsAtMostNear K.eq (contains K.eq nodes_to_fix.now)
+    ensures reads { IfOk result (λ w. IsAtMostNeeded K.eq (contains K.eq nodes_to_fix.now)
         (graph_of K.eq V.edges nodes.old) w.reads) }
     ensures closings { IfOk result (λ w. w.closings ≤ 2 * hash_set_len nodes_to_fix.now) }
     ensures visits { IfOk result (λ w. HasAll K.eq nodes_to_fix.now nodes.old

@@ -30,12 +30,12 @@ abbrev pub is_ascii : List ℕ → Bool
 is_ascii text = list_all is_ascii_byte text
 
 -- Whether an ASCII character is its own escape: not a control character, not a quote and not a backslash.
-abbrev pub is_own_escape_byte : ℕ → Bool
-is_own_escape_byte c = nat_le 32 c && nat_lt c 127 && not (c == 39) && not (c == 34) && not (c == 92)
+abbrev pub is_extra_escape_byte : ℕ → Bool
+is_extra_escape_byte c = nat_le 32 c && nat_lt c 127 && not (c == 39) && not (c == 34) && not (c == 92)
 
 -- Whether every character of a text is an ASCII character that is its own escape.
-abbrev pub is_own_escape : List ℕ → Bool
-is_own_escape text = list_all is_own_escape_byte text
+abbrev pub is_extra_escape : List ℕ → Bool
+is_extra_escape text = list_all is_extra_escape_byte text
 
 -- The specified output of printing a text: its escaped form if it is ASCII, else unspecified.
 abbrev pub escaped_output : List ℕ → Option (List ℕ)

@@ -2,7 +2,7 @@
 ghost use Rattle.std.specs.Prelude.{◌≡◌, ◌<◌};
 ghost use Rattle.std.specs.Str.{IsAscii};
 ghost use Rattle.std.specs.Fmt.{WritesOnOk};
-ghost use Rattle.cedar_ids.specs.Escape.{escape, escaped, escaped_output, is_own_escape, is_own_escape_byte};
+ghost use Rattle.cedar_ids.specs.Escape.{escape, escaped, escaped_output, is_extra_escape, is_extra_escape_byte};
 
 use std::fmt;
 
@@ -19,7 +19,7 @@ impl fmt::Display for Escaped<'_> {
 
     fn fmt<W: fmt::Write>(&self, f: &mut fmt::Formatter<W>) -> fmt::Result {
         let text = self.0;
-        if is_own_escape(text.as_bytes()) {
+        if is_extra_escape(text.as_bytes()) {
             f.write_str(text)
         } else if text.is_ascii() {
             write_escapes(text.as_bytes(), f)
@@ -39,15 +39,15 @@ impl fmt::Display for Escaped<'_> {
 /// # Differences from cedar-policy-core
 ///
 /// The original has no such function.
-pub fn is_own_escape(text: &[u8]) -> bool
-    ensures { result ≡ is_own_escape text.now }
+pub fn is_extra_escape(text: &[u8]) -> bool
+    ensures { result ≡ is_extra_escape text.now }
 {
-    text.iter().all(|b| is_own_escape_byte(*b))
+    text.iter().all(|b| is_extra_escape_byte(*b))
 }
 
 // Returns whether a byte is an ASCII character that is its own escape.
-fn is_own_escape_byte(b: u8) -> bool
-    ensures { result ≡ is_own_escape_byte b }
+fn is_extra_escape_byte(b: u8) -> bool
+    ensures { result ≡ is_extra_escape_byte b }
 {
     b >= 0x20 && b < 0x7f && b != b'\'' && b != b'"' && b != b'\\'
 }

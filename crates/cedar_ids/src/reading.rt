@@ -15,7 +15,7 @@ ghost use Rattle.cedar_ids.specs.ReadsUid.{FollowsChecks};
 use crate::decode::decoded;
 use crate::entity::{Eid, EntityType, EntityUID};
 use crate::err::ParseErrors;
-use crate::escape::{Escaped, is_own_escape};
+use crate::escape::{Escaped, is_extra_escape};
 use crate::loc::Loc;
 use crate::name::read_name;
 use std::alloc::{AllocError, Global};
@@ -56,7 +56,7 @@ fn unescaped(alloc: Global, text: &str) -> Result<Option<String>, AllocError>
 fn eid_text(alloc: Global, text: &str) -> Result<Option<String>, AllocError>
     ensures { IfOk result (λ o. ascii_part o ≡ eid_of text.now) }
 {
-    if is_own_escape(text.as_bytes()) {
+    if is_extra_escape(text.as_bytes()) {
         let eid = String::from_str(alloc, text)?;
         Ok(Some(eid))
     } else {

@@ -2,16 +2,16 @@
 // check of two single bytes.
 ghost use Rattle.std.specs.Prelude.{◌≡◌, ℕ, ◌+◌, ◌<◌, ◌≤◌, IsTrue, true, drop, length, slice_index};
 ghost use Rattle.std.specs.Int.{bit_at};
-ghost use Rattle.cedar_ids.specs.Escape.{is_own_escape, is_own_escape_byte};
+ghost use Rattle.cedar_ids.specs.Escape.{is_extra_escape, is_extra_escape_byte};
 
-use cedar_ids::escape::is_own_escape;
+use cedar_ids::escape::is_extra_escape;
 use std::simd::prelude::*;
 
 // Returns a mask of the bytes, of 8 from a place on, that need an escape.
 #[inline(always)]
 fn escapes_at(text: &[u8], at: usize) -> u64
     requires { at + 8 ≤ length text.now }
-    ensures { (k : ℕ) → k < 8 → bit_at result k ≡ 0 → is_own_escape_byte (slice_index text.now (at + k)) ≡ true }
+    ensures { (k : ℕ) → k < 8 → bit_at result k ≡ 0 → is_extra_escape_byte (slice_index text.now (at + k)) ≡ true }
 {
     let v = u8x8::from_slice(&text[at..]);
     // Bytes below a blank become larger than all others.
@@ -23,10 +23,10 @@ fn escapes_at(text: &[u8], at: usize) -> u64
 // Returns whether no byte from a place on needs an escape. There are at least 8 bytes. The last eight may overlap the
 // bytes before them. Bytes before the place are ignored.
 #[inline(always)]
-fn is_own_escape_in(text: &[u8], from: usize) -> bool
+fn is_extra_escape_in(text: &[u8], from: usize) -> bool
     requires within { from ≤ length text.now }
     requires long { 8 ≤ length text.now }
-    ensures { IsTrue result → IsTrue (is_own_escape (drop from text.now)) }
+    ensures { IsTrue result → IsTrue (is_extra_escape (drop from text.now)) }
 {
     let last = text.len() - 8;
     let mut at = from;
@@ -44,12 +44,12 @@ const ENOUGH: usize = 3;
 
 // Returns whether no byte from a place on needs an escape.
 #[inline(always)]
-pub(crate) fn is_own_escape_from(text: &[u8], from: usize) -> bool
+pub(crate) fn is_extra_escape_from(text: &[u8], from: usize) -> bool
     requires { from ≤ length text.now }
-    ensures { IsTrue result → IsTrue (is_own_escape (drop from text.now)) }
+    ensures { IsTrue result → IsTrue (is_extra_escape (drop from text.now)) }
 {
     if 8 <= text.len() && ENOUGH <= text.len() - from {
-        return is_own_escape_in(text, from);
+        return is_extra_escape_in(text, from);
     }
-    is_own_escape(&text[from..])
+    is_extra_escape(&text[from..])
 }

@@ -2,7 +2,7 @@
 //! shared.
 ghost use Rattle.std.specs.Prelude.{◌≡◌, ◌++◌, List, ℕ, IfOk, MatchOption, IfSome, IsTrue, codes};
 ghost use Rattle.std.specs.String.{string_bytes};
-ghost use Rattle.cedar_ids.specs.Escape.{is_own_escape};
+ghost use Rattle.cedar_ids.specs.Escape.{is_extra_escape};
 ghost use Rattle.cedar_ids.specs.Name.{NameParts};
 ghost use Rattle.cedar_ids.specs.TextOf.{IsNameText, IsPrinted};
 ghost use Rattle.cedar_ids.specs.UidOf.{uid_parts};
@@ -11,12 +11,12 @@ ghost use Rattle.cedar_ids.specs.declared.entity.EntityUID.{EntityUID};
 ghost use Rattle.cedar_lines.specs.Reads.{ReadsAs};
 ghost use Rattle.cedar_lines.specs.laws.Halves.{IsMadeOf};
 
-use crate::eid_bytes::is_own_escape_from;
+use crate::eid_bytes::is_extra_escape_from;
 use crate::field::uid_field;
 use crate::room::text_in;
 use cedar_ids::entity::{Eid, EntityType, EntityUID};
 use cedar_ids::err::ParseErrors;
-use cedar_ids::escape::is_own_escape;
+use cedar_ids::escape::is_extra_escape;
 use std::alloc::{AllocError, Global};
 use std::marker::Model;
 
@@ -148,10 +148,10 @@ fn read_type(
 // Returns the text before the first `::"`, and the text between it and the last `"`, if the second needs no escape.
 fn unescaped_halves(text: &str) -> Option<(&str, &str)>
     ensures split { IfSome result (λ r. text.now ≡ r.0.now ++ (codes "::\"" ++ (r.1.now ++ codes "\""))) }
-    ensures own_escape { IfSome result (λ r. IsTrue (is_own_escape r.1.now)) }
+    ensures own_escape { IfSome result (λ r. IsTrue (is_extra_escape r.1.now)) }
 {
     let (name, eid) = text.strip_suffix('"')?.split_once("::\"")?;
-    if is_own_escape(eid.as_bytes()) {
+    if is_extra_escape(eid.as_bytes()) {
         return Some((name, eid));
     }
     None
@@ -159,7 +159,7 @@ fn unescaped_halves(text: &str) -> Option<(&str, &str)>
 
 // Creates the uid of a type and an eid that needs no escape. Its text is the type, the mark, the eid and a quote.
 fn uid_of_parts(ty: EntityType, eid: String) -> EntityUID
-    requires { IsTrue (is_own_escape (string_bytes eid)) }
+    requires { IsTrue (is_extra_escape (string_bytes eid)) }
     ensures { (name : List ℕ) → IsNameText (type_name ty) name →
         IsPrinted (uid_parts result) (name ++ (codes "::\"" ++ (string_bytes eid ++ codes "\""))) }
 {
@@ -178,10 +178,10 @@ fn type_of(known: &KnownType) -> Result<EntityType, AllocError>
 #[inline(always)]
 fn eid_of_type<'a>(known: &KnownType, unclosed: &'a str) -> Option<&'a str>
     ensures made { IfSome result (λ e. IsMadeOf known.now e.now (unclosed.now ++ codes "\"")) }
-    ensures own_escape { IfSome result (λ e. IsTrue (is_own_escape e.now)) }
+    ensures own_escape { IfSome result (λ e. IsTrue (is_extra_escape e.now)) }
 {
     let eid = unclosed.strip_prefix(known.marked.as_str())?;
-    if is_own_escape_from(unclosed.as_bytes(), known.marked.len()) {
+    if is_extra_escape_from(unclosed.as_bytes(), known.marked.len()) {
         return Some(eid);
     }
     None
@@ -191,7 +191,7 @@ fn eid_of_type<'a>(known: &KnownType, unclosed: &'a str) -> Option<&'a str>
 #[inline(always)]
 fn known_halves<'a, 'b>(known: &'a [KnownType], text: &'b str) -> Option<(&'a KnownType, &'b str)>
     ensures made { IfSome result (λ r. IsMadeOf r.0.now r.1.now text.now) }
-    ensures own_escape { IfSome result (λ r. IsTrue (is_own_escape r.1.now)) }
+    ensures own_escape { IfSome result (λ r. IsTrue (is_extra_escape r.1.now)) }
 {
     let unclosed = text.strip_suffix('"')?;
     for one in known {
@@ -210,7 +210,7 @@ fn uid_of_halves(
     name: &str,
     eid: &str,
 ) -> Result<Option<EntityUID>, AllocError>
-    requires { IsTrue (is_own_escape eid.now) }
+    requires { IsTrue (is_extra_escape eid.now) }
     ensures { IfOk result (λ o. IfSome o (λ u. IsPrinted (uid_parts u) (name.now
         ++ (codes "::\"" ++ (eid.now ++ codes "\""))))) }
 {

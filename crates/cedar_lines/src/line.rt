@@ -84,7 +84,7 @@ fn is_line_byte(b: u8) -> bool
 
 // Returns whether a line has only tabs and printable ASCII characters. A short line is scanned to its end. That costs
 // less for each byte than a loop that stops early.
-fn has_line_bytes_alone(line: &[u8]) -> bool
+fn has_only_line_bytes(line: &[u8]) -> bool
     ensures { result ≡ list_all is_line_byte line.now }
 {
     if 16 <= line.len() && has_line_bytes(line) {
@@ -122,12 +122,12 @@ fn text_of(line: &[u8]) -> &str
 
 // Reads a line of any length as `read_fields` does.
 #[inline(never)]
-fn read_others<'a>(fields: &mut Vec<&'a str>, line: &'a [u8]) -> Result<bool, AllocError>
+fn read_remaining<'a>(fields: &mut Vec<&'a str>, line: &'a [u8]) -> Result<bool, AllocError>
     ensures readable { IfOk result (λ is_readable. is_readable ≡ list_all is_line_byte line.now) }
     ensures fields { IfOk result (λ is_readable. IsTrue is_readable →
         map (λ x. x.now) fields.new.items ≡ slice_split (λ b. b == 9) line.now) }
 {
-    if !has_line_bytes_alone(line) {
+    if !has_only_line_bytes(line) {
         return Ok(false);
     }
     set_fields(fields, text_of(line))?;
@@ -157,5 +157,5 @@ pub fn read_fields<'a>(fields: &mut Vec<&'a str>, line: &'a [u8]) -> Result<bool
         set_marked_fields(fields, text_of(line), tabs)?;
         return Ok(true);
     }
-    read_others(fields, line)
+    read_remaining(fields, line)
 }

@@ -14,6 +14,6 @@ Links (Err r) t i e = IsUnfit r (body_slots t) e
 
 -- Whether a result of creating a static policy is right. If the template has no slots, `Ok` contains its static policy.
 -- An error explains why empty bindings do not fit, or is `Memory`.
-abbrev pub MakesPolicy : Result PolicyParts LinkingError → BodyParts → Type 0
-MakesPolicy (Ok p) t = (body_slots t ≡ []) × (p ≡ static_policy t)
-MakesPolicy (Err r) t = IsUnfit r (body_slots t) no_env
+abbrev pub CreatesStaticPolicy : Result PolicyParts LinkingError → BodyParts → Type 0
+CreatesStaticPolicy (Ok p) t = (body_slots t ≡ []) × (p ≡ static_policy t)
+CreatesStaticPolicy (Err r) t = IsUnfit r (body_slots t) no_env

@@ -21,5 +21,5 @@ abbrev pub IsStaticOf : Result BodyParts UnexpectedSlotError → BodyParts → T
 IsStaticOf = StaticUnless ⊥
 
 -- Whether a result is right, where `Memory` is always possible.
-abbrev pub MakesStatic : Result BodyParts UnexpectedSlotError → BodyParts → Type 0
-MakesStatic = StaticUnless (Unit {0})
+abbrev pub CreatesStaticBody : Result BodyParts UnexpectedSlotError → BodyParts → Type 0
+CreatesStaticBody = StaticUnless (Unit {0})

@@ -4,7 +4,7 @@ ghost use Rattle.cedar_ids.specs.NonEmpties.{all_of};
 ghost use Rattle.cedar_ids.specs.UidOf.{uid_parts};
 ghost use Rattle.cedar_policy.specs.Faults.{fault_of};
 
-use cedar_action::action::JoinedUids;
+use cedar_action::action::UidPairs;
 use cedar_ids::entity::EntityUID;
 use cedar_ids::non_empty::NonEmpty;
 use cedar_terms::err::ExprValidationError;
@@ -61,7 +61,7 @@ pub enum TemplateValidationError {
     #[error("found slot `{}` in a condition clause", .0.id)]
     SlotsInConditionClause(Slot),
     /// These uids of the action constraint are not actions. They are in the order of its list.
-    #[error("the action constraint holds uids that are not actions: {}", JoinedUids(.0))]
+    #[error("the action constraint holds uids that are not actions: {}", UidPairs(.0))]
     InvalidActionType(NonEmpty<Rc<EntityUID>>),
     /// The stored slots of a template differ from the slots of its condition. This error is never returned, because no
     /// such template can be created.

@@ -19,12 +19,12 @@ ghost use Rattle.cedar_policy.specs.laws.PolicyLaws.{same_policy_equiv};
 
 use crate::static_policy::StaticPolicy;
 use crate::template::Template;
-use crate::unknowns::entities_named;
+use crate::unknowns::are_entity_names;
 use cedar_action::ActionConstraint;
 use cedar_annotation::annotation::Iter;
 use cedar_annotation::{Annotation, Annotations};
 use cedar_binding::{
-    JoinedBindings, SlotEnv, bound_to, copy_of_bindings, no_bindings, same_bindings,
+    BindingPairs, SlotEnv, bound_to, copy_of_bindings, no_bindings, same_bindings,
 };
 use cedar_body::Effect;
 use cedar_ids::entity::EntityUID;
@@ -474,7 +474,7 @@ impl Policy {
     {
         let condition = self.condition(alloc)?;
         let unknowns = condition.unknowns(alloc)?;
-        entities_named(alloc, hasher, &unknowns)
+        are_entity_names(alloc, hasher, &unknowns)
     }
 }
 
@@ -549,7 +549,7 @@ impl fmt::Display for Policy {
             None => self.parts.template.fmt(f),
             Some(_) => {
                 let id = self.parts.template.id();
-                let bindings = JoinedBindings(&self.parts.values);
+                let bindings = BindingPairs(&self.parts.values);
                 write!(f, "Template Instance of {id}, slots: [{bindings}]")
             }
         }

@@ -10,7 +10,7 @@ ghost use Rattle.cedar_body.specs.BodyEquality.{same_body, body_hash};
 ghost use Rattle.cedar_body.specs.BodyTexts.{body_output};
 ghost use Rattle.cedar_body.specs.Views.{body_of};
 ghost use Rattle.cedar_body.specs.laws.BodyLaws.{same_body_equiv, body_hash_respects};
-ghost use Rattle.cedar_policy.specs.Statics.{IsStaticOf, MakesStatic};
+ghost use Rattle.cedar_policy.specs.Statics.{IsStaticOf, CreatesStaticBody};
 
 use crate::err::UnexpectedSlotError;
 use crate::template::Template;
@@ -76,7 +76,7 @@ impl StaticPolicy {
         resource_constraint: ResourceConstraint,
         non_scope_constraints: Option<Expr>,
     ) -> Result<StaticPolicy, UnexpectedSlotError>
-        ensures { MakesStatic result (record {
+        ensures { CreatesStaticBody result (record {
           id = id;
           annotations = annotations;
           effect = effect;

@@ -11,7 +11,7 @@ ghost use Rattle.cedar_body.specs.BodyEquality.{same_body, body_hash};
 ghost use Rattle.cedar_body.specs.BodyTexts.{body_output};
 ghost use Rattle.cedar_body.specs.Views.{body_of};
 ghost use Rattle.cedar_body.specs.laws.BodyLaws.{same_body_equiv, body_hash_respects};
-ghost use Rattle.cedar_policy.specs.Links.{Links, MakesPolicy};
+ghost use Rattle.cedar_policy.specs.Links.{Links, CreatesStaticPolicy};
 ghost use Rattle.cedar_policy.specs.Policies.{static_policy};
 ghost use Rattle.cedar_policy.specs.Validation.{Validated};
 
@@ -381,7 +381,7 @@ impl Template {
     /// - `ArityError`: the template has slots. `unbound_values` has all of them.
     /// - `Memory`: an allocation failed.
     pub fn try_as_policy(alloc: Global, template: Rc<Template>) -> Result<Policy, LinkingError>
-        ensures { MakesPolicy result template.value }
+        ensures { CreatesStaticPolicy result template.value }
     {
         let nothing = no_bindings(alloc);
         Template::check_binding(alloc, &template, &nothing)?;

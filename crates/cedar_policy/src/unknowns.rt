@@ -14,7 +14,7 @@ use std::collections::HashSet;
 use std::hash::BuildHasher;
 
 // Returns the uids that some unknowns represent.
-pub(crate) fn entities_named<S: BuildHasher + Drop>(
+pub(crate) fn are_entity_names<S: BuildHasher + Drop>(
     alloc: Global,
     hasher: S,
     unknowns: &[&Unknown],
@@ -23,7 +23,7 @@ pub(crate) fn entities_named<S: BuildHasher + Drop>(
 {
     let mut uids = HashSet::with_hasher(alloc, hasher);
     for unknown in unknowns {
-        let uid = entity_named(alloc, unknown)?;
+        let uid = is_entity_name(alloc, unknown)?;
         put(&mut uids, uid)?;
     }
     Ok(uids)
@@ -47,7 +47,7 @@ fn put<S: BuildHasher>(
 }
 
 // Returns the uid that an unknown represents, if there is one.
-fn entity_named(alloc: Global, unknown: &Unknown) -> Result<Option<EntityUID>, AllocError>
+fn is_entity_name(alloc: Global, unknown: &Unknown) -> Result<Option<EntityUID>, AllocError>
     ensures { IfOk result (λ uid. NamesOnly uid unknown.now) }
 {
     if unknown.type_annotation.is_none() {

@@ -21,7 +21,7 @@ use Rattle.cedar_ids.specs.declared.entity.EntityUID.TheVariants as uids
 use Rattle.cedar_ids.specs.Texts.{same_text}
 use Rattle.cedar_ids.specs.laws.TextLaws.{same_text_decides}
 use Rattle.cedar_policy_lines.specs.PolicyCommand.{PolicyCommand, IsPolicyCommand, bound_more}
-use Rattle.cedar_policy_lines.specs.PolicyOutput.{TakesPolicy}
+use Rattle.cedar_policy_lines.specs.PolicyOutput.{RunsPolicyFields}
 use Rattle.cedar_policy_lines.specs.TwoSets.{TwoSets}
 use Rattle.cedar_policy_lines.specs.laws.Machines.{TakesAs}
 use Rattle.cedar_binding.specs.Bindings.{EnvParts, binds}
@@ -131,7 +131,7 @@ one_more_read fs k z d e b o l h read new is =
 
 -- Fields that are run as they are read are run correctly.
 pub taken_as : (taken : Bool) (fs : List (List ℕ)) (old new : TwoSets) (before after : List ℕ)
-    → TakesAs (policy_command fs) taken old new before after → TakesPolicy taken fs old new before after
+    → TakesAs (policy_command fs) taken old new before after → RunsPolicyFields taken fs old new before after
 taken_as true fs old new before after h = (h.0, read_is_command fs h.0 h.1, h.2)
 taken_as false fs old new before after h = (
   λ c k. none_some c (sym h.0 ∙ command_is_read c fs k),
@@ -142,7 +142,7 @@ taken_as false fs old new before after h = (
 -- The same, if the word determines how the fields are read.
 pub taken_by : (word : List ℕ) (taken : Bool) (w : List ℕ) (fs : List (List ℕ)) (old new : TwoSets)
     (before after : List ℕ) → same_text w word ≡ true → TakesAs (command_by word fs) taken old new before after
-    → TakesPolicy taken (w ∷ fs) old new before after
+    → RunsPolicyFields taken (w ∷ fs) old new before after
 taken_by word taken w fs old new before after is h =
     taken_as taken (w ∷ fs) old new before after
     (subst (λ v. TakesAs (command_by v fs) taken old new before after) (sym ((same_text_decides w word).0 is)) h)

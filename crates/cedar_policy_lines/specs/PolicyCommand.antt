@@ -47,13 +47,13 @@ slots_word OnBoth = codes "both"
 slots_word OnAll = codes "all"
 
 -- The slots with this word.
-abbrev pub slots_named : TemplateSlots → List SlotId
-slots_named NoSlots = []
-slots_named OnPrincipal = Principal ∷ []
-slots_named OnAction = Action ∷ []
-slots_named OnResource = Resource ∷ []
-slots_named OnBoth = Principal ∷ Resource ∷ []
-slots_named OnAll = all_slots
+abbrev pub slots_of_word : TemplateSlots → List SlotId
+slots_of_word NoSlots = []
+slots_of_word OnPrincipal = Principal ∷ []
+slots_of_word OnAction = Action ∷ []
+slots_of_word OnResource = Resource ∷ []
+slots_of_word OnBoth = Principal ∷ Resource ∷ []
+slots_of_word OnAll = all_slots
 
 -- The word of a merge. `true` stands for renaming ids in conflict.
 abbrev pub renaming_word : Bool → List ℕ

@@ -8,7 +8,7 @@ use Rattle.cedar_ids.specs.Uid.{UidParts}
 use Rattle.cedar_ids.specs.Printed.{uid_output}
 use Rattle.cedar_lines.specs.Lines.{written_line}
 use Rattle.cedar_terms.specs.declared.slot.SlotId.TheVariants.{Principal, Action, Resource}
-use Rattle.cedar_binding.specs.Bindings.{is_among}
+use Rattle.cedar_binding.specs.Bindings.{is_listed_id}
 use Rattle.cedar_scope.specs.Scope.{Constraint, any, equals, to_slot}
 use Rattle.cedar_action.specs.Rules.{ActionRule, any_action, just_slot}
 use Rattle.cedar_body.specs.Bodies.{BodyParts}
@@ -22,7 +22,7 @@ use Rattle.cedar_policy_set.specs.Steps.{no_static, not_static, add_static_step,
 use Rattle.cedar_policy_set.specs.Steps.{unlink_step}
 use Rattle.cedar_policy_lines.specs.TwoSets.{TwoSets, with_current, swapped}
 use Rattle.cedar_policy_lines.specs.PolicyCommand.{PolicyCommand, Static, Template, Link, Unlink, Other, Merge, Ids}
-use Rattle.cedar_policy_lines.specs.PolicyCommand.{slots_named, IsPolicyCommand}
+use Rattle.cedar_policy_lines.specs.PolicyCommand.{slots_of_word, IsPolicyCommand}
 use Rattle.cedar_policy_lines.specs.declared.field.TemplateSlots.{TemplateSlots}
 
 -- ---- Texts
@@ -114,27 +114,27 @@ slotted_body i e on_principal on_action on_resource = record {
 
 -- The body of a template with the effect `permit` and these slots.
 abbrev pub template_body : List ℕ → TemplateSlots → BodyParts
-template_body i w = slotted_body i Permit (is_among (slots_named w) Principal) (is_among (slots_named w) Action)
-    (is_among (slots_named w) Resource)
+template_body i w = slotted_body i Permit (is_listed_id (slots_of_word w) Principal) (is_listed_id (slots_of_word w) Action)
+    (is_listed_id (slots_of_word w) Resource)
 
 -- ---- Commands
 
 -- Whether an insertion into the current set has this effect and output, given its step. If the step fails, the sets are
 -- unchanged.
-abbrev pub Joins : Result SetParts Refusal → TwoSets → TwoSets → List ℕ → Type 0
-Joins (Ok b) old new out = (new ≡ with_current old b) × (out ≡ ok_line)
-Joins (Err r) old new out = (new ≡ old) × (out ≡ refused_line r)
+abbrev pub RunsInsertion : Result SetParts Refusal → TwoSets → TwoSets → List ℕ → Type 0
+RunsInsertion (Ok b) old new out = (new ≡ with_current old b) × (out ≡ ok_line)
+RunsInsertion (Err r) old new out = (new ≡ old) × (out ≡ refused_line r)
 
 -- Whether unlinking in the current set has this effect and output, given its step. If the step fails, the sets are
 -- unchanged.
-abbrev pub UnlinkGives : Result Binding Refusal → List ℕ → TwoSets → TwoSets → List ℕ → Type 0
-UnlinkGives (Ok b) i old new out = (new ≡ with_current old (without_id old.current i)) × (out ≡ ok_line)
-UnlinkGives (Err r) i old new out = (new ≡ old) × (out ≡ refused_line r)
+abbrev pub RunsUnlink : Result Binding Refusal → List ℕ → TwoSets → TwoSets → List ℕ → Type 0
+RunsUnlink (Ok b) i old new out = (new ≡ with_current old (without_id old.current i)) × (out ≡ ok_line)
+RunsUnlink (Err r) i old new out = (new ≡ old) × (out ≡ refused_line r)
 
 -- Whether a merge fails with this output: renaming is not allowed, and the output has the first id in conflict. The
 -- sets are unchanged.
-abbrev pub IsRefusedMerge : Bool → TwoSets → TwoSets → List ℕ → Type 0
-IsRefusedMerge rename old new out =
+abbrev pub IsMergeError : Bool → TwoSets → TwoSets → List ℕ → Type 0
+IsMergeError rename old new out =
     (i : List ℕ) × (rest : List (List ℕ)) × (rename ≡ false) × (conflicts old.current old.aside ≡ i ∷ rest)
     × (new ≡ old) × (out ≡ refused_line (occupied i))
 
@@ -147,28 +147,28 @@ IsMerge rename old new out =
     × (new ≡ with_current old (merged old.current old.aside (new_id r))) × (out ≡ merged_line r)
 
 -- Whether a merge has this effect and output: it fails or succeeds.
-abbrev pub MergeGives : Bool → TwoSets → TwoSets → List ℕ → Type 0
-MergeGives rename old new out = IsRefusedMerge rename old new out ⊎ IsMerge rename old new out
+abbrev pub RunsMerge : Bool → TwoSets → TwoSets → List ℕ → Type 0
+RunsMerge rename old new out = IsMergeError rename old new out ⊎ IsMerge rename old new out
 
 -- Whether a command changes the sets `old` to the sets `new` and writes `out`.
-abbrev pub PolicyGives : PolicyCommand → TwoSets → TwoSets → List ℕ → Type 0
-PolicyGives (Static i e) old new out = Joins (add_static_step old.current (static_body i e)) old new out
-PolicyGives (Template i w) old new out = Joins (add_template_step old.current (template_body i w)) old new out
-PolicyGives (Link t l e) old new out = Joins (link_step old.current t l e) old new out
-PolicyGives (Unlink i) old new out = UnlinkGives (unlink_step old.current i) i old new out
-PolicyGives Other old new out = (new ≡ swapped old) × (out ≡ ok_line)
-PolicyGives (Merge rename) old new out = MergeGives rename old new out
-PolicyGives Ids old new out = (new ≡ old) × (out ≡ ids_lines old.current)
+abbrev pub RunsPolicyCommand : PolicyCommand → TwoSets → TwoSets → List ℕ → Type 0
+RunsPolicyCommand (Static i e) old new out = RunsInsertion (add_static_step old.current (static_body i e)) old new out
+RunsPolicyCommand (Template i w) old new out = RunsInsertion (add_template_step old.current (template_body i w)) old new out
+RunsPolicyCommand (Link t l e) old new out = RunsInsertion (link_step old.current t l e) old new out
+RunsPolicyCommand (Unlink i) old new out = RunsUnlink (unlink_step old.current i) i old new out
+RunsPolicyCommand Other old new out = (new ≡ swapped old) × (out ≡ ok_line)
+RunsPolicyCommand (Merge rename) old new out = RunsMerge rename old new out
+RunsPolicyCommand Ids old new out = (new ≡ old) × (out ≡ ids_lines old.current)
 
 -- Whether a command changes the sets `old` to the sets `new` and appends its output. `before` and `after` are the whole
 -- output before and after it.
 abbrev pub PolicyWrites : PolicyCommand → TwoSets → TwoSets → List ℕ → List ℕ → Type 0
-PolicyWrites c old new before after = (text : List ℕ) × PolicyGives c old new text × (after ≡ before ++ text)
+PolicyWrites c old new before after = (text : List ℕ) × RunsPolicyCommand c old new text × (after ≡ before ++ text)
 
 -- Whether fields are run correctly, given the returned truth value. Fields that are a command are run as this command.
 -- Any other fields change nothing.
-abbrev pub TakesPolicy : Bool → List (List ℕ) → TwoSets → TwoSets → List ℕ → List ℕ → Type 0
-TakesPolicy true fs old new before after = (c : PolicyCommand) × IsPolicyCommand c fs
+abbrev pub RunsPolicyFields : Bool → List (List ℕ) → TwoSets → TwoSets → List ℕ → List ℕ → Type 0
+RunsPolicyFields true fs old new before after = (c : PolicyCommand) × IsPolicyCommand c fs
     × PolicyWrites c old new before after
-TakesPolicy false fs old new before after = ((c : PolicyCommand) → IsPolicyCommand c fs → ⊥) × (new ≡ old)
+RunsPolicyFields false fs old new before after = ((c : PolicyCommand) → IsPolicyCommand c fs → ⊥) × (new ≡ old)
     × (after ≡ before)

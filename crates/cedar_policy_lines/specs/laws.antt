@@ -1,5 +1,5 @@
 pub mod Machines
-pub mod NamedSlots
+pub mod SlotFlagLaws
 pub mod OneAnswer
 pub mod OneMerge
 pub mod PolicyReading

@@ -8,12 +8,12 @@ ghost use Rattle.cedar_lines.specs.Reads.{ReadsAs};
 ghost use Rattle.cedar_binding.specs.Views.{env_of};
 ghost use Rattle.cedar_policy_lines.specs.PolicyCommand.{IsPolicyCommand, Static, Template, Link, Other, Ids, bound_more};
 ghost use Rattle.cedar_policy_lines.specs.CommandOf.{policy_command_of};
-ghost use Rattle.cedar_policy_lines.specs.laws.NamedSlots.{is_named, named_alone, bound_if};
+ghost use Rattle.cedar_policy_lines.specs.laws.SlotFlagLaws.{is_named, named_alone, bound_if};
 ghost use Rattle.cedar_policy_lines.specs.laws.PolicyReading.{only, bindings_of, static_of, template_of, link_of};
 ghost use Rattle.cedar_policy_lines.specs.laws.PolicyReading.{unlink_of, merge_of, bare_of, command_by};
 
 use crate::field::{TemplateSlots, binding_of, effect_of, renaming_of, slots_of};
-use crate::named::NamedSlots;
+use crate::slot_flags::SlotFlags;
 use cedar_binding::no_bindings;
 use cedar_body::Effect;
 use cedar_ids::entity::EntityUID;
@@ -152,17 +152,17 @@ fn unbind_unless(values: &mut SlotEnv, slot: SlotId, is_named: bool)
 }
 
 // Returns whether all bound slots are named.
-fn are_named(values: &SlotEnv, named: NamedSlots) -> bool
+fn has_all_flags(values: &SlotEnv, named: SlotFlags) -> bool
     ensures { result ≡ list_all (is_named named) (keys_of values.now.entries) }
 {
     values.keys().all(|slot| named.has(*slot))
 }
 
 // Unbinds the slots that are not named. The check before avoids hashing, because mostly there are none.
-fn unbind_others(values: &mut SlotEnv, named: NamedSlots)
+fn unbind_unflagged(values: &mut SlotEnv, named: SlotFlags)
     ensures { env_of values.new ≡ named_alone named (env_of values.old) }
 {
-    if are_named(values, named) {
+    if has_all_flags(values, named) {
         return;
     }
     unbind_unless(values, SlotId::Principal, named.has(SlotId::Principal));
@@ -181,7 +181,7 @@ fn read_bindings(
     ensures { IfOk result (λ are. (if are then Some (env_of room.new.values) else None)
         ≡ bindings_of (map (λ f. f.now) fields.now)) }
 {
-    let mut named = NamedSlots::none();
+    let mut named = SlotFlags::none();
     for field in fields {
         let Some((slot, uid)) = binding_of(alloc, known, &mut room.eid, field)? else {
             return Ok(false);
@@ -192,7 +192,7 @@ fn read_bindings(
         bind(&mut room.eid, &mut room.values, slot, uid)?;
         named = named.with(slot);
     }
-    unbind_others(&mut room.values, named);
+    unbind_unflagged(&mut room.values, named);
     Ok(true)
 }
 
@@ -291,7 +291,7 @@ fn merge_of(fields: &[&str]) -> Option<PolicyCommand>
 }
 
 // Reads the command `other`.
-fn other_of(fields: &[&str]) -> Option<PolicyCommand>
+fn swap_command_of(fields: &[&str]) -> Option<PolicyCommand>
     ensures { option_map policy_command_of result ≡ bare_of Other (map (λ f. f.now) fields.now) }
 {
     if fields.is_empty() {
@@ -333,7 +333,7 @@ fn command_by(
         return unlink_of(alloc, fields);
     }
     if word == "other" {
-        return Ok(other_of(fields));
+        return Ok(swap_command_of(fields));
     }
     if word == "merge" {
         return Ok(merge_of(fields));

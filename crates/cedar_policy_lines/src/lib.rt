@@ -9,7 +9,7 @@ mod command;
 pub mod field;
 pub mod machine;
 pub mod making;
-mod named;
+mod slot_flags;
 mod writing;
 
 pub use command::{PolicyCommand, read_policy_command};

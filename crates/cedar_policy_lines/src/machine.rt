@@ -8,7 +8,7 @@ ghost use Rattle.cedar_policy_lines.specs.PolicyCommand.{Link as link_command, U
 ghost use Rattle.cedar_policy_lines.specs.PolicyCommand.{Other as other_command, Merge as merge_command};
 ghost use Rattle.cedar_policy_lines.specs.PolicyCommand.{IsPolicyCommand, Ids as ids_command};
 ghost use Rattle.cedar_policy_lines.specs.CommandOf.{policy_command_of};
-ghost use Rattle.cedar_policy_lines.specs.PolicyOutput.{PolicyWrites, TakesPolicy};
+ghost use Rattle.cedar_policy_lines.specs.PolicyOutput.{PolicyWrites, RunsPolicyFields};
 ghost use Rattle.cedar_policy_lines.specs.laws.PolicyReading.{link_of, static_of, template_of};
 ghost use Rattle.cedar_policy_lines.specs.laws.Machines.{TakesAs};
 
@@ -174,7 +174,7 @@ impl<S: BuildHasher + Copy> PolicySets<S> {
     }
 
     // Runs the fields after `static` if they are a command, and returns whether they are.
-    fn take_static(
+    fn remove_static_by_id(
         &mut self,
         alloc: Global,
         fields: &[&str],
@@ -193,7 +193,7 @@ impl<S: BuildHasher + Copy> PolicySets<S> {
     }
 
     // Runs the fields after `template` if they are a command, and returns whether they are.
-    fn take_template(
+    fn remove_template_by_id(
         &mut self,
         alloc: Global,
         fields: &[&str],
@@ -213,7 +213,7 @@ impl<S: BuildHasher + Copy> PolicySets<S> {
 
     // Runs the fields after `link` if they are a command, and returns whether they are. The link is made from the
     // buffers in which it was read.
-    fn take_link(
+    fn remove_link_by_id(
         &mut self,
         alloc: Global,
         known: &mut KnownTypes,
@@ -235,14 +235,14 @@ impl<S: BuildHasher + Copy> PolicySets<S> {
     }
 
     // Reads the fields of a line as a command and runs it. Returns whether they are a command.
-    fn take_command(
+    fn apply_command(
         &mut self,
         alloc: Global,
         known: &mut KnownTypes,
         fields: &[&str],
         out: &mut Vec<u8>,
     ) -> Result<bool, AllocError>
-        ensures { IfOk result (λ taken. TakesPolicy taken (map (λ f. f.now) fields.now)
+        ensures { IfOk result (λ taken. RunsPolicyFields taken (map (λ f. f.now) fields.now)
             self.old self.new out.old.items out.new.items) }
     {
         match self.read(alloc, known, fields)? {
@@ -269,29 +269,29 @@ impl<S: BuildHasher + Copy> PolicySets<S> {
     /// # Differences from cedar-policy-core
     ///
     /// The original has no such function.
-    pub fn take_fields(
+    pub fn apply_fields(
         &mut self,
         alloc: Global,
         known: &mut KnownTypes,
         fields: &[&str],
         out: &mut Vec<u8>,
     ) -> Result<bool, AllocError>
-        ensures { IfOk result (λ taken. TakesPolicy taken (map (λ f. f.now) fields.now)
+        ensures { IfOk result (λ taken. RunsPolicyFields taken (map (λ f. f.now) fields.now)
             self.old self.new out.old.items out.new.items) }
     {
         let Some((word, rest)) = fields.split_first() else {
             return Ok(false);
         };
         if *word == "link" {
-            return self.take_link(alloc, known, rest, out);
+            return self.remove_link_by_id(alloc, known, rest, out);
         }
         if *word == "static" {
-            return self.take_static(alloc, rest, out);
+            return self.remove_static_by_id(alloc, rest, out);
         }
         if *word == "template" {
-            return self.take_template(alloc, rest, out);
+            return self.remove_template_by_id(alloc, rest, out);
         }
-        self.take_command(alloc, known, fields, out)
+        self.apply_command(alloc, known, fields, out)
     }
 
     // Runs `unlink`.

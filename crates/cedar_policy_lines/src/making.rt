@@ -2,9 +2,9 @@
 ghost use Rattle.std.specs.Prelude.{◌≡◌, [], IfOk};
 ghost use Rattle.cedar_policy_lines.specs.PolicyOutput.{slot_constraint, slot_rule, slotted_body, static_body};
 ghost use Rattle.cedar_policy_lines.specs.PolicyOutput.{template_body};
-ghost use Rattle.cedar_policy_lines.specs.PolicyCommand.{slots_named};
+ghost use Rattle.cedar_policy_lines.specs.PolicyCommand.{slots_of_word};
 ghost use Rattle.cedar_action.specs.Views.{rule_of};
-ghost use Rattle.cedar_binding.specs.Bindings.{is_among};
+ghost use Rattle.cedar_binding.specs.Bindings.{is_listed_id};
 ghost use Rattle.cedar_terms.specs.declared.slot.SlotId.TheVariants.{Principal, Action, Resource};
 
 use crate::field::TemplateSlots;
@@ -67,7 +67,7 @@ pub(crate) fn unconstrained(
 
 // Returns whether the slots include the principal's.
 fn on_principal(slots: TemplateSlots) -> bool
-    ensures { result ≡ is_among (slots_named slots) Principal }
+    ensures { result ≡ is_listed_id (slots_of_word slots) Principal }
 {
     match slots {
         TemplateSlots::NoSlots => false,
@@ -81,7 +81,7 @@ fn on_principal(slots: TemplateSlots) -> bool
 
 // Returns whether the slots include the action's.
 fn on_action(slots: TemplateSlots) -> bool
-    ensures { result ≡ is_among (slots_named slots) Action }
+    ensures { result ≡ is_listed_id (slots_of_word slots) Action }
 {
     match slots {
         TemplateSlots::NoSlots => false,
@@ -95,7 +95,7 @@ fn on_action(slots: TemplateSlots) -> bool
 
 // Returns whether the slots include the resource's.
 fn on_resource(slots: TemplateSlots) -> bool
-    ensures { result ≡ is_among (slots_named slots) Resource }
+    ensures { result ≡ is_listed_id (slots_of_word slots) Resource }
 {
     match slots {
         TemplateSlots::NoSlots => false,

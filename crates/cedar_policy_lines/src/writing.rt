@@ -3,14 +3,14 @@ ghost use Rattle.std.specs.Prelude.{◌≡◌, ◌++◌, ◌∷◌, OnOk, IfOk, 
 ghost use Rattle.std.specs.List.{flat_map};
 ghost use Rattle.std.specs.String.{string_bytes};
 ghost use Rattle.cedar_ids.specs.UidOf.{uid_parts};
-ghost use Rattle.cedar_policy_set.specs.Refusals.{told_by_set, told_by_linking, told_by_unlinking};
+ghost use Rattle.cedar_policy_set.specs.Refusals.{set_error_of, linking_error_of, unlinking_error_of};
 ghost use Rattle.cedar_policy_merge.specs.Merge.{body_ids, policy_ids};
 ghost use Rattle.cedar_policy_lines.specs.PolicyOutput.{ok_line, merged_line, id_text, uid_text, id_field};
 ghost use Rattle.cedar_policy_lines.specs.PolicyOutput.{renamed_fields, ids_lines};
 ghost use Rattle.cedar_policy_lines.specs.laws.Machines.{Said, SaidMerged, refused_with};
 
 use cedar_ids::entity::EntityUID;
-use cedar_ids::escape::is_own_escape;
+use cedar_ids::escape::is_extra_escape;
 use cedar_ids::policy_id::PolicyID;
 use cedar_lines::writing::push_line;
 use cedar_policy::{LinkingError, Policy};
@@ -80,7 +80,7 @@ fn push_id_text(alloc: Global, out: &mut Vec<u8>, id: &PolicyID) -> Result<(), A
     ensures { OnOk result (out.new.items ≡ out.old.items ++ id_text id.now) }
 {
     let own = id.as_ref().as_bytes();
-    if is_own_escape(own) {
+    if is_extra_escape(own) {
         out.extend_from_slice(own)?;
         return Ok(());
     }
@@ -117,7 +117,7 @@ pub(crate) fn push_by_set(
     out: &mut Vec<u8>,
     answer: Result<(), PolicySetError>,
 ) -> Result<(), AllocError>
-    ensures { OnOk result (Said told_by_set answer out.old.items out.new.items) }
+    ensures { OnOk result (Said set_error_of answer out.old.items out.new.items) }
 {
     match answer {
         Ok(()) => push_ok(out),
@@ -132,7 +132,7 @@ pub(crate) fn push_by_linking(
     out: &mut Vec<u8>,
     answer: Result<(), LinkingError>,
 ) -> Result<(), AllocError>
-    ensures { OnOk result (Said told_by_linking answer out.old.items out.new.items) }
+    ensures { OnOk result (Said linking_error_of answer out.old.items out.new.items) }
 {
     match answer {
         Ok(()) => push_ok(out),
@@ -152,7 +152,7 @@ pub(crate) fn push_by_unlinking(
     out: &mut Vec<u8>,
     answer: Result<Policy, PolicySetUnlinkError>,
 ) -> Result<(), AllocError>
-    ensures { OnOk result (Said told_by_unlinking answer out.old.items out.new.items) }
+    ensures { OnOk result (Said unlinking_error_of answer out.old.items out.new.items) }
 {
     match answer {
         Ok(_policy) => push_ok(out),

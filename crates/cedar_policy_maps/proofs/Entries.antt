@@ -25,7 +25,7 @@ use Rattle.cedar_policy_maps.specs.laws.SetLaws.{no_body_at, no_policy_at, templ
 use Rattle.cedar_policy_maps.specs.laws.ListedLaws.{changed, with_listed, IsKeyed, lookup_is, keyed_last}
 use Rattle.cedar_policy_maps.specs.laws.GatherLaws.{with_gathered, gathered, gathered_unless, links_in, is_elsewhere}
 use Rattle.cedar_policy_maps.specs.laws.GatherLaws.{elsewhere_in}
-use Rattle.cedar_policy_maps.specs.laws.GrowLaws.{listed_keys}
+use Rattle.cedar_policy_maps.specs.laws.BulkInsertSteps.{listed_keys}
 use Rattle.cedar_policy_maps.specs.laws.Walks.{parted, bodies_more, policies_more}
 use Rattle.cedar_policy_maps.specs.laws.MapLaws.{listed_at, all_listed}
 use Rattle.cedar_policy_maps.specs.laws.OnceLaws.{is_at, before_at, find-unless, any-filter_none, any-map}

@@ -1,9 +1,9 @@
 pub mod PolicySets
 pub mod Codes
 pub mod Founds
-pub mod Joins
+pub mod Insertions
 pub mod Lists
 pub mod Maps
-pub mod TakenIn
+pub mod BulkInsert
 pub mod Views
 pub mod laws

@@ -49,14 +49,14 @@ abbrev pub policy_binding : PolicyParts → Binding
 policy_binding p = binding_by p.link p
 
 -- The binding of an id, from the policy and the body with the id. A body without a policy of the same id is a template.
-abbrev pub bound_among : Option PolicyParts → Option BodyParts → Option Binding
-bound_among (Some p) t = Some (policy_binding p)
-bound_among None (Some t) = Some (Template t)
-bound_among None None = None
+abbrev pub binding_from : Option PolicyParts → Option BodyParts → Option Binding
+binding_from (Some p) t = Some (policy_binding p)
+binding_from None (Some t) = Some (Template t)
+binding_from None None = None
 
 -- The binding of an id in a set, if the id is in use.
 abbrev pub bound_at : SetParts → List ℕ → Option Binding
-bound_at b i = bound_among (find (is_policy_at i) b.policies) (find (is_body_at i) b.bodies)
+bound_at b i = binding_from (find (is_policy_at i) b.policies) (find (is_body_at i) b.bodies)
 
 -- The template of a binding, if the binding is a template.
 abbrev pub template_bound : Option Binding → Option BodyParts
@@ -76,8 +76,8 @@ abbrev pub with_policy : SetParts → PolicyParts → SetParts
 with_policy b p = record { bodies = b.bodies; policies = b.policies ++ p ∷ [] }
 
 -- The set with a body and a policy appended.
-abbrev pub with_both : SetParts → BodyParts → PolicyParts → SetParts
-with_both b t p = record { bodies = b.bodies ++ t ∷ []; policies = b.policies ++ p ∷ [] }
+abbrev pub with_body_and_policy : SetParts → BodyParts → PolicyParts → SetParts
+with_body_and_policy b t p = record { bodies = b.bodies ++ t ∷ []; policies = b.policies ++ p ∷ [] }
 
 -- The set without the body and the policy with this id. The order of the others does not change.
 abbrev pub without_id : SetParts → List ℕ → SetParts
@@ -128,5 +128,5 @@ pub record IsPolicySet (b : SetParts) : Type 0 where
   pub held : AreHeld b b.policies
 
 -- Whether a policy is not a link with the id of its template.
-abbrev pub HasOwnId : PolicyParts → Type 0
-HasOwnId p = p.link ≡ Some p.template.id → ⊥
+abbrev pub HasDistinctId : PolicyParts → Type 0
+HasDistinctId p = p.link ≡ Some p.template.id → ⊥

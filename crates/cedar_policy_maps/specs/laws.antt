@@ -1,10 +1,10 @@
 pub mod SetLaws
 pub mod GatherLaws
-pub mod GrowLaws
+pub mod BulkInsertSteps
 pub mod ListedLaws
 pub mod MapLaws
 pub mod OnceLaws
 pub mod RawMaps
-pub mod TakenInLaws
+pub mod BulkInsertLaws
 pub mod TemplateLaws
 pub mod Walks

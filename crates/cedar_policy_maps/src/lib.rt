@@ -4,19 +4,19 @@
 //!
 //! - Contracts see the maps as two lists of a policy set, the values of the first two maps (`specs/PolicySets.antt`).
 //! - The invariant of [`PolicyMaps`] states how the three maps agree (`specs/Maps.antt`).
-//! - Insertions must preserve the invariant, which the caller must prove (`specs/Joins.antt`, `specs/TakenIn.antt`).
+//! - Insertions must preserve the invariant, which the caller must prove (`specs/Insertions.antt`, `specs/BulkInsert.antt`).
 #![tactic(auto)]
 
-mod found;
-mod grow;
+mod access;
+mod bulk_insert;
 pub mod iters;
-mod kept;
 mod lists;
 mod maps;
 pub mod policy_maps;
+mod policy_or_template;
 
-pub use found::Found;
-pub use grow::Parted;
+pub use bulk_insert::SharedAndNew;
 pub use iters::{AllTemplates, IntoPolicies, LinkedIds, Policies, StaticPolicies, Templates};
 pub use lists::{has_no_slots, is_link};
 pub use policy_maps::PolicyMaps;
+pub use policy_or_template::PolicyOrTemplate;

@@ -100,7 +100,7 @@ pub(crate) fn list_policy<S: BuildHasher + Copy>(
 }
 
 // Reserves space for one more policy and its body, and returns their keys and the shared body.
-pub(crate) fn room_for_both<S: BuildHasher + Copy>(
+pub(crate) fn reserve_with_body<S: BuildHasher + Copy>(
     templates: &mut IndexMap<PolicyID, Rc<Template>, S>,
     links: &mut IndexMap<PolicyID, Policy, S>,
     policy: &Policy,
@@ -235,12 +235,12 @@ pub(crate) fn bodies_by_id<S: BuildHasher + Copy>(
     ensures values { IfOk result (λ m. values_of m.entries ≡ bodies.items) }
 {
     let mut templates = IndexMap::with_capacity_and_hasher(alloc, bodies.len(), hasher)?;
-    put_bodies(&mut templates, bodies)?;
+    fill_bodies(&mut templates, bodies)?;
     Ok(templates)
 }
 
 // Fills an empty map with bodies, by their ids.
-fn put_bodies<S: BuildHasher + Copy>(
+fn fill_bodies<S: BuildHasher + Copy>(
     templates: &mut IndexMap<PolicyID, Rc<Template>, S>,
     bodies: Vec<Rc<Template>>,
 ) -> Result<(), AllocError>
@@ -250,13 +250,13 @@ fn put_bodies<S: BuildHasher + Copy>(
     ensures values { OnOk result (values_of templates.new.entries ≡ bodies.items) }
 {
     for template in bodies {
-        put_body(templates, template)?;
+        push_body(templates, template)?;
     }
     Ok(())
 }
 
 // Appends a body with a new id.
-fn put_body<S: BuildHasher + Copy>(
+fn push_body<S: BuildHasher + Copy>(
     templates: &mut IndexMap<PolicyID, Rc<Template>, S>,
     template: Rc<Template>,
 ) -> Result<(), AllocError>
@@ -278,12 +278,12 @@ pub(crate) fn policies_by_id<S: BuildHasher + Copy>(
     ensures values { IfOk result (λ m. values_of m.entries ≡ policies.items) }
 {
     let mut links = IndexMap::with_capacity_and_hasher(alloc, policies.len(), hasher)?;
-    put_policies(&mut links, policies)?;
+    fill_policies(&mut links, policies)?;
     Ok(links)
 }
 
 // Fills an empty map with policies, by their ids.
-fn put_policies<S: BuildHasher + Copy>(
+fn fill_policies<S: BuildHasher + Copy>(
     links: &mut IndexMap<PolicyID, Policy, S>,
     policies: Vec<Policy>,
 ) -> Result<(), AllocError>
@@ -293,13 +293,13 @@ fn put_policies<S: BuildHasher + Copy>(
     ensures values { OnOk result (values_of links.new.entries ≡ policies.items) }
 {
     for policy in policies {
-        put_policy(links, policy)?;
+        insert_policy(links, policy)?;
     }
     Ok(())
 }
 
 // Appends a policy with a new id.
-fn put_policy<S: BuildHasher + Copy>(
+fn insert_policy<S: BuildHasher + Copy>(
     links: &mut IndexMap<PolicyID, Policy, S>,
     policy: Policy,
 ) -> Result<(), AllocError>
@@ -352,13 +352,13 @@ fn no_ids<S: BuildHasher + Copy>(
 {
     let mut map = IndexMap::with_hasher(alloc, *known.hasher());
     for template in bodies {
-        put_no_ids(&mut map, template, known)?;
+        push_empty_list(&mut map, template, known)?;
     }
     Ok(map)
 }
 
 // Appends an empty list for a template, unless a policy has its id.
-fn put_no_ids<S: BuildHasher + Copy>(
+fn push_empty_list<S: BuildHasher + Copy>(
     map: &mut IndexMap<PolicyID, IndexSet<PolicyID, S>, S>,
     template: &Rc<Template>,
     known: &IndexMap<PolicyID, Policy, S>,
@@ -439,13 +439,13 @@ fn gather_id<S: BuildHasher + Copy>(
     ensures { OnOk result (lists_of map.new.entries ≡ with_gathered body.now id.now (lists_of map.old.entries)) }
 {
     match map.get_mut(body) {
-        None => put_list(map, body, id),
+        None => push_list(map, body, id),
         Some(ids) => insert_id_copy(ids, id),
     }
 }
 
 // Appends the list of one id with a new key. Both are copied.
-fn put_list<S: BuildHasher + Copy>(
+fn push_list<S: BuildHasher + Copy>(
     map: &mut IndexMap<PolicyID, IndexSet<PolicyID, S>, S>,
     body: &PolicyID,
     id: &PolicyID,
@@ -458,7 +458,7 @@ fn put_list<S: BuildHasher + Copy>(
 }
 
 // Keeps the lists whose keys are not ids of policies, in order.
-pub(crate) fn keep_templates<S: BuildHasher + Copy>(
+pub(crate) fn filter_templates<S: BuildHasher + Copy>(
     map: &mut IndexMap<PolicyID, IndexSet<PolicyID, S>, S>,
     links: &IndexMap<PolicyID, Policy, S>,
 )

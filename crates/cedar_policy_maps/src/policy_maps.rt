@@ -6,7 +6,7 @@ ghost use Rattle.cedar_policy_maps.specs.Maps.{set_in, maps_of, CanMakeSet};
 
 use crate::iters::{AllTemplates, IntoPolicies, Policies, StaticPolicies, Templates};
 use crate::lists::read_policies;
-use crate::maps::{copy_of_bodies, copy_of_ids, copy_of_policies, keep_templates};
+use crate::maps::{copy_of_bodies, copy_of_ids, copy_of_policies, filter_templates};
 use cedar_ids::policy_id::PolicyID;
 use cedar_policy::{Policy, Template};
 use indexmap::{IndexMap, IndexSet};
@@ -90,7 +90,7 @@ impl<S: BuildHasher + Copy> PolicyMaps<S> {
         let _policies = links.len();
         read_policies(links.values().as_slice());
         let mut template_to_links_map = template_to_links_map;
-        keep_templates(&mut template_to_links_map, &links);
+        filter_templates(&mut template_to_links_map, &links);
         PolicyMaps {
             templates,
             links,

@@ -1,1 +1,1 @@
-mod Parted
+mod SharedAndNew

@@ -79,18 +79,18 @@ abbrev pub renamed_policy : (List ℕ → List ℕ) → PolicyParts → PolicyPa
 renamed_policy c p = record { template = renamed_body c p.template; link = option_map c p.link; env = p.env }
 
 -- The new bodies of a merge: the bodies of a list under their new ids, except those whose ids this set uses.
-abbrev pub joined_bodies : SetParts → (List ℕ → List ℕ) → List BodyParts → List BodyParts
-joined_bodies here c ts = filter (λ t. not (is_bound here t.id)) (map (renamed_body c) ts)
+abbrev pub merged_bodies : SetParts → (List ℕ → List ℕ) → List BodyParts → List BodyParts
+merged_bodies here c ts = filter (λ t. not (is_bound here t.id)) (map (renamed_body c) ts)
 
 -- The new policies of a merge: the policies of a list under their new ids, except those whose ids this set uses.
-abbrev pub joined_policies : SetParts → (List ℕ → List ℕ) → List PolicyParts → List PolicyParts
-joined_policies here c ps = filter (λ p. not (is_bound here (policy_id p))) (map (renamed_policy c) ps)
+abbrev pub merged_policies : SetParts → (List ℕ → List ℕ) → List PolicyParts → List PolicyParts
+merged_policies here c ps = filter (λ p. not (is_bound here (policy_id p))) (map (renamed_policy c) ps)
 
 -- The merged set: the bodies of this set and the new bodies of the other set, and the policies in the same way.
 abbrev pub merged : SetParts → SetParts → (List ℕ → List ℕ) → SetParts
 merged here other c = record {
-  bodies = here.bodies ++ joined_bodies here c other.bodies;
-  policies = here.policies ++ joined_policies here c other.policies;
+  bodies = here.bodies ++ merged_bodies here c other.bodies;
+  policies = here.policies ++ merged_policies here c other.policies;
 }
 
 -- The new id of an id, given a list of renamed ids with their new ids. An id that is not in the list stays as it is.

@@ -5,7 +5,7 @@ pub mod GatherSteps
 pub mod LookedAtLaws
 pub mod MergeLaws
 pub mod MergeSteps
-pub mod MergeTakesIn
+pub mod MergeInserts
 pub mod Numerals
 pub mod RenamingLaws
 pub mod SharedLaws

@@ -6,7 +6,7 @@
 //! result. `specs/Fresh.antt` defines which ids are free.
 #![tactic(auto)]
 
-mod found;
+mod cursor_lookup;
 mod fresh;
 mod merge;
 mod places;

@@ -14,12 +14,12 @@ ghost use Rattle.cedar_ids.specs.Texts.{same_text};
 ghost use Rattle.cedar_policy_maps.specs.PolicySets.{AreOnce, bound_at, is_bound, is_body_at};
 ghost use Rattle.cedar_policy_merge.specs.Fresh.{is_bound_in_either};
 ghost use Rattle.cedar_policy_merge.specs.Merge.{has_body, has_policy};
-ghost use Rattle.cedar_policy_merge.specs.Merge.{conflicts, DifferAt, renamed_body, renamed_policy, joined_bodies};
-ghost use Rattle.cedar_policy_merge.specs.Merge.{joined_policies, merged, new_id, IsRenaming, MergesSets};
+ghost use Rattle.cedar_policy_merge.specs.Merge.{conflicts, DifferAt, renamed_body, renamed_policy, merged_bodies};
+ghost use Rattle.cedar_policy_merge.specs.Merge.{merged_policies, merged, new_id, IsRenaming, MergesSets};
 ghost use Rattle.cedar_policy_merge.specs.laws.GatherLaws.{Bodies, Policies, Links, Templates, in_groups};
 ghost use Rattle.cedar_policy_merge.specs.laws.GatherLaws.{conflicting_bodies, conflicting_policies};
 ghost use Rattle.cedar_policy_merge.specs.laws.LookedAtLaws.{agree, clashes, lies_over};
-ghost use Rattle.cedar_policy_merge.specs.laws.MergeTakesIn.{standing_bodies};
+ghost use Rattle.cedar_policy_merge.specs.laws.MergeInserts.{standing_bodies};
 ghost use Rattle.cedar_policy_merge.specs.laws.MergeSteps.{Refuses, with_template_renamed};
 ghost use Rattle.cedar_policy_merge.specs.laws.RenamingLaws.{AreFreeHere, is_in};
 ghost use Rattle.cedar_policy_merge.specs.laws.MergeLaws.{AreAll};
@@ -27,13 +27,15 @@ ghost use Rattle.cedar_policy_merge.specs.laws.SharedLaws.{IsOnBody, IsOnJoined}
 ghost use Rattle.cedar_policy_merge.specs.laws.TemplatesAlike.{AllStandUnless, AreSameUnless, StandsUnless};
 ghost use Rattle.cedar_policy_maps.specs.Views.{bodies_of};
 
-use crate::found::{Places, body_at, has_body, has_policy, joined_at, place_of_policy, policy_at};
+use crate::cursor_lookup::{
+    Places, body_at, has_body, has_policy, new_body_at, place_of_policy, policy_at,
+};
 use crate::fresh::fresh_ids;
 use crate::places::are_placed_as;
 use cedar_binding::same_bindings;
 use cedar_ids::policy_id::PolicyID;
 use cedar_policy::{LinkingError, Policy, Template};
-use cedar_policy_maps::{Parted, PolicyMaps, is_link};
+use cedar_policy_maps::{PolicyMaps, SharedAndNew, is_link};
 use cedar_policy_set_errors::err::PolicySetError;
 use indexmap::{IndexMap, IndexSet};
 use std::alloc::{AllocError, Global};
@@ -76,12 +78,12 @@ pub fn merge_maps<S: BuildHasher + Copy>(
         return Err(PolicySetError::Occupied { id: id.clone()? });
     }
     let renaming = fresh_ids(alloc, ids, here, other)?;
-    put_merged(alloc, here, other, &renaming)?;
+    store_merged(alloc, here, other, &renaming)?;
     Ok(renaming)
 }
 
 // Inserts the bindings of the other set under their new ids. All allocations come before the first change.
-fn put_merged<S: BuildHasher + Copy>(
+fn store_merged<S: BuildHasher + Copy>(
     alloc: Global,
     here: &mut PolicyMaps<S>,
     other: &PolicyMaps<S>,
@@ -96,7 +98,7 @@ fn put_merged<S: BuildHasher + Copy>(
     let bodies = parted_bodies(alloc, here, other, renaming)?;
     let parted = parted_policies(alloc, here, other, renaming, &bodies.join)?;
     let (policies, shares) = parted;
-    here.take_in(alloc, bodies, policies)?;
+    here.insert_bulk(alloc, bodies, policies)?;
     here.share_templates(shares);
     Ok(())
 }
@@ -208,7 +210,7 @@ fn gather_body<S: BuildHasher + Copy>(
     match body_at(here, own, &mut places.body) {
         None => list_id(links, own, here.has_policy(own)),
         Some(stands) => {
-            let clashes = is_other_body(here, other, stands, template, places);
+            let clashes = is_different_body(here, other, stands, template, places);
             gather_id(ids, own, clashes)
         }
     }
@@ -257,7 +259,7 @@ fn gather_policy<S: BuildHasher + Copy>(
     match policy_at(here, own, next) {
         None => list_id(templates, own, here.has_body(own)),
         Some(stands) => {
-            let clashes = is_other_policy(ids, stands, policy);
+            let clashes = is_different_policy(ids, stands, policy);
             gather_id(ids, own, clashes)
         }
     }
@@ -289,7 +291,7 @@ fn list_id(ids: &mut Vec<PolicyID>, id: &PolicyID, clashes: bool) -> Result<(), 
 
 // Returns whether two bodies with one id are bound differently. If both sets have a policy with the id and the bodies
 // are equal, both policies are static and equal.
-fn is_other_body<S: BuildHasher + Copy>(
+fn is_different_body<S: BuildHasher + Copy>(
     here: &PolicyMaps<S>,
     other: &PolicyMaps<S>,
     stands: &Template,
@@ -320,7 +322,7 @@ fn have_policies_alike<S: BuildHasher + Copy>(
 
 // Returns whether two policies with one id are bound differently and one of them is a link. Static policies are
 // compared by their bodies.
-fn is_other_policy<S: BuildHasher + Copy>(
+fn is_different_policy<S: BuildHasher + Copy>(
     ids: &IndexSet<PolicyID, S>,
     stands: &Policy,
     policy: &Policy,
@@ -361,14 +363,14 @@ fn is_same_template<S: BuildHasher + Copy>(
     if stands.id() != template.id() {
         return false;
     }
-    if is_among(ids, template.id()) {
+    if is_listed_id(ids, template.id()) {
         return stands == template;
     }
     true
 }
 
 // Returns whether an id is in the set. Does not hash the id if the set is empty.
-fn is_among<S: BuildHasher + Copy>(ids: &IndexSet<PolicyID, S>, id: &PolicyID) -> bool
+fn is_listed_id<S: BuildHasher + Copy>(ids: &IndexSet<PolicyID, S>, id: &PolicyID) -> bool
     ensures { result ≡ is_in id.now ids.now.keys }
 {
     if ids.is_empty() {
@@ -410,7 +412,7 @@ fn new_of<'a, S: BuildHasher + Copy>(
 
 // Returns whether this set uses the id of a body of the other set after renaming. This set uses no new id. Bodies are
 // checked first, because most ids are found there.
-fn stands_here<S: BuildHasher + Copy>(
+fn is_bound_in_target<S: BuildHasher + Copy>(
     here: &PolicyMaps<S>,
     new: Option<&PolicyID>,
     id: &PolicyID,
@@ -426,7 +428,7 @@ fn stands_here<S: BuildHasher + Copy>(
 }
 
 // Returns the place of this set's policy with this id after renaming. This set uses no new id.
-fn place_here<S: BuildHasher + Copy>(
+fn position_of<S: BuildHasher + Copy>(
     here: &PolicyMaps<S>,
     new: Option<&PolicyID>,
     id: &PolicyID,
@@ -443,7 +445,7 @@ fn place_here<S: BuildHasher + Copy>(
 }
 
 // Returns whether a body of this set has this id after renaming. This set uses no new id.
-fn has_body_here<S: BuildHasher + Copy>(
+fn contains_body<S: BuildHasher + Copy>(
     here: &PolicyMaps<S>,
     new: Option<&PolicyID>,
     id: &PolicyID,
@@ -458,7 +460,7 @@ fn has_body_here<S: BuildHasher + Copy>(
 }
 
 // Appends a value to the existing ones (`stand`) or to the new ones (`join`).
-fn part<T: Drop>(parted: &mut Parted<T>, stands: bool, thing: T) -> Result<(), AllocError>
+fn part<T: Drop>(parted: &mut SharedAndNew<T>, stands: bool, thing: T) -> Result<(), AllocError>
     ensures stand { OnOk result (parted.new.stand.items
         ≡ parted.old.stand.items ++ (if stands then thing ∷ [] else [])) }
     ensures join { OnOk result (parted.new.join.items ≡ parted.old.join.items
@@ -478,14 +480,14 @@ fn parted_bodies<S: BuildHasher + Copy>(
     here: &PolicyMaps<S>,
     other: &PolicyMaps<S>,
     renaming: &IndexMap<PolicyID, PolicyID, S>,
-) -> Result<Parted<Rc<Template>>, AllocError>
+) -> Result<SharedAndNew<Rc<Template>>, AllocError>
     requires { AreFreeHere here.now renaming.now.entries }
     ensures stand { IfOk result (λ p. bodies_of p.stand.items
         ≡ standing_bodies here.now (new_id renaming.now.entries) other.now.bodies) }
     ensures join { IfOk result (λ p. bodies_of p.join.items
-        ≡ joined_bodies here.now (new_id renaming.now.entries) other.now.bodies) }
+        ≡ merged_bodies here.now (new_id renaming.now.entries) other.now.bodies) }
 {
-    let mut parted = Parted::new(alloc);
+    let mut parted = SharedAndNew::new(alloc);
     part_bodies(alloc, &mut parted, here, other.shared_bodies(), renaming)?;
     Ok(parted)
 }
@@ -493,7 +495,7 @@ fn parted_bodies<S: BuildHasher + Copy>(
 // Splits these bodies, and appends each to the existing or to the new ones.
 fn part_bodies<S: BuildHasher + Copy>(
     alloc: Global,
-    parted: &mut Parted<Rc<Template>>,
+    parted: &mut SharedAndNew<Rc<Template>>,
     here: &PolicyMaps<S>,
     theirs: &[Rc<Template>],
     renaming: &IndexMap<PolicyID, PolicyID, S>,
@@ -503,7 +505,7 @@ fn part_bodies<S: BuildHasher + Copy>(
         ≡ bodies_of parted.old.stand.items ++ standing_bodies here.now (new_id renaming.now.entries)
         (bodies_of theirs.now)) }
     ensures join { OnOk result (bodies_of parted.new.join.items
-        ≡ bodies_of parted.old.join.items ++ joined_bodies here.now (new_id renaming.now.entries)
+        ≡ bodies_of parted.old.join.items ++ merged_bodies here.now (new_id renaming.now.entries)
         (bodies_of theirs.now)) }
 {
     let mut next = 0;
@@ -516,7 +518,7 @@ fn part_bodies<S: BuildHasher + Copy>(
 // Appends a body under its new id to the existing or to the new ones.
 fn part_body<S: BuildHasher + Copy>(
     alloc: Global,
-    parted: &mut Parted<Rc<Template>>,
+    parted: &mut SharedAndNew<Rc<Template>>,
     here: &PolicyMaps<S>,
     template: &Rc<Template>,
     renaming: &IndexMap<PolicyID, PolicyID, S>,
@@ -527,11 +529,11 @@ fn part_body<S: BuildHasher + Copy>(
         ≡ bodies_of parted.old.stand.items ++ standing_bodies here.now (new_id renaming.now.entries)
         (template.now.value ∷ [])) }
     ensures join { OnOk result (bodies_of parted.new.join.items
-        ≡ bodies_of parted.old.join.items ++ joined_bodies here.now (new_id renaming.now.entries)
+        ≡ bodies_of parted.old.join.items ++ merged_bodies here.now (new_id renaming.now.entries)
         (template.now.value ∷ [])) }
 {
     let new = new_of(renaming, template.id());
-    let stands = stands_here(here, new, template.id(), next);
+    let stands = is_bound_in_target(here, new, template.id(), next);
     part(parted, stands, renamed_body(alloc, template, new)?)
 }
 
@@ -556,8 +558,8 @@ fn renamed_body(
 // - `shares`: the templates of other existing policies, each with the place of its policy in this set.
 // - `next` and `joined`: the places to try first, in this set's policies and in the new bodies.
 #[derive(Drop)]
-struct PartedPolicies {
-    policies: Parted<Policy>,
+struct SharedAndNewPolicies {
+    policies: SharedAndNew<Policy>,
     shares: Vec<(usize, Rc<Template>)>,
     next: usize,
     joined: usize,
@@ -570,15 +572,15 @@ fn parted_policies<S: BuildHasher + Copy>(
     other: &PolicyMaps<S>,
     renaming: &IndexMap<PolicyID, PolicyID, S>,
     joined: &[Rc<Template>],
-) -> Result<(Parted<Policy>, Vec<(usize, Rc<Template>)>), AllocError>
+) -> Result<(SharedAndNew<Policy>, Vec<(usize, Rc<Template>)>), AllocError>
     requires free { AreFreeHere here.now renaming.now.entries }
     requires once { AreOnce (λ (t : BodyParts). t.id) (bodies_of joined.now) }
     requires on { AreAll (IsOnJoined (bodies_of joined.now) (new_id renaming.now.entries)) other.now.policies }
-    ensures { IfOk result (λ p. p.0.join.items ≡ joined_policies here.now
+    ensures { IfOk result (λ p. p.0.join.items ≡ merged_policies here.now
         (new_id renaming.now.entries) other.now.policies) }
 {
-    let mut parted = PartedPolicies {
-        policies: Parted::new(alloc),
+    let mut parted = SharedAndNewPolicies {
+        policies: SharedAndNew::new(alloc),
         shares: Vec::new(alloc),
         next: 0,
         joined: 0,
@@ -591,7 +593,7 @@ fn parted_policies<S: BuildHasher + Copy>(
 // Splits these policies, one after another.
 fn part_policies<S: BuildHasher + Copy>(
     alloc: Global,
-    parted: &mut PartedPolicies,
+    parted: &mut SharedAndNewPolicies,
     here: &PolicyMaps<S>,
     theirs: &[Policy],
     renaming: &IndexMap<PolicyID, PolicyID, S>,
@@ -601,7 +603,7 @@ fn part_policies<S: BuildHasher + Copy>(
     requires once { AreOnce (λ (t : BodyParts). t.id) (bodies_of joined.now) }
     requires on { AreAll (IsOnJoined (bodies_of joined.now) (new_id renaming.now.entries)) theirs.now }
     ensures { OnOk result (parted.new.policies.join.items ≡ parted.old.policies.join.items
-        ++ joined_policies here.now (new_id renaming.now.entries) theirs.now) }
+        ++ merged_policies here.now (new_id renaming.now.entries) theirs.now) }
 {
     for policy in theirs {
         part_policy(alloc, parted, here, policy, renaming, joined)?;
@@ -613,7 +615,7 @@ fn part_policies<S: BuildHasher + Copy>(
 // an existing one.
 fn part_policy<S: BuildHasher + Copy>(
     alloc: Global,
-    parted: &mut PartedPolicies,
+    parted: &mut SharedAndNewPolicies,
     here: &PolicyMaps<S>,
     policy: &Policy,
     renaming: &IndexMap<PolicyID, PolicyID, S>,
@@ -623,15 +625,15 @@ fn part_policy<S: BuildHasher + Copy>(
     requires once { AreOnce (λ (t : BodyParts). t.id) (bodies_of joined.now) }
     requires on { IsOnJoined (bodies_of joined.now) (new_id renaming.now.entries) policy.now }
     ensures { OnOk result (parted.new.policies.join.items ≡ parted.old.policies.join.items
-        ++ joined_policies here.now (new_id renaming.now.entries) (policy.now ∷ [])) }
+        ++ merged_policies here.now (new_id renaming.now.entries) (policy.now ∷ [])) }
 {
     let new = new_of(renaming, policy.id());
-    if let Some(place) = place_here(here, new, policy.id(), &mut parted.next) {
+    if let Some(place) = position_of(here, new, policy.id(), &mut parted.next) {
         let stands = &here.all_policies()[place];
-        keep_at(parted, place, stands, policy)?;
+        push_shared(parted, place, stands, policy)?;
         return Ok(());
     }
-    if has_body_here(here, new, policy.id()) {
+    if contains_body(here, new, policy.id()) {
         return Ok(());
     }
     let renamed = joining(alloc, policy, new, renaming, joined, &mut parted.joined)?;
@@ -654,7 +656,7 @@ fn joining<S: BuildHasher + Copy>(
         ≡ new_id renaming.now.entries (policy_id policy.now) }
     ensures { IfOk result (λ p. p ≡ renamed_policy (new_id renaming.now.entries) policy.now) }
 {
-    match on_joined(alloc, policy, new, joined, next)? {
+    match on_new_body(alloc, policy, new, joined, next)? {
         None => renamed_policy(alloc, policy, new, renaming),
         Some(shared) => Ok(shared),
     }
@@ -662,7 +664,7 @@ fn joining<S: BuildHasher + Copy>(
 
 // Returns a renamed static policy that shares the new body with its new id. Returns nothing for a link, and for a
 // policy that is not renamed.
-fn on_joined(
+fn on_new_body(
     alloc: Global,
     policy: &Policy,
     new: Option<&PolicyID>,
@@ -678,7 +680,7 @@ fn on_joined(
     }
     match new {
         None => Ok(None),
-        Some(id) => match joined_at(joined, id, next) {
+        Some(id) => match new_body_at(joined, id, next) {
             None => Ok(None),
             Some(template) => {
                 let shared = static_on(alloc, template)?;
@@ -690,8 +692,8 @@ fn on_joined(
 
 // Records a policy that both sets bind equally. It records a copy of the other set's policy if the locations of bound
 // uids differ. Otherwise it records the template, unless the policies share it already.
-fn keep_at(
-    parted: &mut PartedPolicies,
+fn push_shared(
+    parted: &mut SharedAndNewPolicies,
     place: usize,
     stands: &Policy,
     policy: &Policy,
@@ -732,18 +734,14 @@ fn renamed_policy<S: BuildHasher + Copy>(
     ensures { IfOk result (λ p. p ≡ renamed_policy (new_id renaming.now.entries) policy.now) }
 {
     match on_renamed_template(alloc, policy, renaming)? {
-        None => under_new_id(alloc, policy, new),
-        Some(renamed) => under_new_id(alloc, &renamed, new),
+        None => with_new_id(alloc, policy, new),
+        Some(renamed) => with_new_id(alloc, &renamed, new),
     }
 }
 
 // Returns a policy under its new id, or a copy if it has none.
 #[tactic(auto, using(crate::specs::laws::MergeSteps::same_id_kept))]
-fn under_new_id(
-    alloc: Global,
-    policy: &Policy,
-    new: Option<&PolicyID>,
-) -> Result<Policy, AllocError>
+fn with_new_id(alloc: Global, policy: &Policy, new: Option<&PolicyID>) -> Result<Policy, AllocError>
     ensures { IfOk result (λ p. p ≡ with_policy_id (unwrap_or (option_copied new.entry)
         (policy_id policy.now)) policy.now) }
 {

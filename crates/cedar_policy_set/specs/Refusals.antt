@@ -20,41 +20,41 @@ use Rattle.cedar_policy_set.specs.Steps.{id_conflict, no_link, not_a_link, no_te
 use Rattle.cedar_policy_set.specs.Steps.{no_static, not_static}
 
 -- The reason that an error of an insertion reports. An allocation failure reports none.
-abbrev pub told_by_set : PolicySetError → Option Refusal
-told_by_set (sets.Occupied i) = Some (occupied i)
-told_by_set sets.Memory = None
+abbrev pub set_error_of : PolicySetError → Option Refusal
+set_error_of (sets.Occupied i) = Some (occupied i)
+set_error_of sets.Memory = None
 
 -- The reason that an error of listing links reports.
-abbrev pub told_by_listing : PolicySetGetLinksError → Option Refusal
-told_by_listing (listings.MissingTemplate i) = Some (no_body i)
-told_by_listing listings.Memory = None
+abbrev pub listing_error_of : PolicySetGetLinksError → Option Refusal
+listing_error_of (listings.MissingTemplate i) = Some (no_body i)
+listing_error_of listings.Memory = None
 
 -- The reason that an error of linking reports.
-abbrev pub told_by_linking : LinkingError → Option Refusal
-told_by_linking (links.ArityError u x) = Some (arity u.items x.items)
-told_by_linking (links.NotAnAction u) = Some (not_an_action (uid_parts u))
-told_by_linking (links.NoSuchTemplate i) = Some (no_such_template i)
-told_by_linking (links.PolicyIdConflict i) = Some (id_conflict i)
-told_by_linking links.Memory = None
+abbrev pub linking_error_of : LinkingError → Option Refusal
+linking_error_of (links.ArityError u x) = Some (arity u.items x.items)
+linking_error_of (links.NotAnAction u) = Some (not_an_action (uid_parts u))
+linking_error_of (links.NoSuchTemplate i) = Some (no_such_template i)
+linking_error_of (links.PolicyIdConflict i) = Some (id_conflict i)
+linking_error_of links.Memory = None
 
 -- The reason that an error of unlinking reports.
-abbrev pub told_by_unlinking : PolicySetUnlinkError → Option Refusal
-told_by_unlinking (unlinks.UnlinkingError i) = Some (no_link i)
-told_by_unlinking (unlinks.NotLinkError i) = Some (not_a_link i)
-told_by_unlinking unlinks.Memory = None
+abbrev pub unlinking_error_of : PolicySetUnlinkError → Option Refusal
+unlinking_error_of (unlinks.UnlinkingError i) = Some (no_link i)
+unlinking_error_of (unlinks.NotLinkError i) = Some (not_a_link i)
+unlinking_error_of unlinks.Memory = None
 
 -- The reason that an error of removing a template reports.
-abbrev pub told_by_template_removal : PolicySetTemplateRemovalError → Option Refusal
-told_by_template_removal (templates.RemovePolicyNoTemplateError i) = Some (no_template i)
-told_by_template_removal (templates.RemoveTemplateWithLinksError i) = Some (with_links i)
-told_by_template_removal (templates.NotTemplateError i) = Some (not_a_template i)
-told_by_template_removal templates.Memory = None
+abbrev pub template_removal_error_of : PolicySetTemplateRemovalError → Option Refusal
+template_removal_error_of (templates.RemovePolicyNoTemplateError i) = Some (no_template i)
+template_removal_error_of (templates.RemoveTemplateWithLinksError i) = Some (with_links i)
+template_removal_error_of (templates.NotTemplateError i) = Some (not_a_template i)
+template_removal_error_of templates.Memory = None
 
 -- The reason that an error of removing a static policy reports.
-abbrev pub told_by_removal : PolicySetPolicyRemovalError → Option Refusal
-told_by_removal (removals.RemovePolicyNoLinkError i) = Some (no_static i)
-told_by_removal (removals.RemovePolicyNoTemplateError i) = Some (not_static i)
-told_by_removal removals.Memory = None
+abbrev pub removal_error_of : PolicySetPolicyRemovalError → Option Refusal
+removal_error_of (removals.RemovePolicyNoLinkError i) = Some (no_static i)
+removal_error_of (removals.RemovePolicyNoTemplateError i) = Some (not_static i)
+removal_error_of removals.Memory = None
 
 -- Whether a step fails with the reported reason. Without a reported reason this holds for every step.
 abbrev pub IsRefusal : {B : Type 0} → Option Refusal → Result B Refusal → Type 0
@@ -71,16 +71,16 @@ Steps told (Err e) old new step = (new ≡ old) × IsRefusal (told e) step
 -- Whether a call that removes an id does what its step defines. After a success the removed binding is the binding of
 -- the step, and the new set is the old set without the id. After an error the set is unchanged, and the step fails with
 -- the reported reason.
-abbrev pub TakesFromSet : {A E : Type 0} → (E → Option Refusal) → (A → Binding) → Result A E → SetParts → SetParts
+abbrev pub RemovesFromSet : {A E : Type 0} → (E → Option Refusal) → (A → Binding) → Result A E → SetParts → SetParts
     → List ℕ → Result Binding Refusal → Type 0
-TakesFromSet told binding (Ok a) old new i step = (step ≡ Ok (binding a)) × (new ≡ without_id old i)
-TakesFromSet told binding (Err e) old new i step = (new ≡ old) × IsRefusal (told e) step
+RemovesFromSet told binding (Ok a) old new i step = (step ≡ Ok (binding a)) × (new ≡ without_id old i)
+RemovesFromSet told binding (Err e) old new i step = (new ≡ old) × IsRefusal (told e) step
 
 -- Whether a call that creates a policy set does what its step defines. A returned set is the set of the step. After an
 -- error the step fails with the reported reason.
-abbrev pub Makes : {E : Type 0} → (E → Option Refusal) → Result SetParts E → Result SetParts Refusal → Type 0
-Makes told (Ok b) step = step ≡ Ok b
-Makes told (Err e) step = IsRefusal (told e) step
+abbrev pub BuildsSet : {E : Type 0} → (E → Option Refusal) → Result SetParts E → Result SetParts Refusal → Type 0
+BuildsSet told (Ok b) step = step ≡ Ok b
+BuildsSet told (Err e) step = IsRefusal (told e) step
 
 -- Whether a call returns what its step defines. The value of a result is the result of the step. After an error the
 -- step fails with the reported reason.

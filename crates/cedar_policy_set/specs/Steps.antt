@@ -12,7 +12,7 @@ use Rattle.cedar_policy.specs.Policies.{PolicyParts, static_policy}
 use Rattle.cedar_policy_maps.specs.Lists.{ids_in}
 use Rattle.cedar_policy_maps.specs.PolicySets.{SetParts, Binding, Static, Template, Link, bound_at, is_bound}
 use Rattle.cedar_policy_maps.specs.PolicySets.{is_body_at}
-use Rattle.cedar_policy_maps.specs.PolicySets.{has_links, with_template, with_policy, with_both, without_id}
+use Rattle.cedar_policy_maps.specs.PolicySets.{has_links, with_template, with_policy, with_body_and_policy, without_id}
 
 -- The reason why a call fails. Each contains the id in question, except where another content is named.
 --
@@ -61,7 +61,7 @@ pub data Refusal : Type 0 where
 
 -- The step of adding a static policy with this body. The id has to be free. The body and the policy are appended.
 abbrev pub add_static_step : SetParts → BodyParts → Result SetParts Refusal
-add_static_step b s = if is_bound b s.id then Err (occupied s.id) else Ok (with_both b s (static_policy s))
+add_static_step b s = if is_bound b s.id then Err (occupied s.id) else Ok (with_body_and_policy b s (static_policy s))
 
 -- The step of adding a template. The id has to be free. The template is appended to the bodies.
 abbrev pub add_template_step : SetParts → BodyParts → Result SetParts Refusal
@@ -75,7 +75,7 @@ add_template_step b t = if is_bound b t.id then Err (occupied t.id) else Ok (wit
 -- - The id belongs to anything else: the step fails, and reports the template's id.
 abbrev pub add_link_at : Option Binding → SetParts → List ℕ → PolicyParts → Result SetParts Refusal
 add_link_at None b l p = if same_text l p.template.id || is_bound b l then Err (occupied l) else Ok
-    (with_both b p.template p)
+    (with_body_and_policy b p.template p)
 add_link_at (Some (Template u)) b l p =
     if same_body u p.template then (if is_bound b l then Err (occupied l) else Ok (with_policy b p)) else Err
     (occupied p.template.id)

@@ -1,7 +1,7 @@
 //! Constructors of policy sets with the default hasher.
 ghost use Rattle.std.specs.Prelude.{◌≡◌, IfOk, Ok};
-ghost use Rattle.cedar_policy_maps.specs.PolicySets.{empty_set, HasOwnId};
-ghost use Rattle.cedar_policy_set.specs.Refusals.{Makes, told_by_set};
+ghost use Rattle.cedar_policy_maps.specs.PolicySets.{empty_set, HasDistinctId};
+ghost use Rattle.cedar_policy_set.specs.Refusals.{BuildsSet, set_error_of};
 ghost use Rattle.cedar_policy_set.specs.Steps.{add_step, add_then};
 
 use crate::policy_set::PolicySet;
@@ -32,14 +32,14 @@ impl PolicySet {
     /// The original accepts any link.
     #[tactic(auto, using(cedar_policy_maps::specs::laws::SetLaws::alone))]
     pub fn singleton(alloc: Global, policy: Policy) -> Result<PolicySet, AllocError>
-        requires { HasOwnId policy }
+        requires { HasDistinctId policy }
         ensures { IfOk result (λ s. add_step empty_set policy ≡ Ok s) }
     {
         // No effect at run time: these calls show the prover that exactly the slots of the policy's template are bound.
         let _whole = policy.is_static();
         let _total = policy.env();
         let mut set = PolicySet::new(alloc);
-        set.maps.put_both(policy)?;
+        set.maps.insert_with_body(policy)?;
         Ok(set)
     }
 
@@ -52,7 +52,7 @@ impl PolicySet {
     /// - `Occupied`: an id is already in use.
     /// - `Memory`: an allocation failed.
     pub fn try_from_iter(alloc: Global, policies: Vec<Policy>) -> Result<PolicySet, PolicySetError>
-        ensures { Makes told_by_set result (add_then (Ok empty_set) policies.items) }
+        ensures { BuildsSet set_error_of result (add_then (Ok empty_set) policies.items) }
     {
         PolicySet::try_from_iter_with_hasher(alloc, BuildHasherDefault::new(), policies)
     }

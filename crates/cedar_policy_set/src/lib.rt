@@ -10,7 +10,7 @@
 
 mod compare;
 mod default_hasher;
-mod join;
+mod insertion;
 pub mod linked;
 mod merge;
 pub mod policy_set;

@@ -3,7 +3,7 @@ ghost use Rattle.std.specs.Prelude.{◌≡◌, ◌<◌, IfOk, Some, length};
 ghost use Rattle.std.specs.Borrow.{sem};
 ghost use Rattle.cedar_binding.specs.Views.{env_of};
 ghost use Rattle.cedar_policy_maps.specs.PolicySets.{last_policy};
-ghost use Rattle.cedar_policy_set.specs.Refusals.{Answers, told_by_linking};
+ghost use Rattle.cedar_policy_set.specs.Refusals.{Answers, linking_error_of};
 ghost use Rattle.cedar_policy_set.specs.Steps.{link_step, UnlinksTo};
 
 use crate::policy_set::PolicySet;
@@ -53,11 +53,11 @@ impl<S: BuildHasher + Copy> PolicySet<S> {
         ensures* refused { sem 𝓛 (LeavesUnchangedIfErr S.row S.Hasher.row S.BuildHasher S.Hasher.Hasher
             self.entry result) }
         ensures same_set { IfOk result (λ l. l.set.ghost_name ≡ self.entry.ghost_name) }
-        ensures steps { Answers told_by_linking (λ l. l.set.now) result
+        ensures steps { Answers linking_error_of (λ l. l.set.now) result
             (link_step self.old template_id new_id (env_of values)) }
         ensures undone { IfOk result (λ l. UnlinksTo self.old template_id new_id (env_of values) l.set.now) }
     {
-        self.join_link(alloc, template_id, new_id, values)?;
+        self.insert_link_body(alloc, template_id, new_id, values)?;
         Ok(Linked { set: self })
     }
 

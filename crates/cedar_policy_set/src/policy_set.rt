@@ -5,7 +5,7 @@ ghost use Rattle.std.specs.Option.{option_copied, option_map};
 ghost use Rattle.cedar_policy_maps.specs.PolicySets.{empty_set, is_body_at, is_policy_at, IsPolicySet};
 ghost use Rattle.cedar_policy_maps.specs.Lists.{slotted_in, statics_in};
 ghost use Rattle.cedar_policy_maps.specs.Maps.{set_in, maps_of, CanMakeSet};
-ghost use Rattle.cedar_policy_set.specs.Refusals.{Answers, told_by_listing};
+ghost use Rattle.cedar_policy_set.specs.Refusals.{Answers, listing_error_of};
 ghost use Rattle.cedar_policy_set.specs.Steps.{get_linked_step};
 
 use cedar_ids::policy_id::PolicyID;
@@ -194,7 +194,7 @@ impl<S: BuildHasher + Copy> PolicySet<S> {
         &self,
         id: &PolicyID,
     ) -> Result<LinkedIds<'_>, PolicySetGetLinksError>
-        ensures listed { Answers told_by_listing (λ i. i) result (get_linked_step self.now id.now) }
+        ensures listed { Answers listing_error_of (λ i. i) result (get_linked_step self.now id.now) }
         ensures refused { IfErr result (λ e. IsErr (get_linked_step self.now id.now)) }
     {
         match self.maps.linked_ids(id) {

@@ -1,14 +1,14 @@
 //! Removal from a policy set: links, static policies and templates.
 ghost use Rattle.std.specs.Prelude.{◌≡◌, IfErr, IsErr};
 ghost use Rattle.cedar_policy_maps.specs.PolicySets.{policy_binding, Template as template_binding};
-ghost use Rattle.cedar_policy_set.specs.Refusals.{TakesFromSet, told_by_unlinking, told_by_removal};
-ghost use Rattle.cedar_policy_set.specs.Refusals.{told_by_template_removal};
+ghost use Rattle.cedar_policy_set.specs.Refusals.{RemovesFromSet, unlinking_error_of, removal_error_of};
+ghost use Rattle.cedar_policy_set.specs.Refusals.{template_removal_error_of};
 ghost use Rattle.cedar_policy_set.specs.Steps.{unlink_step, remove_static_step, remove_template_step};
 
 use crate::policy_set::PolicySet;
 use cedar_ids::policy_id::PolicyID;
 use cedar_policy::{Policy, Template};
-use cedar_policy_maps::{Found, is_link};
+use cedar_policy_maps::{PolicyOrTemplate, is_link};
 use cedar_policy_set_errors::err::{
     PolicySetPolicyRemovalError, PolicySetTemplateRemovalError, PolicySetUnlinkError,
 };
@@ -34,7 +34,7 @@ impl<S: BuildHasher + Copy> PolicySet<S> {
     ///
     /// The original panics if its map of links does not contain the template.
     pub fn unlink(&mut self, id: &PolicyID) -> Result<Policy, PolicySetUnlinkError>
-        ensures taken { TakesFromSet told_by_unlinking policy_binding result self.old self.new id.now
+        ensures taken { RemovesFromSet unlinking_error_of policy_binding result self.old self.new id.now
             (unlink_step self.old id.now) }
         ensures refused { IfErr result (λ e. IsErr (unlink_step self.old id.now)) }
     {
@@ -42,10 +42,10 @@ impl<S: BuildHasher + Copy> PolicySet<S> {
         let _policy_set = self.maps.is_empty();
         match self.maps.found(id) {
             None => return Err(PolicySetUnlinkError::UnlinkingError(id.clone()?)),
-            Some(Found::Template(_template)) => {
+            Some(PolicyOrTemplate::Template(_template)) => {
                 return Err(PolicySetUnlinkError::NotLinkError(id.clone()?));
             }
-            Some(Found::Policy(policy)) => {
+            Some(PolicyOrTemplate::Policy(policy)) => {
                 if !is_link(policy) {
                     return Err(PolicySetUnlinkError::NotLinkError(id.clone()?));
                 }
@@ -79,7 +79,7 @@ impl<S: BuildHasher + Copy> PolicySet<S> {
     ///
     /// In the original a call that fails because the id belongs to a link moves the link to the end.
     pub fn remove_static(&mut self, id: &PolicyID) -> Result<Policy, PolicySetPolicyRemovalError>
-        ensures taken { TakesFromSet told_by_removal policy_binding result self.old self.new id.now
+        ensures taken { RemovesFromSet removal_error_of policy_binding result self.old self.new id.now
             (remove_static_step self.old id.now) }
         ensures refused { IfErr result (λ e. IsErr (remove_static_step self.old id.now)) }
     {
@@ -87,10 +87,10 @@ impl<S: BuildHasher + Copy> PolicySet<S> {
         let _policy_set = self.maps.is_empty();
         match self.maps.found(id) {
             None => return Err(PolicySetPolicyRemovalError::RemovePolicyNoLinkError(id.clone()?)),
-            Some(Found::Template(_template)) => {
+            Some(PolicyOrTemplate::Template(_template)) => {
                 return Err(PolicySetPolicyRemovalError::RemovePolicyNoLinkError(id.clone()?));
             }
-            Some(Found::Policy(policy)) => {
+            Some(PolicyOrTemplate::Policy(policy)) => {
                 if is_link(policy) {
                     return Err(PolicySetPolicyRemovalError::RemovePolicyNoTemplateError(
                         id.clone()?,
@@ -129,17 +129,17 @@ impl<S: BuildHasher + Copy> PolicySet<S> {
         &mut self,
         id: &PolicyID,
     ) -> Result<Template, PolicySetTemplateRemovalError>
-        ensures { TakesFromSet told_by_template_removal template_binding result self.old self.new id.now
+        ensures { RemovesFromSet template_removal_error_of template_binding result self.old self.new id.now
             (remove_template_step self.old id.now) }
     {
         let template = match self.maps.found(id) {
             None => {
                 return Err(PolicySetTemplateRemovalError::RemovePolicyNoTemplateError(id.clone()?));
             }
-            Some(Found::Policy(_policy)) => {
+            Some(PolicyOrTemplate::Policy(_policy)) => {
                 return Err(PolicySetTemplateRemovalError::NotTemplateError(id.clone()?));
             }
-            Some(Found::Template(template)) => {
+            Some(PolicyOrTemplate::Template(template)) => {
                 let template: &Template = template;
                 template
             }

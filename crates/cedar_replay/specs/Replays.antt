@@ -3,8 +3,8 @@ use Rattle.std.specs.Prelude.{◌≡◌, List, [], ◌∷◌, Result, IfErr, IsE
 use Rattle.cedar_binding.specs.Views.{env_of}
 use Rattle.cedar_policy_maps.specs.PolicySets.{SetParts, policy_binding, Template}
 use Rattle.cedar_policy_merge.specs.Merge.{Merges}
-use Rattle.cedar_policy_set.specs.Refusals.{Steps, TakesFromSet, told_by_set, told_by_linking, told_by_unlinking}
-use Rattle.cedar_policy_set.specs.Refusals.{told_by_removal, told_by_template_removal}
+use Rattle.cedar_policy_set.specs.Refusals.{Steps, RemovesFromSet, set_error_of, linking_error_of, unlinking_error_of}
+use Rattle.cedar_policy_set.specs.Refusals.{removal_error_of, template_removal_error_of}
 use Rattle.cedar_policy_set.specs.Steps.{add_static_step, add_template_step, add_step, link_step, unlink_step}
 use Rattle.cedar_policy_set.specs.Steps.{Refusal, remove_static_step, remove_template_step}
 use Rattle.cedar_replay.specs.declared.call.Answer.{Answer}
@@ -20,18 +20,18 @@ IsRefusedByStep r step = IfErr r (λ e. IsErr step)
 -- except a merge follows its step. `Memory` leaves the set unchanged, and is impossible if a link or a static policy
 -- can be removed. A result in the variant of another call is impossible.
 abbrev pub IsStep : {S H : Type 0} → PolicyCall S H → Answer S H → SetParts → SetParts → Type 0
-IsStep (calls.AddStatic s) (answers.AddStatic r) old new = Steps told_by_set r old new (add_static_step old s)
-IsStep (calls.AddTemplate t) (answers.AddTemplate r) old new = Steps told_by_set r old new (add_template_step old t)
-IsStep (calls.Add p) (answers.Add r) old new = Steps told_by_set r old new (add_step old p)
-IsStep (calls.Link t l e) (answers.Link r) old new = Steps told_by_linking r old new (link_step old t l (env_of e))
+IsStep (calls.AddStatic s) (answers.AddStatic r) old new = Steps set_error_of r old new (add_static_step old s)
+IsStep (calls.AddTemplate t) (answers.AddTemplate r) old new = Steps set_error_of r old new (add_template_step old t)
+IsStep (calls.Add p) (answers.Add r) old new = Steps set_error_of r old new (add_step old p)
+IsStep (calls.Link t l e) (answers.Link r) old new = Steps linking_error_of r old new (link_step old t l (env_of e))
 IsStep (calls.Unlink i) (answers.Unlink r) old new =
-    TakesFromSet told_by_unlinking policy_binding r old new i (unlink_step old i)
+    RemovesFromSet unlinking_error_of policy_binding r old new i (unlink_step old i)
     × IsRefusedByStep r (unlink_step old i)
 IsStep (calls.RemoveStatic i) (answers.RemoveStatic r) old new =
-    TakesFromSet told_by_removal policy_binding r old new i (remove_static_step old i)
+    RemovesFromSet removal_error_of policy_binding r old new i (remove_static_step old i)
     × IsRefusedByStep r (remove_static_step old i)
 IsStep (calls.RemoveTemplate i) (answers.RemoveTemplate r) old new =
-    TakesFromSet told_by_template_removal Template r old new i (remove_template_step old i)
+    RemovesFromSet template_removal_error_of Template r old new i (remove_template_step old i)
 IsStep (calls.Merge other rename) (answers.Merge r) old new = Merges (λ m. m.entries) r old other rename new
 IsStep c a old new = ⊥
 

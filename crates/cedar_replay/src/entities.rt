@@ -2,9 +2,9 @@
 ghost use Rattle.std.specs.Prelude.{◌≡◌, IfOk, IfErr, OnOk, map};
 ghost use Rattle.std.specs.List.{AllByRecursion};
 ghost use Rattle.cedar_entity_maps.specs.Plain.{IsPlainStore};
-ghost use Rattle.cedar_entity_maps.specs.World.{World, empty_world};
-ghost use Rattle.cedar_entities.specs.Calls.{made, all_made, Passes, AllPass, IsRefusedAs, StopsAt};
-ghost use Rattle.cedar_replay.specs.CallsOf.{call_of, HasBareEntities};
+ghost use Rattle.cedar_entity_maps.specs.InputStore.{InputStore, empty_input};
+ghost use Rattle.cedar_entities.specs.Calls.{apply_call, apply_calls, Passes, AllPass, IsErrorAs, StopsAt};
+ghost use Rattle.cedar_replay.specs.CallsOf.{call_of, EntitiesHaveNoIndirect};
 
 use cedar_entities::{Entities, EntitiesError, Entity, TCComputation};
 use cedar_ids::entity::EntityUID;
@@ -33,12 +33,12 @@ fn replay_one<S: BuildHasher + Copy>(
     store: Entities<S>,
     call: EntityCall,
 ) -> Result<Entities<S>, EntitiesError>
-    requires { HasBareEntities call }
-    ensures passes { OnOk result ((W : World) → IsPlainStore W store → Passes W (call_of call)) }
-    ensures ok { IfOk result (λ s. (W : World) → IsPlainStore W store →
-        IsPlainStore (made W (call_of call)) s) }
-    ensures err { IfErr result (λ e. (W : World) → IsPlainStore W store →
-        IsRefusedAs W (call_of call) e) }
+    requires { EntitiesHaveNoIndirect call }
+    ensures passes { OnOk result ((W : InputStore) → IsPlainStore W store → Passes W (call_of call)) }
+    ensures ok { IfOk result (λ s. (W : InputStore) → IsPlainStore W store →
+        IsPlainStore (apply_call W (call_of call)) s) }
+    ensures err { IfErr result (λ e. (W : InputStore) → IsPlainStore W store →
+        IsErrorAs W (call_of call) e) }
 {
     match call {
         EntityCall::From(list) => {
@@ -82,12 +82,12 @@ pub fn replay_entities(
     alloc: Global,
     calls: Vec<EntityCall>,
 ) -> Result<Entities, (usize, EntitiesError)>
-    requires { AllByRecursion HasBareEntities calls.items }
+    requires { AllByRecursion EntitiesHaveNoIndirect calls.items }
 
     // All calls succeed, and the result is the plain store of the entities that the calls produce.
-    ensures pass { OnOk result (AllPass empty_world (map call_of calls.items)) }
+    ensures pass { OnOk result (AllPass empty_input (map call_of calls.items)) }
     ensures ok { IfOk result (λ s.
-        IsPlainStore (all_made empty_world (map call_of calls.items)) s) }
+        IsPlainStore (apply_calls empty_input (map call_of calls.items)) s) }
 
     // The calls before the number succeed, and the next one fails with this error.
     ensures err { IfErr result (λ r. StopsAt (map call_of calls.items) r.0 r.1) }
@@ -105,12 +105,12 @@ pub fn replay_entities_with_hasher<S: BuildHasher + Copy>(
     hasher: S,
     calls: Vec<EntityCall>,
 ) -> Result<Entities<S>, (usize, EntitiesError)>
-    requires { AllByRecursion HasBareEntities calls.items }
+    requires { AllByRecursion EntitiesHaveNoIndirect calls.items }
 
     // All calls succeed, and the result is the plain store of the entities that the calls produce.
-    ensures pass { OnOk result (AllPass empty_world (map call_of calls.items)) }
+    ensures pass { OnOk result (AllPass empty_input (map call_of calls.items)) }
     ensures ok { IfOk result (λ s.
-        IsPlainStore (all_made empty_world (map call_of calls.items)) s) }
+        IsPlainStore (apply_calls empty_input (map call_of calls.items)) s) }
 
     // The calls before the number succeed, and the next one fails with this error.
     ensures err { IfErr result (λ r. StopsAt (map call_of calls.items) r.0 r.1) }

@@ -2,7 +2,7 @@
 ghost use Rattle.std.specs.Prelude.{◌≡◌, ◌++◌, [], ◌∷◌, ◌<◌, ◌≤◌, ◌+◌, length, IfOk, OnErr};
 ghost use Rattle.std.specs.Vec.{vec_len, vec_capacity};
 ghost use Rattle.cedar_binding.specs.Views.{env_of};
-ghost use Rattle.cedar_policy_set.specs.Refusals.{Steps, told_by_linking};
+ghost use Rattle.cedar_policy_set.specs.Refusals.{Steps, linking_error_of};
 ghost use Rattle.cedar_policy_set.specs.Steps.{link_step};
 ghost use Rattle.cedar_replay.specs.Replays.{IsStep, AreSteps};
 
@@ -21,7 +21,7 @@ fn link<S: BuildHasher + Copy>(
     new_id: PolicyID,
     values: SlotEnv,
 ) -> Result<(), LinkingError>
-    ensures { Steps told_by_linking result set.old set.new (link_step set.old template_id new_id (env_of values)) }
+    ensures { Steps linking_error_of result set.old set.new (link_step set.old template_id new_id (env_of values)) }
 {
     set.link(alloc, template_id, new_id, values)?;
     Ok(())

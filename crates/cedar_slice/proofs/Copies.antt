@@ -12,11 +12,11 @@ use Rattle.cedar_ids.specs.declared.entity.EntityUID.{EntityUID}
 use Rattle.cedar_uid_sets.specs.laws.Sets.{one_equal, same_tests}
 use Rattle.cedar_entity.specs.View.{EntityView, IsDeepEqual}
 use Rattle.cedar_entity.specs.laws.Views.{deep_equality}
-use Rattle.cedar_entity_maps.specs.Plain.{Held, no_entities}
+use Rattle.cedar_entity_maps.specs.Plain.{EntityMap, no_entities}
 use Rattle.cedar_entities.specs.Present.{first_entity, present, with_first, AllMatch, MatchesPresent}
 use Rattle.cedar_entity_maps.specs.Plain.{keyed}
 use Rattle.cedar_entities.specs.Present.{FirstMismatch}
-use Rattle.cedar_entity_maps.specs.laws.Worlds.{get_joined}
+use Rattle.cedar_entity_maps.specs.laws.InputStores.{get_joined}
 
 absent_more : {X : Type 0} (b r : Bool) (x : Option X) → (b ≡ true → x ≡ None) → cond r x None ≡ cond (b || r) x None
 absent_more true true x h = refl
@@ -29,10 +29,10 @@ found_more true r x e h = sym (h refl)
 found_more false r x e h = refl
 
 -- Holds if the entity at each of the uids, if there is one, has that uid.
-abbrev pub AreKeyed : Held → List EntityUID → Type 0
+abbrev pub AreKeyed : EntityMap → List EntityUID → Type 0
 AreKeyed D ks = AllByRecursion (λ k. IfSome (finmap.get D k) (λ e. e.uid ≡ k)) ks
 
-module _ (D : Held) where
+module _ (D : EntityMap) where
   first_more : (o : Option EntityView) (k q : EntityUID) (rest : List EntityView) (r : Bool) → finmap.get D k ≡ o
       → IfSome o (λ e. e.uid ≡ k)
       → first_entity rest q ≡ cond r (finmap.get D q) None

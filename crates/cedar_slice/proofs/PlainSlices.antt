@@ -11,8 +11,8 @@ use Rattle.cedar_ids.specs.declared.entity.EntityUID.{EntityUID}
 use Rattle.cedar_uid_sets.specs.laws.Sets.{one_equal}
 use Rattle.cedar_entity.specs.View.{has_ancestor}
 use Rattle.cedar_entity_maps.specs.Modes.{ancestry}
-use Rattle.cedar_entity_maps.specs.Plain.{StoreView, IsPlainStore, IsApart, parts_of}
-use Rattle.cedar_entity_maps.specs.World.{World, graph, is_parent_in}
+use Rattle.cedar_entity_maps.specs.Plain.{StoreView, IsPlainStore, HasDisjointParents, parts_of}
+use Rattle.cedar_entity_maps.specs.InputStore.{InputStore, graph, is_parent_in}
 use Rattle.cedar_entity_maps.specs.laws.PlainAncestors.{ancestry_plain, first_key}
 use Rattle.cedar_slice.specs.Slices.{is_wanted, sliced, part_of, IsWanted, IsPlainSlice, IsPartWith}
 use Rattle.cedar_slice.specs.laws.OneSlice.{part_edges, wanted_by}
@@ -41,16 +41,16 @@ some_mapped : {X Y : Type 0} (f : X → Y) (o : Option X) → is_some (option_ma
 some_mapped f None = refl
 some_mapped f (Some x) = refl
 
-module _ (W : World) (S : StoreView) (plain : IsPlainStore W S) where
+module _ (W : InputStore) (S : StoreView) (plain : IsPlainStore W S) where
   module _ (U : List EntityUID) where
     abbrev test : EntityUID → Bool
-    test = is_wanted S.held U
+    test = is_wanted S.entities U
 
-    abbrev part : World
+    abbrev part : InputStore
     part = part_of W test
 
     wanted_iff : (q : EntityUID) → (test q ≡ true) ↔ IsWanted W U q
-    wanted_iff = wanted_by W (ancestry S.held) (ancestry_plain W S plain) U
+    wanted_iff = wanted_by W (ancestry S.entities) (ancestry_plain W S plain) U
 
     -- A parent of a selected uid is selected.
     next_wanted : (a b : EntityUID) → test a ≡ true → graph W a b ≡ true → test b ≡ true
@@ -80,40 +80,40 @@ module _ (W : World) (S : StoreView) (plain : IsPlainStore W S) where
     reach_up a b r =
         reach_over_reach (graph W) (graph part) (λ x y h. reach_edge (graph W) x y (part_edges W test x y h)) a b r
 
-    get_sliced : (q : EntityUID) → finmap.get (sliced S.held U) q ≡ cond (test q) (finmap.get S.held q) None
-    get_sliced q = get_kept S.held test q
+    get_sliced : (q : EntityUID) → finmap.get (sliced S.entities U) q ≡ cond (test q) (finmap.get S.entities q) None
+    get_sliced q = get_kept S.entities test q
 
-    is_plain_part : IsPlainStore part (record { held = sliced S.held U; partial = false })
+    is_plain_part : IsPlainStore part (record { entities = sliced S.entities U; partial = false })
     is_plain_part = record {
       partial = refl;
-      holds = λ q. ap (option_map parts_of) (get_sliced q) ∙ map_cond parts_of (test q) (finmap.get S.held q)
+      holds = λ q. ap (option_map parts_of) (get_sliced q) ∙ map_cond parts_of (test q) (finmap.get S.entities q)
           ∙ ap (λ o. cond (test q) o None) (plain.holds q) ∙ sym (get_part q);
       keyed =
           λ q. subst (λ o. IfSome o (λ e. e.uid ≡ q)) (sym (get_sliced q))
-          (if_cond (λ e. e.uid ≡ q) (λ e. e.uid ≡ q) (test q) (finmap.get S.held q) (λ t e h. h) (plain.keyed q));
+          (if_cond (λ e. e.uid ≡ q) (λ e. e.uid ≡ q) (test q) (finmap.get S.entities q) (λ t e h. h) (plain.keyed q));
       reached =
           λ q. subst (λ o. IfSome o (λ e. (x : EntityUID) → (has_ancestor e x ≡ true) ↔ Reach (graph part) q x))
           (sym (get_sliced q))
           (if_cond (λ e. (x : EntityUID) → (has_ancestor e x ≡ true) ↔ Reach (graph W) q x) (λ e. (x : EntityUID)
-          → (has_ancestor e x ≡ true) ↔ Reach (graph part) q x) (test q) (finmap.get S.held q)
+          → (has_ancestor e x ≡ true) ↔ Reach (graph part) q x) (test q) (finmap.get S.entities q)
           (λ t e h x. (λ k. let r = (h x).0 k in (r.0, path_down q x r.0 t r.1), λ r. (h x).1 (reach_up q x r)))
           (plain.reached q));
       apart =
-          λ q. subst (λ o. IfSome o IsApart) (sym (get_sliced q))
-          (if_cond IsApart IsApart (test q) (finmap.get S.held q) (λ t e h. h) (plain.apart q));
+          λ q. subst (λ o. IfSome o HasDisjointParents) (sym (get_sliced q))
+          (if_cond HasDisjointParents HasDisjointParents (test q) (finmap.get S.entities q) (λ t e h. h) (plain.apart q));
       acyclic = λ q r. plain.acyclic q (reach_up q q r);
     }
 
     -- The slice of the plain store of an input store is the plain store of its slice.
-    pub plain_slice : IsPlainSlice W U (record { held = sliced S.held U; partial = false })
+    pub plain_slice : IsPlainSlice W U (record { entities = sliced S.entities U; partial = false })
     plain_slice =
         record {
-          world = part;
+          input_store = part;
           is_slice = record { test = test; passes = wanted_iff; entries = refl };
           is_plain = is_plain_part;
         }
 
-    module _ (V : World) (has : IsPartWith W U V) where
+    module _ (V : InputStore) (has : IsPartWith W U V) where
       along : (a b : EntityUID) (xs : List EntityUID) → finmap.contains_key V.entities a ≡ true → Path (graph W) a xs b
           → finmap.contains_key W.entities b ≡ true → finmap.contains_key V.entities b ≡ true
       along a b [] v p k = has.parents a b v p k
@@ -129,9 +129,9 @@ module _ (W : World) (S : StoreView) (plain : IsPlainStore W S) where
 
       -- A part of the input store that contains the requested entities and their parents contains all entities of the
       -- slice.
-      pub least_part : (q : EntityUID) → finmap.contains_key (sliced S.held U) q ≡ true
+      pub least_part : (q : EntityUID) → finmap.contains_key (sliced S.entities U) q ≡ true
           → finmap.contains_key V.entities q ≡ true
       least_part q h =
-          let k = some_kept (test q) (finmap.get S.held q) (sym (ap is_some (get_sliced q)) ∙ h) in
+          let k = some_kept (test q) (finmap.get S.entities q) (sym (ap is_some (get_sliced q)) ∙ h) in
           wanted_there q ((wanted_iff q).0 k.0) (sym (ap is_some (plain.holds q))
-          ∙ some_mapped parts_of (finmap.get S.held q) ∙ k.1)
+          ∙ some_mapped parts_of (finmap.get S.entities q) ∙ k.1)

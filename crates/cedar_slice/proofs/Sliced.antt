@@ -8,37 +8,37 @@ use Rattle.cedar_ids.specs.declared.entity.EntityUID.{EntityUID}
 use Rattle.cedar_entity.specs.View.{EntityView}
 use Rattle.cedar_entity.specs.declared.err.EntitiesError.{EntitiesError}
 use Rattle.cedar_entity.specs.declared.err.EntitiesError.TheVariants.{Memory}
-use Rattle.cedar_entity_maps.specs.Plain.{StoreView, Held, no_entities}
+use Rattle.cedar_entity_maps.specs.Plain.{StoreView, EntityMap, no_entities}
 use Rattle.cedar_entities.specs.Present.{with_first, AllMatch, FirstMismatch}
-use Rattle.cedar_entity_maps.specs.Refusals.{MatchRefusal}
-use Rattle.cedar_entity_maps.specs.laws.Refusals.{refusal_cases}
+use Rattle.cedar_entity_maps.specs.EditErrors.{MatchError}
+use Rattle.cedar_entity_maps.specs.laws.EditErrors.{refusal_cases}
 use Rattle.cedar_slice.specs.Slices.{is_wanted, sliced}
 use Rattle.cedar_slice.specs.laws.OneSlice.{asked_is_wanted}
 use Rattle.cedar_slice.proofs.Copies.{AreKeyed, none_differs, store_of}
 use Rattle.cedar_slice.proofs.PlainSlices.{get_kept}
 
 -- The requested entities are unchanged.
-pub asked_stays : (D : Held) (U : List EntityUID) (q : EntityUID) → is_member same_uid U q ≡ true
+pub asked_stays : (D : EntityMap) (U : List EntityUID) (q : EntityUID) → is_member same_uid U q ≡ true
     → finmap.get (sliced D U) q ≡ finmap.get D q
 asked_stays D U q m = get_kept D (is_wanted D U) q ∙ ap (λ t. cond t (finmap.get D q) None) (asked_is_wanted D U q m)
 
-module _ (D : Held) (ks : List EntityUID) (keyed : AreKeyed D ks) (L : List EntityView)
+module _ (D : EntityMap) (ks : List EntityUID) (keyed : AreKeyed D ks) (L : List EntityView)
     (copies : L ≡ filter_map (finmap.get D) ks) where
   -- The store of the copies contains the slice.
   pub holds_slice : (U : List EntityUID) → ((q : EntityUID) → is_member same_uid ks q ≡ is_wanted D U q)
       → (r : Result StoreView EntitiesError)
-      → IfOk r (λ s. s.partial ≡ false) → IfOk r (λ s. s.held ≡ with_first no_entities L)
-      → IfOk r (λ s. s ≡ record { held = sliced D U; partial = false })
-  holds_slice U same (Ok s) flag held =
-      let is : s.held ≡ sliced D U = held ∙ ap (with_first no_entities) copies
+      → IfOk r (λ s. s.partial ≡ false) → IfOk r (λ s. s.entities ≡ with_first no_entities L)
+      → IfOk r (λ s. s ≡ record { entities = sliced D U; partial = false })
+  holds_slice U same (Ok s) flag entity_at =
+      let is : s.entities ≡ sliced D U = entity_at ∙ ap (with_first no_entities) copies
       ∙ store_of D ks keyed (is_wanted D U) same in
-      λ i. record { held = is i; partial = flag i }
-  holds_slice U same (Err e) flag held = tt
+      λ i. record { entities = is i; partial = flag i }
+  holds_slice U same (Err e) flag entity_at = tt
 
   -- It fails only if an allocation fails, because its mode makes no check of the closure.
   pub only_memory : (r : Result StoreView EntitiesError)
       → IfErr r
-      (λ e. MatchRefusal e (FirstMismatch (finmap.get no_entities) L) (λ t. AllMatch (finmap.get no_entities) L × ⊥))
+      (λ e. MatchError e (FirstMismatch (finmap.get no_entities) L) (λ t. AllMatch (finmap.get no_entities) L × ⊥))
       → IfErr r (λ e. e ≡ Memory)
   only_memory (Ok s) h = tt
   only_memory (Err e) h =

@@ -10,7 +10,7 @@ ghost use Rattle.cedar_ids.specs.declared.entity.EntityUID.{EntityUID};
 ghost use Rattle.cedar_entity.specs.declared.err.EntitiesError.TheVariants.{Memory};
 ghost use Rattle.cedar_entity_maps.specs.Modes.{ancestry};
 ghost use Rattle.cedar_entity_maps.specs.Plain.{IsKeyed, IsPlainStore};
-ghost use Rattle.cedar_entity_maps.specs.World.{World};
+ghost use Rattle.cedar_entity_maps.specs.InputStore.{InputStore};
 ghost use Rattle.cedar_slice.specs.Slices.{IsPartWith, IsPlainSlice, is_wanted, sliced};
 
 use cedar_entities::{Entities, EntitiesError, Entity, SharedUid, SharedUids, TCComputation};
@@ -20,7 +20,7 @@ use std::collections::HashSet;
 use std::hash::BuildHasher;
 
 // Inserts uids into a set.
-fn note_all<S: BuildHasher>(
+fn insert_uids<S: BuildHasher>(
     noted: &mut HashSet<SharedUid, S>,
     uids: SharedUids<'_>,
 ) -> Result<(), AllocError>
@@ -34,16 +34,16 @@ fn note_all<S: BuildHasher>(
 }
 
 // Inserts the ancestors of the entity with a uid into a set, if the store has that entity.
-fn note_above<S: BuildHasher + Clone>(
+fn cache_ancestors<S: BuildHasher + Clone>(
     store: &Entities<S>,
     noted: &mut HashSet<SharedUid, S>,
     uid: &EntityUID,
 ) -> Result<(), AllocError>
     ensures { OnOk result ((q : EntityUID) → contains same_uid noted.new q
-        ≡ (contains same_uid noted.old q || ancestry store.now.held uid.now q)) }
+        ≡ (contains same_uid noted.old q || ancestry store.now.entities uid.now q)) }
 {
     match store.stored(uid) {
-        Some(entity) => note_all(noted, entity.shared_ancestors()),
+        Some(entity) => insert_uids(noted, entity.shared_ancestors()),
         None => Ok(()),
     }
 }
@@ -57,9 +57,9 @@ fn want<S: BuildHasher + Clone>(
 ) -> Result<(), AllocError>
     ensures { OnOk result ((q : EntityUID) → contains same_uid wanted.new q
         ≡ (contains same_uid wanted.old q
-        || (same_uid uid.now q || ancestry store.now.held uid.now q))) }
+        || (same_uid uid.now q || ancestry store.now.entities uid.now q))) }
 {
-    note_above(store, wanted, uid)?;
+    cache_ancestors(store, wanted, uid)?;
     wanted.insert(SharedUid::copy_of(alloc, uid)?)?;
     Ok(())
 }
@@ -71,7 +71,7 @@ fn all_wanted<S: BuildHasher + Clone>(
     uids: &[EntityUID],
 ) -> Result<HashSet<SharedUid, S>, AllocError>
     ensures { IfOk result (λ s. (q : EntityUID) →
-        contains same_uid s q ≡ is_wanted store.now.held uids.now q) }
+        contains same_uid s q ≡ is_wanted store.now.entities uids.now q) }
 {
     let mut wanted = HashSet::with_hasher(alloc, store.hasher().clone()?);
     let mut asked: HashSet<SharedUid, S> = HashSet::with_hasher(alloc, store.hasher().clone()?);
@@ -92,8 +92,8 @@ fn copy_held<S: BuildHasher + Clone>(
     uid: &SharedUid,
 ) -> Result<(), AllocError>
     ensures copies { OnOk result (list.new.items
-        ≡ list.old.items ++ option_to_list (finmap.get store.now.held uid.now)) }
-    ensures keyed { OnOk result (IsKeyed store.now.held) }
+        ≡ list.old.items ++ option_to_list (finmap.get store.now.entities uid.now)) }
+    ensures keyed { OnOk result (IsKeyed store.now.entities) }
 {
     if let Some(entity) = store.stored(uid.uid()) {
         list.push(entity.clone()?)?;
@@ -107,9 +107,9 @@ fn copies_of<S: BuildHasher + Clone>(
     store: &Entities<S>,
     uids: &HashSet<SharedUid, S>,
 ) -> Result<Vec<Entity>, AllocError>
-    ensures copies { IfOk result (λ v. v.items ≡ filter_map (finmap.get store.now.held) uids.now.keys) }
+    ensures copies { IfOk result (λ v. v.items ≡ filter_map (finmap.get store.now.entities) uids.now.keys) }
     ensures keyed { OnOk result (AllByRecursion
-        (λ k. IfSome (finmap.get store.now.held k) (λ e. e.uid ≡ k)) uids.now.keys) }
+        (λ k. IfSome (finmap.get store.now.entities k) (λ e. e.uid ≡ k)) uids.now.keys) }
 {
     let mut list = Vec::new(alloc);
     for uid in uids {
@@ -124,17 +124,17 @@ fn part_of<S: BuildHasher + Clone>(
     store: &Entities<S>,
     uids: &[EntityUID],
 ) -> Result<Entities<S>, EntitiesError>
-    ensures held { IfOk result (λ s. s ≡ record {
-      held = sliced store.now.held uids.now;
+    ensures entities { IfOk result (λ s. s ≡ record {
+      entities = sliced store.now.entities uids.now;
       partial = false;
     }) }
     ensures asked { IfOk result (λ s. (q : EntityUID) → is_member same_uid uids.now q ≡ true →
-        finmap.get s.held q ≡ finmap.get store.now.held q) }
-    ensures plain { IfOk result (λ s. (W : World) → IsPlainStore W store.now →
+        finmap.get s.entities q ≡ finmap.get store.now.entities q) }
+    ensures plain { IfOk result (λ s. (W : InputStore) → IsPlainStore W store.now →
         IsPlainSlice W uids.now s) }
-    ensures least { IfOk result (λ s. (W : World) → IsPlainStore W store.now →
-        (V : World) → IsPartWith W uids.now V → (q : EntityUID) →
-        finmap.contains_key s.held q ≡ true → finmap.contains_key V.entities q ≡ true) }
+    ensures least { IfOk result (λ s. (W : InputStore) → IsPlainStore W store.now →
+        (V : InputStore) → IsPartWith W uids.now V → (q : EntityUID) →
+        finmap.contains_key s.entities q ≡ true → finmap.contains_key V.entities q ≡ true) }
     ensures err { IfErr result (λ e. e ≡ Memory) }
 {
     let wanted = all_wanted(alloc, store, uids)?;
@@ -164,17 +164,17 @@ pub fn slice<S: BuildHasher + Clone>(
     store: &Entities<S>,
     uids: &[EntityUID],
 ) -> Result<Entities<S>, EntitiesError>
-    ensures held { IfOk result (λ s. s ≡ record {
-      held = sliced store.now.held uids.now;
+    ensures entities { IfOk result (λ s. s ≡ record {
+      entities = sliced store.now.entities uids.now;
       partial = false;
     }) }
     ensures asked { IfOk result (λ s. (q : EntityUID) → is_member same_uid uids.now q ≡ true →
-        finmap.get s.held q ≡ finmap.get store.now.held q) }
-    ensures plain { IfOk result (λ s. (W : World) → IsPlainStore W store.now →
+        finmap.get s.entities q ≡ finmap.get store.now.entities q) }
+    ensures plain { IfOk result (λ s. (W : InputStore) → IsPlainStore W store.now →
         IsPlainSlice W uids.now s) }
-    ensures least { IfOk result (λ s. (W : World) → IsPlainStore W store.now →
-        (V : World) → IsPartWith W uids.now V → (q : EntityUID) →
-        finmap.contains_key s.held q ≡ true → finmap.contains_key V.entities q ≡ true) }
+    ensures least { IfOk result (λ s. (W : InputStore) → IsPlainStore W store.now →
+        (V : InputStore) → IsPartWith W uids.now V → (q : EntityUID) →
+        finmap.contains_key s.entities q ≡ true → finmap.contains_key V.entities q ≡ true) }
     ensures err { IfErr result (λ e. e ≡ Memory) }
 {
     let part = part_of(alloc, store, uids)?;

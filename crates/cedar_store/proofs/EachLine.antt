@@ -7,7 +7,7 @@ use Rattle.std.specs.Borrow.{Bor}
 use Rattle.std.specs.Option.{option_copied}
 use Rattle.cedar_store.specs.laws.FirstLine.{lines_left}
 use Rattle.cedar_store.specs.Output.{State, Written, after, IsOutputFrom, not_command}
-use Rattle.cedar_store.specs.Sessions.{SessionView, StandsAt, Takes}
+use Rattle.cedar_store.specs.Sessions.{SessionView, IsInState, RunsLine}
 
 after_after : (a b : List ℕ) (w : Written) → after a (after b w) ≡ after (a ++ b) w
 after_after a b w = λ i. record { bytes = sym (append_assoc a b w.bytes) i; status = w.status }
@@ -33,8 +33,8 @@ none_left (Some xs) h = absurd (h xs refl)
 
 -- The step of a line that is a command.
 pub line_taken : (Q : Written → Type 0) (n : ℕ) (s : State) (m : SessionView) (old new l : List ℕ)
-    (ls : List (List ℕ)) → Takes true l s m old new → Continues Q n s (l ∷ ls) old
-    → (t : State) × StandsAt m t × Continues Q (n + 1) t ls new
+    (ls : List (List ℕ)) → RunsLine true l s m old new → Continues Q n s (l ∷ ls) old
+    → (t : State) × IsInState m t × Continues Q (n + 1) t ls new
 unfolding IsOutputFrom
 line_taken Q n s m old new l ls h k =
     let t = h.1 in
@@ -47,7 +47,7 @@ line_taken Q n s m old new l ls h k =
 
 -- The end of a run at a line that is not a command.
 pub line_refused : (Q : Written → Type 0) (n : ℕ) (s : State) (m : SessionView) (old new l : List ℕ)
-    (ls : List (List ℕ)) → Takes false l s m old new → Continues Q n s (l ∷ ls) old
+    (ls : List (List ℕ)) → RunsLine false l s m old new → Continues Q n s (l ∷ ls) old
     → Q (record { bytes = new ++ not_command n; status = 2 })
 unfolding IsOutputFrom
 line_refused Q n s m old new l ls h k =

@@ -11,7 +11,7 @@ use Rattle.cedar_policy_lines.specs.laws.OneAnswer.{policy_gives}
 use Rattle.cedar_policy_lines.specs.laws.PolicyReading.{policy_command}
 use Rattle.cedar_policy_lines.specs.laws.ReadCommands.{command_is_read, read_is_command}
 use Rattle.cedar_store.specs.Command.{Command, Nothing, Entity, Policy, IsCommand, IsLine}
-use Rattle.cedar_store.specs.Output.{State, Written, Gives, IsOutput, IsOutputFrom, HasOneOutput, start, after}
+use Rattle.cedar_store.specs.Output.{State, Written, RunsCommand, IsOutput, IsOutputFrom, HasOneOutput, start, after}
 use Rattle.cedar_store.specs.Output.{not_command}
 use Rattle.cedar_store.proofs.Joined.{none_found}
 use Rattle.cedar_store.proofs.OneOutput.{one_output}
@@ -53,7 +53,7 @@ line_found l = readable_line (list_all is_line_byte l) (slice_split (λ b. b == 
 
 -- ---- The effect of a command
 
-gives : (s : State) (c : Command) → (t : State) × (out : List ℕ) × Gives s c t out
+gives : (s : State) (c : Command) → (t : State) × (out : List ℕ) × RunsCommand s c t out
 gives s Nothing = (s, [], (refl, refl))
 gives s (Entity c) = let a = entity_gives c s.entities in
     (record { entities = a.0; policy_sets = s.policy_sets }, a.1, (a.2, refl))

@@ -13,15 +13,15 @@ use Rattle.cedar_entity_lines.specs.EntityCommand.{EntityCommand, Ent, Build, Ad
 use Rattle.cedar_entity_lines.specs.EntityCommand.{IsEntityCommand}
 use Rattle.cedar_entity_lines.specs.Holding as held
 use Rattle.cedar_policy_lines.specs.PolicyCommand.{PolicyCommand, IsPolicyCommand}
-use Rattle.cedar_policy_lines.specs.PolicyOutput.{PolicyGives, PolicyWrites, TakesPolicy}
+use Rattle.cedar_policy_lines.specs.PolicyOutput.{RunsPolicyCommand, PolicyWrites, RunsPolicyFields}
 use Rattle.cedar_policy_lines.specs.TwoSets.{TwoSets}
 use Rattle.cedar_store.specs.Command.{Command, Nothing, Entity, Policy, IsCommand}
 use Rattle.cedar_store.specs.Output.{State}
-use Rattle.cedar_store.specs.Sessions.{SessionView, StandsAt, Takes}
+use Rattle.cedar_store.specs.Sessions.{SessionView, IsInState, RunsLine}
 use Rattle.cedar_store.specs.laws.Sessions.{SessionGives, TakesKind, begins_with_ent}
 
 -- The session runs a command that its store runs.
-pub entity_takes : (m n : SessionView) (s : State) (c : EntityCommand) (old new : List ℕ) → StandsAt m s
+pub entity_takes : (m n : SessionView) (s : State) (c : EntityCommand) (old new : List ℕ) → IsInState m s
     → n.policy_sets ≡ m.policy_sets → n.is_lost ≡ m.is_lost
     → held.EntityWrites c s.entities n.entities old new → SessionGives (Entity c) s n old new
 entity_takes m n s c old new h sets lost k = (
@@ -33,13 +33,13 @@ entity_takes m n s c old new h sets lost k = (
 )
 
 -- The session runs a command that its policy sets run.
-pub policy_takes : (m n : SessionView) (s : State) (c : PolicyCommand) (old new : List ℕ) → StandsAt m s
+pub policy_takes : (m n : SessionView) (s : State) (c : PolicyCommand) (old new : List ℕ) → IsInState m s
     → n.entities ≡ m.entities → n.is_lost ≡ m.is_lost
     → PolicyWrites c m.policy_sets n.policy_sets old new → SessionGives (Policy c) s n old new
 policy_takes m n s c old new h entities lost k = (
   record { entities = s.entities; policy_sets = n.policy_sets },
   k.0,
-  (refl, subst (λ b. PolicyGives c b n.policy_sets k.0) h.policy_sets k.1),
+  (refl, subst (λ b. RunsPolicyCommand c b n.policy_sets k.0) h.policy_sets k.1),
   record {
     entities = subst (λ e. held.Holds e s.entities) (sym entities) h.entities;
     policy_sets = refl;
@@ -51,7 +51,7 @@ policy_takes m n s c old new h entities lost k = (
 
 -- The session runs the fields of a line as its policy sets do, or its state is the same.
 pub policy_taken : (taken : Bool) (m : SessionView) (sets : TwoSets) (s : State) (fs : List (List ℕ)) (old new : List ℕ)
-    → StandsAt m s → TakesPolicy taken fs m.policy_sets sets old new → TakesKind Policy taken fs s (record {
+    → IsInState m s → RunsPolicyFields taken fs m.policy_sets sets old new → TakesKind Policy taken fs s (record {
       entities = m.entities;
       policy_sets = sets;
       is_lost = m.is_lost;
@@ -64,7 +64,7 @@ policy_taken false m sets s fs old new h k =
 
 -- A session that is not lost is in a state if another session with the same store and sets is.
 pub stands_too : (m n : SessionView) (s : State) → n.entities ≡ m.entities → n.policy_sets ≡ m.policy_sets
-    → n.is_lost ≡ false → StandsAt m s → StandsAt n s
+    → n.is_lost ≡ false → IsInState m s → IsInState n s
 stands_too m n s entities sets lost h =
     record {
       entities = subst (λ e. held.Holds e s.entities) (sym entities) h.entities;
@@ -75,7 +75,7 @@ stands_too m n s entities sets lost h =
 -- Such a session runs a line correctly if the other session does.
 pub takes_too : (known : Bool) (line : List ℕ) (s : State) (m n : SessionView) (old new : List ℕ)
     → n.entities ≡ m.entities → n.policy_sets ≡ m.policy_sets → n.is_lost ≡ false
-    → Takes known line s m old new → Takes known line s n old new
+    → RunsLine known line s m old new → RunsLine known line s n old new
 takes_too true line s m n old new entities sets lost h =
     (h.0, h.1, h.2, h.3, h.4, stands_too m n h.1 entities sets lost h.5, h.6)
 takes_too false line s m n old new entities sets lost h = (h.0, stands_too m n s entities sets lost h.1, h.2)
@@ -83,8 +83,8 @@ takes_too false line s m n old new entities sets lost h = (h.0, stands_too m n s
 -- The same, if the session is lost exactly when the result is an error.
 pub takes_kept : {E : Type 0} (r : Result Bool E) (P : State → Type 0) (line : List ℕ) (m n : SessionView)
     (old new : List ℕ) → n.entities ≡ m.entities → n.policy_sets ≡ m.policy_sets → n.is_lost ≡ is_err r
-    → IfOk r (λ known. (s : State) → P s → Takes known line s m old new)
-    → IfOk r (λ known. (s : State) → P s → Takes known line s n old new)
+    → IfOk r (λ known. (s : State) → P s → RunsLine known line s m old new)
+    → IfOk r (λ known. (s : State) → P s → RunsLine known line s n old new)
 takes_kept (Ok known) P line m n old new entities policy_sets lost h =
     λ s p. takes_too known line s m n old new entities policy_sets lost (h s p)
 takes_kept (Err e) P line m n old new entities policy_sets lost h = tt
@@ -96,7 +96,7 @@ lost_where_refused (Err f) b e = e
 -- A line is run if its fields are run as a command of some kind.
 pub line_taken : {A : Type 0} (kind : A → Command) (line : List ℕ) (fs : List (List ℕ)) (s : State) (v : SessionView)
     (old new : List ℕ) → list_all is_line_byte line ≡ true → fs ≡ slice_split (λ b. b == 9) line
-    → TakesKind kind true fs s v old new → Takes true line s v old new
+    → TakesKind kind true fs s v old new → RunsLine true line s v old new
 line_taken kind line fs s v old new readable same h =
     let g = h.2 in
     (kind h.0, g.0, g.1, (readable, subst (λ x. IsCommand (kind h.0) x) same h.1), g.2, g.3, g.4)
@@ -147,7 +147,7 @@ one_empty_field line e = sym (join_with_byte-slice_split 9 line) ∙ ap (join_wi
 
 -- An empty line is run as the command that does nothing.
 pub nothing_taken : (line : List ℕ) (s : State) (v : SessionView) (old : List ℕ) → (length line == 0) ≡ true
-    → StandsAt v s → Takes true line s v old old
+    → IsInState v s → RunsLine true line s v old old
 nothing_taken [] s v old empty h = (Nothing, s, [], (refl, refl), (refl, refl), h, sym (append-nil old))
 nothing_taken (b ∷ bs) s v old empty h =
     absurd (false≢true (sym (ne_eqb (length (b ∷ bs)) 0 (λ e. omega (arith, e))) ∙ empty))
@@ -156,7 +156,7 @@ nothing_taken (b ∷ bs) s v old empty h =
 pub line_left : (line : List ℕ) (s : State) (v : SessionView) (old new : List ℕ) → (line ≡ [] → ⊥)
     → ((c : EntityCommand) → IsEntityCommand c (slice_split (λ b. b == 9) line) → ⊥)
     → ((c : PolicyCommand) → IsPolicyCommand c (slice_split (λ b. b == 9) line) → ⊥)
-    → StandsAt v s → new ≡ old → Takes false line s v old new
+    → IsInState v s → new ≡ old → RunsLine false line s v old new
 line_left line s v old new full entity policy h kept = (
   λ c k. none_found (slice_split (λ b. b == 9) line) (λ e. full (one_empty_field line e)) entity policy c k.1,
   h,

@@ -12,7 +12,7 @@ use Rattle.cedar_policy_lines.specs.laws.OneAnswer.{one_policy_gives}
 use Rattle.cedar_policy_lines.specs.laws.PolicyReading.{policy_command}
 use Rattle.cedar_policy_lines.specs.laws.ReadCommands.{command_is_read}
 use Rattle.cedar_store.specs.Command.{Command, Nothing, Entity, Policy, IsCommand}
-use Rattle.cedar_store.specs.Output.{State, Written, Gives, IsOutput, IsOutputFrom, after}
+use Rattle.cedar_store.specs.Output.{State, Written, RunsCommand, IsOutput, IsOutputFrom, after}
 
 -- ---- Fields are at most one command
 
@@ -86,7 +86,7 @@ joined : (t t' : State) (out out' : List ℕ) → t.entities ≡ t'.entities →
     → (t ≡ t') × (out ≡ out')
 joined t t' out out' e b o = (λ i. record { entities = e i; policy_sets = b i }, o)
 
-one_step : (s t t' : State) (c : Command) (out out' : List ℕ) → Gives s c t out → Gives s c t' out'
+one_step : (s t t' : State) (c : Command) (out out' : List ℕ) → RunsCommand s c t out → RunsCommand s c t' out'
     → (t ≡ t') × (out ≡ out')
 one_step s t t' Nothing out out' h k = (h.0 ∙ sym k.0, h.1 ∙ sym k.1)
 one_step s t t' (Entity c) out out' h k =
@@ -102,7 +102,7 @@ unfolding IsOutputFrom
 one_from [] n s v w h k = h ∙ sym k
 one_from (l ∷ ls) n s v w (inl h) (inl k) =
     let c : h.0 ≡ k.0 = one_command h.0 k.0 _ h.4.1 k.4.1 in
-    let step = one_step s h.1 k.1 k.0 h.2 k.2 (subst (λ d. Gives s d h.1 h.2) c h.5) k.5 in
+    let step = one_step s h.1 k.1 k.0 h.2 k.2 (subst (λ d. RunsCommand s d h.1 h.2) c h.5) k.5 in
     let rest = one_from ls (n + 1) k.1 h.3 k.3 (subst (λ t. IsOutputFrom (n + 1) t ls h.3) step.0 h.6) k.6 in
     h.7 ∙ (λ i. after (step.1 i) (rest i)) ∙ sym k.7
 one_from (l ∷ ls) n s v w (inl h) (inr k) = absurd (k.0 h.0 h.4)

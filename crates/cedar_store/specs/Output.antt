@@ -7,9 +7,9 @@ use Rattle.std.specs.Prelude.{◌≡◌, ◌⊎◌, ℕ, ◌+◌, List, [], ◌�
 use Rattle.std.specs.List.{slice_split}
 use Rattle.std.specs.Fmt.{decimal}
 use Rattle.cedar_lines.specs.Lines.{written_line}
-use Rattle.cedar_entity_lines.specs.EntityOutput.{EntityState, no_entity, EntityGives}
+use Rattle.cedar_entity_lines.specs.EntityOutput.{EntityState, no_entity, RunsEntityCommand}
 use Rattle.cedar_policy_lines.specs.TwoSets.{TwoSets, no_sets}
-use Rattle.cedar_policy_lines.specs.PolicyOutput.{PolicyGives}
+use Rattle.cedar_policy_lines.specs.PolicyOutput.{RunsPolicyCommand}
 use Rattle.cedar_store.specs.Command.{Command, Nothing, Entity, Policy, IsLine}
 
 -- The state between two lines: the queued entities with the input store that the program's store is computed from, and
@@ -24,10 +24,10 @@ start = record { entities = no_entity; policy_sets = no_sets }
 
 -- Whether a command in the state `s` leads to the state `t` and writes `out`. `Nothing` changes and writes nothing. A
 -- command on the store leaves the policy sets unchanged, and a command on policy sets leaves the store unchanged.
-abbrev pub Gives : State → Command → State → List ℕ → Type 0
-Gives s Nothing t out = (t ≡ s) × (out ≡ [])
-Gives s (Entity c) t out = EntityGives c s.entities t.entities out × (t.policy_sets ≡ s.policy_sets)
-Gives s (Policy c) t out = (t.entities ≡ s.entities) × PolicyGives c s.policy_sets t.policy_sets out
+abbrev pub RunsCommand : State → Command → State → List ℕ → Type 0
+RunsCommand s Nothing t out = (t ≡ s) × (out ≡ [])
+RunsCommand s (Entity c) t out = RunsEntityCommand c s.entities t.entities out × (t.policy_sets ≡ s.policy_sets)
+RunsCommand s (Policy c) t out = (t.entities ≡ s.entities) × RunsPolicyCommand c s.policy_sets t.policy_sets out
 
 -- The output of a run: all bytes that it writes, and its status.
 pub record Written : Type 0 where
@@ -51,7 +51,7 @@ unfoldable pub IsOutputFrom : ℕ → State → List (List ℕ) → Written → 
 IsOutputFrom n s [] w = w ≡ record { bytes = []; status = 0 }
 IsOutputFrom n s (l ∷ ls) w =
     ((c : Command) × (t : State) × (out : List ℕ) × (v : Written)
-    × IsLine c l × Gives s c t out × IsOutputFrom (n + 1) t ls v × (w ≡ after out v))
+    × IsLine c l × RunsCommand s c t out × IsOutputFrom (n + 1) t ls v × (w ≡ after out v))
     ⊎ (((c : Command) → IsLine c l → ⊥) × (w ≡ record { bytes = not_command n; status = 2 }))
 
 -- Whether `w` is the output of this input. The lines are separated by line feeds, and their numbers start with 1. The

@@ -3,7 +3,7 @@ use Rattle.std.specs.Prelude.{◌≡◌, ℕ, Bool, true, false, List, ◌++◌}
 use Rattle.cedar_entity_lines.specs.Holding as held
 use Rattle.cedar_policy_lines.specs.TwoSets.{TwoSets}
 use Rattle.cedar_store.specs.Command.{Command, IsLine}
-use Rattle.cedar_store.specs.Output.{State, Gives}
+use Rattle.cedar_store.specs.Output.{State, RunsCommand}
 
 -- The value of a session: the store with its queued entities, the two policy sets, and whether the session is lost.
 pub record SessionView : Type 0 where
@@ -17,7 +17,7 @@ IsLost v = v.is_lost ≡ true
 
 -- Whether a session is in a state. The session's store and queue have the content of the state, the policy sets are
 -- equal, and the session is not lost.
-pub record StandsAt (v : SessionView) (s : State) : Type 0 where
+pub record IsInState (v : SessionView) (s : State) : Type 0 where
   pub entities : held.Holds v.entities s.entities
   pub policy_sets : v.policy_sets ≡ s.policy_sets
   pub whole : v.is_lost ≡ false
@@ -25,7 +25,7 @@ pub record StandsAt (v : SessionView) (s : State) : Type 0 where
 -- Whether a session runs a line correctly, given the state `s` before it and the returned truth value. After a command
 -- the session is in the next state, and the command's output is appended. After any other line the session is in the
 -- same state, and nothing is appended.
-abbrev pub Takes : Bool → List ℕ → State → SessionView → List ℕ → List ℕ → Type 0
-Takes true line s v old new = (c : Command) × (t : State) × (out : List ℕ) × IsLine c line × Gives s c t out
-    × StandsAt v t × (new ≡ old ++ out)
-Takes false line s v old new = ((c : Command) → IsLine c line → ⊥) × StandsAt v s × (new ≡ old)
+abbrev pub RunsLine : Bool → List ℕ → State → SessionView → List ℕ → List ℕ → Type 0
+RunsLine true line s v old new = (c : Command) × (t : State) × (out : List ℕ) × IsLine c line × RunsCommand s c t out
+    × IsInState v t × (new ≡ old ++ out)
+RunsLine false line s v old new = ((c : Command) → IsLine c line → ⊥) × IsInState v s × (new ≡ old)

@@ -21,6 +21,9 @@ pub use cedar_action::ActionTypesError;
 pub use cedar_action::EntityIterator;
 pub use cedar_annotation::Annotation;
 pub use cedar_annotation::Annotations;
+pub use cedar_dry_run::have_no_indirect;
+pub use cedar_dry_run::would_add;
+pub use cedar_dry_run::would_upsert;
 pub use cedar_entities::Ancestors;
 pub use cedar_entities::Dereference;
 pub use cedar_entities::Entities;
@@ -109,9 +112,6 @@ pub use cedar_terms::Value;
 pub use cedar_terms::ValueKind;
 pub use cedar_terms::Var;
 pub use cedar_terms::is_reserved_key;
-pub use cedar_trial_edits::are_bare;
-pub use cedar_trial_edits::would_add;
-pub use cedar_trial_edits::would_upsert;
 pub use cedar_uid_sets::Union;
 pub use program::RunError;
 pub use program::run;
@@ -123,10 +123,10 @@ pub use session::push_not_command;
 
 /// Bindings of slots, and the functions and errors on them.
 pub mod bindings {
-    pub use cedar_action::action::JoinedUids;
+    pub use cedar_action::action::UidPairs;
     pub use cedar_binding::err::ArityText;
     pub use cedar_binding::{
-        JoinedBindings, bound_to, check_bindings, copy_of_bindings, no_bindings, same_bindings,
+        BindingPairs, bound_to, check_bindings, copy_of_bindings, no_bindings, same_bindings,
     };
 }
 

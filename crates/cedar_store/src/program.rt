@@ -106,7 +106,7 @@ fn answer<S: BuildHasher + Copy>(
     while let Some(rest) = left {
         let (line, behind) = first_line(rest);
         number += 1;
-        if !session.take_fields_of(alloc, &mut fields, line, &mut out)? {
+        if !session.apply_fields_of(alloc, &mut fields, line, &mut out)? {
             push_not_command(alloc, &mut out, number)?;
             return Ok((out, 2, session));
         }

@@ -1,7 +1,7 @@
 //! A session, which runs the lines of the program one at a time.
 ghost use Rattle.std.specs.Prelude.{◌≡◌, ◌++◌, IfOk, OnOk, OnErr, IsErr, map};
 ghost use Rattle.cedar_store.specs.Command.{Entity, Policy};
-ghost use Rattle.cedar_store.specs.Sessions.{StandsAt, IsLost, Takes};
+ghost use Rattle.cedar_store.specs.Sessions.{IsInState, IsLost, RunsLine};
 ghost use Rattle.cedar_store.specs.laws.Sessions.{TakesKind, begins_with_ent};
 ghost use Rattle.cedar_store.specs.Output.{State, start, not_command};
 
@@ -82,7 +82,7 @@ impl Session {
     ///
     /// The original has no such function.
     pub fn new(alloc: Global) -> Session
-        ensures { StandsAt result start }
+        ensures { IsInState result start }
     {
         Session::with_hasher(alloc, BuildHasherDefault::new())
     }
@@ -92,7 +92,7 @@ impl<S: BuildHasher + Copy> Session<S> {
     /// Creates a session as [`Session::new`] does, with maps that use this builder of hashers. The choice of hasher
     /// never changes the output.
     pub fn with_hasher(alloc: Global, hasher: S) -> Session<S>
-        ensures { StandsAt result start }
+        ensures { IsInState result start }
     {
         Session {
             entities: LineStore::with_hasher(alloc, hasher),
@@ -103,13 +103,13 @@ impl<S: BuildHasher + Copy> Session<S> {
     }
 
     // Runs the fields of a line if they are a command on the store, and returns whether they are.
-    fn take_on_store(
+    fn apply_to_store(
         &mut self,
         alloc: Global,
         fields: &[&str],
         out: &mut Vec<u8>,
     ) -> Result<bool, AllocError>
-        ensures { IfOk result (λ taken. (s : State) → StandsAt self.old s →
+        ensures { IfOk result (λ taken. (s : State) → IsInState self.old s →
             TakesKind Entity taken (map (λ f. f.now) fields.now) s self.new out.old.items out.new.items) }
     {
         match read_entity_command(alloc, &mut self.known, fields)? {
@@ -122,17 +122,17 @@ impl<S: BuildHasher + Copy> Session<S> {
     }
 
     // Runs the fields of a line if they are a command on policy sets, and returns whether they are.
-    fn take_on_sets(
+    fn apply_to_sets(
         &mut self,
         alloc: Global,
         fields: &[&str],
         out: &mut Vec<u8>,
     ) -> Result<bool, AllocError>
-        ensures { IfOk result (λ taken. (s : State) → StandsAt self.old s →
+        ensures { IfOk result (λ taken. (s : State) → IsInState self.old s →
             TakesKind Policy taken (map (λ f. f.now) fields.now) s self.new out.old.items out.new.items) }
     {
         self.sets
-            .take_fields(alloc, self.known.types(), fields, out)
+            .apply_fields(alloc, self.known.types(), fields, out)
     }
 
     // Runs a line if it is a command, and returns whether it is. `fields` is a buffer that callers reuse: its old
@@ -142,15 +142,15 @@ impl<S: BuildHasher + Copy> Session<S> {
     // read. Lines `ent` come first, since most lines declare entities. Lines on policy sets are checked next, because
     // they are cheaper than the other commands on the store. A command is passed directly from its reader to the store
     // or the sets.
-    pub(crate) fn take_fields_of<'a>(
+    pub(crate) fn apply_fields_of<'a>(
         &mut self,
         alloc: Global,
         fields: &mut Vec<&'a str>,
         line: &'a [u8],
         out: &mut Vec<u8>,
     ) -> Result<bool, AllocError>
-        ensures { IfOk result (λ known. (s : State) → StandsAt self.old s →
-            Takes known line.now s self.new out.old.items out.new.items) }
+        ensures { IfOk result (λ known. (s : State) → IsInState self.old s →
+            RunsLine known line.now s self.new out.old.items out.new.items) }
     {
         if line.is_empty() {
             return Ok(true);
@@ -159,11 +159,11 @@ impl<S: BuildHasher + Copy> Session<S> {
         if !is_text {
             return Ok(false);
         }
-        let waits = self.entities.take_ent(alloc, &mut self.known, fields)?;
+        let waits = self.entities.apply_ent(alloc, &mut self.known, fields)?;
         if waits {
             return Ok(true);
         }
-        let on_sets = self.take_on_sets(alloc, fields, out)?;
+        let on_sets = self.apply_to_sets(alloc, fields, out)?;
         if on_sets {
             return Ok(true);
         }
@@ -171,7 +171,7 @@ impl<S: BuildHasher + Copy> Session<S> {
         if begins_with_ent(fields) {
             return Ok(false);
         }
-        let on_store = self.take_on_store(alloc, fields, out)?;
+        let on_store = self.apply_to_store(alloc, fields, out)?;
         if on_store {
             return Ok(true);
         }
@@ -198,15 +198,15 @@ impl<S: BuildHasher + Copy> Session<S> {
     /// # Differences from cedar-policy-core
     ///
     /// The original has no such function.
-    pub fn take_line(
+    pub fn apply_line(
         &mut self,
         alloc: Global,
         line: &[u8],
         out: &mut Vec<u8>,
     ) -> Result<bool, AllocError>
         // If the session is in a state, it runs the line in that state.
-        ensures takes { IfOk result (λ known. (s : State) → StandsAt self.old s →
-            Takes known line.now s self.new out.old.items out.new.items) }
+        ensures takes { IfOk result (λ known. (s : State) → IsInState self.old s →
+            RunsLine known line.now s self.new out.old.items out.new.items) }
 
         // After an allocation failure the session is lost.
         ensures lost { OnErr result (IsLost self.new) }
@@ -218,7 +218,7 @@ impl<S: BuildHasher + Copy> Session<S> {
             return Err(AllocError);
         }
         let mut fields = Vec::new(alloc);
-        let known = self.take_fields_of(alloc, &mut fields, line, out);
+        let known = self.apply_fields_of(alloc, &mut fields, line, out);
         self.is_lost = known.is_err();
         known
     }

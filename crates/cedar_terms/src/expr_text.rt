@@ -22,25 +22,25 @@ pub(crate) fn show<W: fmt::Write>(expr: &Expr, f: &mut fmt::Formatter<W>) -> fmt
         ExprKind::Unknown(unknown) => write!(f, "{unknown}"),
         ExprKind::Set(exprs) => {
             f.write_str("[")?;
-            show_all(exprs, f)?;
+            write_all_exprs(exprs, f)?;
             f.write_str("]")
         }
         ExprKind::Call(name, args) => {
             write!(f, "{name}(")?;
-            show_all(args, f)?;
+            write_all_exprs(args, f)?;
             f.write_str(")")
         }
         ExprKind::Not(operand) => {
             f.write_str("!")?;
-            show_operand(operand, f)
+            write_operand(operand, f)
         }
         ExprKind::Binary(op, left, right) => {
-            show_operand(left, f)?;
-            show_operator(*op, f)?;
-            show_operand(right, f)
+            write_operand(left, f)?;
+            write_operator(*op, f)?;
+            write_operand(right, f)
         }
         ExprKind::Is(operand, ty) => {
-            show_operand(operand, f)?;
+            write_operand(operand, f)?;
             write!(f, " is {ty}")
         }
     }
@@ -48,11 +48,11 @@ pub(crate) fn show<W: fmt::Write>(expr: &Expr, f: &mut fmt::Formatter<W>) -> fmt
 
 // Writes an operand, in parentheses if it is not an atom.
 #[cycle(show)]
-fn show_operand<W: fmt::Write>(expr: &Expr, f: &mut fmt::Formatter<W>) -> fmt::Result
+fn write_operand<W: fmt::Write>(expr: &Expr, f: &mut fmt::Formatter<W>) -> fmt::Result
     ensures { is_ascii_expr expr.now ≡ true → WritesOnOk W.write_str_gives f.old result
         (operand (is_atom expr.now) (expr_text expr.now)) f.new }
 {
-    if stands_bare(expr) {
+    if is_unparenthesized(expr) {
         show(expr, f)
     } else {
         f.write_str("(")?;
@@ -63,7 +63,7 @@ fn show_operand<W: fmt::Write>(expr: &Expr, f: &mut fmt::Formatter<W>) -> fmt::R
 
 // Writes the expressions of a list, separated by a comma and a space.
 #[cycle(show)]
-fn show_all<W: fmt::Write>(exprs: &Vec<Expr>, f: &mut fmt::Formatter<W>) -> fmt::Result
+fn write_all_exprs<W: fmt::Write>(exprs: &Vec<Expr>, f: &mut fmt::Formatter<W>) -> fmt::Result
     ensures { are_ascii_exprs (expr_trees exprs.now.items) ≡ true
         → WritesOnOk W.write_str_gives f.old result
         (exprs_text (expr_trees exprs.now.items)) f.new }
@@ -78,7 +78,7 @@ fn show_all<W: fmt::Write>(exprs: &Vec<Expr>, f: &mut fmt::Formatter<W>) -> fmt:
 }
 
 // Returns whether an operand is an atom, which is written without parentheses.
-fn stands_bare(expr: &Expr) -> bool
+fn is_unparenthesized(expr: &Expr) -> bool
     ensures { result ≡ is_atom expr.now }
 {
     match &expr.kind {
@@ -89,7 +89,7 @@ fn stands_bare(expr: &Expr) -> bool
 }
 
 // Writes an operator between spaces.
-fn show_operator<W: fmt::Write>(op: BinaryOp, f: &mut fmt::Formatter<W>) -> fmt::Result
+fn write_operator<W: fmt::Write>(op: BinaryOp, f: &mut fmt::Formatter<W>) -> fmt::Result
     ensures { WritesOnOk W.write_str_gives f.old result (operator_text (operator_of op)) f.new }
 {
     match op {

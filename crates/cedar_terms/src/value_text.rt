@@ -22,12 +22,12 @@ pub(crate) fn show<W: fmt::Write>(value: &Value, f: &mut fmt::Formatter<W>) -> f
         ValueKind::Lit(literal) => write!(f, "{literal}"),
         ValueKind::Set(elements) => {
             f.write_str("[")?;
-            show_elements(elements, f)?;
+            write_elements(elements, f)?;
             f.write_str("]")
         }
         ValueKind::Record(fields) => {
             f.write_str("{")?;
-            show_fields(fields, f)?;
+            write_fields(fields, f)?;
             f.write_str("}")
         }
         ValueKind::ExtensionValue(extension) => {
@@ -40,7 +40,7 @@ pub(crate) fn show<W: fmt::Write>(value: &Value, f: &mut fmt::Formatter<W>) -> f
 
 // Writes the elements of a set, separated by a comma and a space.
 #[cycle(show)]
-fn show_elements<W: fmt::Write>(elements: &Vec<Value>, f: &mut fmt::Formatter<W>) -> fmt::Result
+fn write_elements<W: fmt::Write>(elements: &Vec<Value>, f: &mut fmt::Formatter<W>) -> fmt::Result
     ensures { are_ascii_values (value_trees elements.now.items) ≡ true
         → WritesOnOk W.write_str_gives f.old result
         (values_text (value_trees elements.now.items)) f.new }
@@ -56,7 +56,7 @@ fn show_elements<W: fmt::Write>(elements: &Vec<Value>, f: &mut fmt::Formatter<W>
 
 // Writes the keys and values of a record, separated by a comma and a space.
 #[cycle(show)]
-fn show_fields<W: fmt::Write>(
+fn write_fields<W: fmt::Write>(
     fields: &BTreeMap<String, Value>,
     f: &mut fmt::Formatter<W>,
 ) -> fmt::Result
@@ -67,7 +67,7 @@ fn show_fields<W: fmt::Write>(
     let mut before = "";
     for (key, value) in fields.iter() {
         f.write_str(before)?;
-        show_key(key.as_str(), f)?;
+        write_key(key.as_str(), f)?;
         show(value, f)?;
         before = ", ";
     }
@@ -75,7 +75,7 @@ fn show_fields<W: fmt::Write>(
 }
 
 // Writes a quoted key of a record, a colon and a space.
-fn show_key<W: fmt::Write>(key: &str, f: &mut fmt::Formatter<W>) -> fmt::Result
+fn write_key<W: fmt::Write>(key: &str, f: &mut fmt::Formatter<W>) -> fmt::Result
     ensures { is_ascii key.now ≡ true
         → WritesOnOk W.write_str_gives f.old result (quoted key.now ++ codes ": ") f.new }
 {

@@ -10,7 +10,7 @@ use cedar_terms::expr::Expr;
 use cedar_terms::literal::Literal;
 use cedar_terms::slot::{Slot, SlotId};
 use cedar_terms::value::{ExtensionValue, Value, ValueKind};
-use cedar_test_helpers::made::{
+use cedar_test_helpers::creation::{
     both, copies, copy_of, counted, differ, hash_of, is_written, named, owned, shows, start_of,
     typed, uid, with_last,
 };

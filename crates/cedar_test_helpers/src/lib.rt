@@ -2,6 +2,6 @@
 //! drops its arguments explicitly, on each path.
 #![tactic(auto)]
 
-pub mod made;
+pub mod creation;
+pub mod results;
 pub mod rows;
-pub mod tried;

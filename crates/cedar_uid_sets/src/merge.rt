@@ -32,7 +32,7 @@ pub(crate) fn shared<S: BuildHasher + Drop>(
 
 // Moves the uids that are less than `uid` from the front of the queue to the end of the vector. Drops the next uid if
 // it is equal to `uid`.
-fn move_below(queue: &mut VecDeque<SharedUid>, uid: &Key<'_>, to: &mut Vec<SharedUid>)
+fn shift_lower(queue: &mut VecDeque<SharedUid>, uid: &Key<'_>, to: &mut Vec<SharedUid>)
     requires { vec_len to.old + deque_len queue.old ≤ vec_capacity to.old }
     ensures moved { to.new.items ≡ to.old.items ++ below uid.now queue.old.items }
     ensures left { queue.new.items ≡ above uid.now queue.old.items }
@@ -79,7 +79,7 @@ pub(crate) fn merge(
     let mut left = VecDeque::from_vec(left);
     let mut right = VecDeque::from_vec(right);
     while let Some(shared) = right.pop_front() {
-        move_below(&mut left, &shared.key(), &mut to);
+        shift_lower(&mut left, &shared.key(), &mut to);
         to.push_reserved(shared);
     }
     move_all(left, &mut to);

@@ -63,7 +63,7 @@ fn has_numbers(uids: &[SharedUid], uid: &Key<'_>) -> bool
 
 // Returns `false` only if the uid is not among the uids. If there are few uids, comparing the numbers mostly shows
 // that.
-pub(crate) fn may_be_among(uids: &[SharedUid], uid: &Key<'_>) -> bool
+pub(crate) fn may_contain(uids: &[SharedUid], uid: &Key<'_>) -> bool
     ensures { (result ≡ false) → is_member same_uid uids.now uid.now ≡ false }
 {
     uids.len() > FEW || has_numbers(uids, uid)

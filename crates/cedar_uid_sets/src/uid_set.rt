@@ -11,7 +11,7 @@ ghost use Rattle.cedar_uid_sets.specs.UidSets.{UidValues, Ascend, Retains};
 use crate::ascending::ascend;
 use crate::fronts::Key;
 use crate::merge::{merge, shared};
-use crate::order::{has, is_one_of, may_be_among, place, place_from_end};
+use crate::order::{has, is_one_of, may_contain, place, place_from_end};
 use crate::shared_uid::SharedUid;
 use cedar_ids::entity::EntityUID;
 use std::alloc::{AllocError, Global};
@@ -158,7 +158,7 @@ impl UidSet {
     fn holds(&self, shared: &SharedUid) -> bool
         ensures { result ≡ set.contains self.now shared.now }
     {
-        may_be_among(&self.uids, &shared.key()) && self.contains_shared(shared)
+        may_contain(&self.uids, &shared.key()) && self.contains_shared(shared)
     }
 
     /// Returns whether one of two sets contains a shared uid. In a set of at most sixteen uids, mostly only the numbers
@@ -245,7 +245,7 @@ impl UidSet {
         if others.len() < FEW && others.len() < self.len() {
             self.remove_each(others.pointers());
         } else {
-            self.keep_others(others);
+            self.retain_unlisted(others);
         }
     }
 
@@ -259,7 +259,7 @@ impl UidSet {
     }
 
     // Keeps the uids that are not in `others`.
-    fn keep_others(&mut self, others: &UidSet)
+    fn retain_unlisted(&mut self, others: &UidSet)
         ensures { self.new ≡ set.difference self.old others.now }
     {
         self.uids.retain(|shared| !others.contains_shared(shared));

@@ -1,6 +1,6 @@
 //! Runs commands interactively: reads a line, runs it and writes the answer, at a terminal or between two pipes.
 use cedar_store::KeyedState;
-use cedar_store::program::{Manner, help_texts, talk};
+use cedar_store::program::{ErrorMode, help_texts, talk};
 use std::env;
 use std::io::{self, Write};
 use std::process::ExitCode;
@@ -8,8 +8,8 @@ use std::process::ExitCode;
 fn main() -> ExitCode {
     let arguments: Vec<_> = env::args_os().skip(1).collect();
     match arguments.as_slice() {
-        [] => held(Manner::Lenient),
-        [only] if only == "--strict" => held(Manner::Strict),
+        [] => held(ErrorMode::Lenient),
+        [only] if only == "--strict" => held(ErrorMode::Strict),
         [only] if only == "--help" => helped(),
         _ => {
             eprintln!("usage: talk [--strict | --help]");
@@ -26,7 +26,7 @@ fn helped() -> ExitCode {
     }
 }
 
-fn held(manner: Manner) -> ExitCode {
+fn held(manner: ErrorMode) -> ExitCode {
     let hasher = KeyedState::default();
     match talk(hasher, manner, &mut io::stdin().lock(), &mut io::stdout().lock()) {
         Ok(status) => ExitCode::from(status),

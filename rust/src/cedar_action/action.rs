@@ -58,7 +58,7 @@ impl fmt::Display for ActionTypesError {
             Self::NotActions(uids) => write!(
                 f,
                 "the action constraint holds uids that are not actions: {}",
-                JoinedUids(uids)
+                UidPairs(uids)
             ),
         }
     }
@@ -68,9 +68,9 @@ impl Error for ActionTypesError {}
 
 /// The uids of an error as its message shows them: separated by commas, without spaces. Writing does not allocate.
 #[derive(Debug)]
-pub struct JoinedUids<'a>(pub &'a NonEmpty<Arc<EntityUID>>);
+pub struct UidPairs<'a>(pub &'a NonEmpty<Arc<EntityUID>>);
 
-impl fmt::Display for JoinedUids<'_> {
+impl fmt::Display for UidPairs<'_> {
     fn fmt(&self, f: &mut fmt::Formatter<'_>) -> fmt::Result {
         write_all(self.0, f)
     }

@@ -10,4 +10,4 @@ pub use check::check_bindings;
 
 pub use err::LinkingError;
 
-pub use slot_env::{JoinedBindings, SlotEnv, bound_to, copy_of_bindings, fitted_bindings, no_bindings, same_bindings};
+pub use slot_env::{BindingPairs, SlotEnv, bound_to, copy_of_bindings, fitted_bindings, no_bindings, same_bindings};

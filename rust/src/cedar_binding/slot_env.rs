@@ -49,9 +49,9 @@ pub fn same_bindings(one: &SlotEnv, other: &SlotEnv) -> bool {
 ///
 /// An eid that is not ASCII is written as by `str::escape_debug`. Writing does not allocate.
 #[derive(Debug)]
-pub struct JoinedBindings<'a>(pub &'a SlotEnv);
+pub struct BindingPairs<'a>(pub &'a SlotEnv);
 
-impl fmt::Display for JoinedBindings<'_> {
+impl fmt::Display for BindingPairs<'_> {
     fn fmt(&self, f: &mut fmt::Formatter<'_>) -> fmt::Result {
         write_bindings(self.0, &SlotId::ALL, f)
     }

@@ -54,13 +54,13 @@ impl<S: BuildHasher + Clone> Children<S> {
 
     // Removes a child of a parent. Removes the parent too if it has no other child.
     fn take(&mut self, parent: &SharedUid, child: &SharedUid) {
-        if self.take_one(parent, child) {
+        if self.remove_child(parent, child) {
             self.remove_parent(parent);
         }
     }
 
     // Removes a child of a parent. Returns whether the parent has no child left.
-    fn take_one(&mut self, parent: &SharedUid, child: &SharedUid) -> bool {
+    fn remove_child(&mut self, parent: &SharedUid, child: &SharedUid) -> bool {
         match self.sets.get_mut(parent) {
             Some(set) => {
                 set.remove(child);
@@ -76,11 +76,11 @@ impl<S: BuildHasher + Clone> Children<S> {
             set.insert(child.clone());
             return;
         }
-        self.put_first(parent, child);
+        self.insert_first_child(parent, child);
     }
 
     // Adds a child to a parent that has no children yet.
-    fn put_first(&mut self, parent: &SharedUid, child: &SharedUid) {
+    fn insert_first_child(&mut self, parent: &SharedUid, child: &SharedUid) {
         let mut set = HashSet::with_hasher(self.sets.hasher().clone());
         set.insert(child.clone());
         self.sets.insert(parent.clone(), set);

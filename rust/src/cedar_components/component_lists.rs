@@ -3,9 +3,9 @@
 //! The lists of numbers that the members of each component reach.
 
 use crate::cedar_components::links::{Arcs, make_links};
-use crate::cedar_components::list_order::{Order, SHORT, append_with, put_in_order, ranks};
-use crate::cedar_components::near_lists::{near_first, set_component};
-use crate::cedar_components::place_bits::{WORDS, take_words};
+use crate::cedar_components::list_order::{Order, SHORT, append_with, ranks, sort_marked};
+use crate::cedar_components::place_bits::{WORDS, push_words};
+use crate::cedar_components::window_lists::{first_window, set_component};
 
 struct Marks {
     list: Vec<usize>,
@@ -110,15 +110,15 @@ fn append_list(r: &mut Lists, s: &mut Marks, order: &Order, p: usize, members: &
         append_with(&mut r.lists, r.start[below], r.start[below + 1], order, w);
         return;
     }
-    let near = near_first(order.places, p, members, arcs);
+    let near = first_window(order.places, p, members, arcs);
     let mut words = [0; WORDS];
     if set_component(&mut words, &near, members, r, arcs) {
-        take_words(&mut r.lists, order.numbers, near.base, &words);
+        push_words(&mut r.lists, order.numbers, near.base, &words);
         return;
     }
     s.list.clear();
     add_component(s, p, members, r, arcs);
-    put_in_order(&mut s.list, &s.stamp, order, p, members.numbers);
+    sort_marked(&mut s.list, &s.stamp, order, p, members.numbers);
     r.lists.extend_from_slice(&s.list);
 }
 

@@ -12,10 +12,10 @@ mod component_lists;
 mod components;
 mod links;
 mod list_order;
-mod near_lists;
 mod place_bits;
 mod search;
 mod single;
+mod window_lists;
 
 /// The numbers that each number of a graph reaches: one list for each strongly connected component.
 #[derive(Debug)]

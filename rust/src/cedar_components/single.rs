@@ -3,7 +3,7 @@
 //! The components of a graph without cycles: each number is a component of its own.
 
 // Returns one more than the index of each number in an order of all numbers.
-fn behind_places(order: &[usize], n: usize) -> Vec<usize> {
+fn places_after(order: &[usize], n: usize) -> Vec<usize> {
     let mut component = vec![0; n];
     for place in 0..order.len() {
         component[order[place]] = place + 1;
@@ -24,7 +24,7 @@ fn none_leads_up(from: &[usize], to: &[usize], component: &[usize]) -> bool {
 // Returns the components in the order of a search, if no arc leads to a number that was finished later. Then each
 // number is a component of its own. Else returns `None`.
 pub(crate) fn single_components(from: &[usize], to: &[usize], order: &[usize], n: usize) -> Option<Vec<usize>> {
-    let component = behind_places(order, n);
+    let component = places_after(order, n);
     if none_leads_up(from, to, &component) {
         return Some(component);
     }

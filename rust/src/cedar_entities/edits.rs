@@ -9,10 +9,10 @@ use crate::cedar_entities::lists::{held_uids, pointers_of};
 use crate::cedar_entity::err::EntitiesError;
 use crate::cedar_entity::node::SharedEntity;
 use crate::cedar_entity_maps::TCComputation;
-use crate::cedar_entity_maps::index::{Index, join, list_if_it_pays, part, touched_by};
-use crate::cedar_entity_maps::modes::{Row, mending, row_computes, row_of};
-use crate::cedar_entity_maps::settling::finish;
-use crate::cedar_entity_maps::touching::{Loss, losses_by, note_all, strip_each};
+use crate::cedar_entity_maps::affected::{StaleAncestors, collect_stale, insert_uids, strip_each};
+use crate::cedar_entity_maps::finalize::finish;
+use crate::cedar_entity_maps::index::{Index, affected_by, join, list_if_it_pays, part};
+use crate::cedar_entity_maps::modes::{EditRules, rules_compute, rules_of, with_repair};
 use crate::cedar_ids::entity::EntityUID;
 use crate::cedar_uid_sets::{SharedUid, UidSet};
 use std::collections::{HashMap, HashSet};
@@ -20,8 +20,8 @@ use std::hash::BuildHasher;
 
 // The uids of the entities to remove, the entities to insert, and the uids of both.
 struct Change {
-    pub(crate) gone: UidSet,
-    pub(crate) coming: Vec<Incoming>,
+    pub(crate) removed: UidSet,
+    pub(crate) incoming: Vec<Incoming>,
     pub(crate) uids: Vec<SharedUid>,
 }
 
@@ -29,30 +29,30 @@ struct Change {
 // ancestors.
 pub(crate) struct Reading<S: BuildHasher> {
     pub(crate) uids: Vec<SharedUid>,
-    pub(crate) touched: HashSet<SharedUid, S>,
-    pub(crate) losses: Vec<Loss>,
+    pub(crate) affected: HashSet<SharedUid, S>,
+    pub(crate) stale: Vec<StaleAncestors>,
 }
 
 // Returns whether the edit removes all indirect ancestors of the affected entities, so that the repair recomputes them
 // from the parents. In a plain store the indirect ancestors are exactly the uids reached over parents. So the result,
 // and whether there is a cycle, is the same as after removing only stale ancestors. All ancestors are written again,
 // because the repair reports cycles or nothing is inserted that could create one.
-fn renews<S: BuildHasher>(index: &Index<S>, coming: &[Incoming], row: Row) -> bool {
+fn renews<S: BuildHasher>(index: &Index<S>, incoming: &[Incoming], row: EditRules) -> bool {
     if !index.plain {
         return false;
     }
     if !row.repairs {
         return false;
     }
-    row_computes(row) || coming.is_empty()
+    rules_compute(row) || incoming.is_empty()
 }
 
 // Returns whether an addition removes all indirect ancestors of the affected entities, for the same reason.
-pub(crate) fn renews_adding<S: BuildHasher>(index: &Index<S>, row: Row) -> bool {
+pub(crate) fn renews_adding<S: BuildHasher>(index: &Index<S>, row: EditRules) -> bool {
     if !index.plain {
         return false;
     }
-    row_computes(row)
+    rules_compute(row)
 }
 
 // Reads the facts for an edit of the uids. Lists the children in the index if that pays.
@@ -60,52 +60,52 @@ fn read<S: BuildHasher + Clone>(
     entities: &HashMap<SharedUid, SharedEntity, S>,
     index: &mut Index<S>,
     uids: Vec<SharedUid>,
-    anew: bool,
+    recompute_all: bool,
 ) -> Reading<S> {
     let mut applied = HashSet::with_hasher(entities.hasher().clone());
-    note_all(&mut applied, uids);
+    insert_uids(&mut applied, uids);
     list_if_it_pays(entities, index);
-    let touched = touched_by(entities, index, &applied);
-    let losses = losses_by(entities, &applied, &touched, anew);
+    let affected = affected_by(entities, index, &applied);
+    let stale = collect_stale(entities, &applied, &affected, recompute_all);
     let uids = listed(&applied);
-    Reading { uids, touched, losses }
+    Reading { uids, affected, stale }
 }
 
 // Inserts an entity, or replaces the entity with its uid.
-fn put_over<S: BuildHasher>(entities: &mut HashMap<SharedUid, SharedEntity, S>, coming: Incoming) {
-    let Incoming { uid: key, entity } = coming;
+fn overwrite<S: BuildHasher>(entities: &mut HashMap<SharedUid, SharedEntity, S>, incoming: Incoming) {
+    let Incoming { uid: key, entity } = incoming;
     entities.insert(key, SharedEntity(entity));
 }
 
 // Inserts the entities one after another. Each replaces the entity with its uid.
 fn overwrite_all<S: BuildHasher>(entities: &mut HashMap<SharedUid, SharedEntity, S>, list: Vec<Incoming>) {
     for entity in list {
-        put_over(entities, entity);
+        overwrite(entities, entity);
     }
 }
 
 // Removes the entity with a uid, if there is one.
-fn take_at<S: BuildHasher>(entities: &mut HashMap<SharedUid, SharedEntity, S>, uid: &SharedUid) {
+fn remove_at<S: BuildHasher>(entities: &mut HashMap<SharedUid, SharedEntity, S>, uid: &SharedUid) {
     entities.remove(uid);
 }
 
 // Removes the entities with the uids.
-fn take_out<S: BuildHasher>(entities: &mut HashMap<SharedUid, SharedEntity, S>, gone: Vec<SharedUid>) {
-    for uid in gone {
-        take_at(entities, &uid);
+fn remove_each<S: BuildHasher>(entities: &mut HashMap<SharedUid, SharedEntity, S>, removed: Vec<SharedUid>) {
+    for uid in removed {
+        remove_at(entities, &uid);
     }
 }
 
 // Removes stale ancestors, removes entities, and inserts entities.
 fn write<S: BuildHasher>(
     entities: &mut HashMap<SharedUid, SharedEntity, S>,
-    losses: Vec<Loss>,
-    gone: UidSet,
-    coming: Vec<Incoming>,
+    stale: Vec<StaleAncestors>,
+    removed: UidSet,
+    incoming: Vec<Incoming>,
 ) {
-    strip_each(entities, losses, &gone);
-    take_out(entities, gone.into_pointers());
-    overwrite_all(entities, coming);
+    strip_each(entities, stale, &removed);
+    remove_each(entities, removed.into_pointers());
+    overwrite_all(entities, incoming);
 }
 
 // Makes an edit and finalizes it by the edit rules. After an error the map must not be used.
@@ -113,43 +113,55 @@ fn edit<S: BuildHasher + Clone>(
     entities: &mut HashMap<SharedUid, SharedEntity, S>,
     index: &mut Index<S>,
     change: Change,
-    row: Row,
+    row: EditRules,
 ) -> Result<(), EntitiesError> {
-    let Change { gone, coming, uids } = change;
-    let anew = renews(index, &coming, row);
-    let reading = read(entities, index, uids, anew);
-    let Reading { uids, touched, losses } = reading;
-    part(index, entities, &uids, gone.pointers());
-    write(entities, losses, gone, coming);
+    let Change {
+        removed,
+        incoming,
+        uids,
+    } = change;
+    let recompute_all = renews(index, &incoming, row);
+    let reading = read(entities, index, uids, recompute_all);
+    let Reading { uids, affected, stale } = reading;
+    part(index, entities, &uids, removed.pointers());
+    write(entities, stale, removed, incoming);
     join(index, entities, &uids);
-    finish(entities, &touched, row)
+    finish(entities, &affected, row)
 }
 
 // Overwrites entities, and finalizes the edit by the edit rules of the mode.
-pub(crate) fn put_all_over<S: BuildHasher + Clone>(
+pub(crate) fn overwrite_and_finalize<S: BuildHasher + Clone>(
     entities: &mut HashMap<SharedUid, SharedEntity, S>,
     index: &mut Index<S>,
-    coming: Vec<Incoming>,
+    incoming: Vec<Incoming>,
     tc_computation: TCComputation,
 ) -> Result<(), EntitiesError> {
-    let uids = uids_in(&coming);
-    let gone = UidSet::new();
-    let change = Change { gone, coming, uids };
-    edit(entities, index, change, row_of(tc_computation))
+    let uids = uids_in(&incoming);
+    let removed = UidSet::new();
+    let change = Change {
+        removed,
+        incoming,
+        uids,
+    };
+    edit(entities, index, change, rules_of(tc_computation))
 }
 
 // Removes entities, also as parents, and finalizes the edit by the edit rules of the mode.
-pub(crate) fn take_all_out<S: BuildHasher + Clone>(
+pub(crate) fn remove_and_finalize<S: BuildHasher + Clone>(
     entities: &mut HashMap<SharedUid, SharedEntity, S>,
     index: &mut Index<S>,
     list: impl IntoIterator<Item = EntityUID>,
     tc_computation: TCComputation,
 ) -> Result<(), EntitiesError> {
     let listed = held_uids(entities, list);
-    let gone = UidSet::from_pointers(listed);
-    let uids = pointers_of(&gone);
-    let coming = Vec::new();
-    let change = Change { gone, coming, uids };
-    let row = mending(row_of(tc_computation));
+    let removed = UidSet::from_pointers(listed);
+    let uids = pointers_of(&removed);
+    let incoming = Vec::new();
+    let change = Change {
+        removed,
+        incoming,
+        uids,
+    };
+    let row = with_repair(rules_of(tc_computation));
     edit(entities, index, change, row)
 }

@@ -4,7 +4,7 @@
 
 use crate::cedar_children::listed;
 use crate::cedar_entities::dereference::{Dereference, unknown_of};
-use crate::cedar_entities::edits::{put_all_over, renews_adding, take_all_out};
+use crate::cedar_entities::edits::{overwrite_and_finalize, remove_and_finalize, renews_adding};
 use crate::cedar_entities::incoming::{Incoming, shared_all, stays_plain, uids_in, with_uids};
 use crate::cedar_entities::lists::absent_uids;
 use crate::cedar_entities::store_iters::{IntoIter, Iter};
@@ -13,10 +13,10 @@ use crate::cedar_entities::store_valid::check_each;
 use crate::cedar_entity::entity::Entity;
 use crate::cedar_entity::err::EntitiesError;
 use crate::cedar_entity::node::SharedEntity;
-use crate::cedar_entity_maps::index::{Index, join, list_if_it_pays, touched_by};
-use crate::cedar_entity_maps::modes::row_of;
-use crate::cedar_entity_maps::settling::{check, settle_touched, settle_whole};
-use crate::cedar_entity_maps::touching::{forget_each, note_all};
+use crate::cedar_entity_maps::affected::{forget_each, insert_uids};
+use crate::cedar_entity_maps::finalize::{check, finalize_affected, finalize_all};
+use crate::cedar_entity_maps::index::{Index, affected_by, join, list_if_it_pays};
+use crate::cedar_entity_maps::modes::rules_of;
 use crate::cedar_ids::entity::EntityUID;
 use crate::cedar_keyed_hash::KeyedState;
 use crate::cedar_uid_sets::SharedUid;
@@ -54,11 +54,11 @@ pub struct Entities<S: BuildHasher = KeyedState> {
 
 // Inserts an entity if its uid is new. Otherwise the existing entity must be deeply equal to it. If it is not, the new
 // entity is returned.
-fn put_new<S: BuildHasher>(
+fn insert_if_new<S: BuildHasher>(
     entities: &mut HashMap<SharedUid, SharedEntity, S>,
-    coming: Incoming,
+    incoming: Incoming,
 ) -> Option<Arc<Entity>> {
-    let Incoming { uid, entity } = coming;
+    let Incoming { uid, entity } = incoming;
     match entities.entry(uid) {
         Entry::Occupied(place) => {
             if place.get().0.deep_eq(&entity) {
@@ -74,12 +74,12 @@ fn put_new<S: BuildHasher>(
 }
 
 // Inserts the entities one after another.
-fn put_all<S: BuildHasher>(
+fn insert_each<S: BuildHasher>(
     entities: &mut HashMap<SharedUid, SharedEntity, S>,
     list: Vec<Incoming>,
 ) -> Result<(), EntitiesError> {
     for entity in list {
-        if let Some(other) = put_new(entities, entity) {
+        if let Some(other) = insert_if_new(entities, entity) {
             return Err(EntitiesError::Duplicate(other.uid().clone()));
         }
     }
@@ -98,8 +98,8 @@ fn fill<S: BuildHasher + Clone>(
     tc_computation: TCComputation,
 ) -> Result<(), EntitiesError> {
     make_room(entities, list.len());
-    put_all(entities, list)?;
-    settle_whole(entities, tc_computation)
+    insert_each(entities, list)?;
+    finalize_all(entities, tc_computation)
 }
 
 // Adds entities, and finalizes the affected entities. In a plain store, all indirect ancestors of the affected entities
@@ -113,15 +113,15 @@ fn add_to<S: BuildHasher + Clone>(
     let uids = uids_in(&list);
     let fresh = absent_uids(entities, uids);
     let mut inserted = HashSet::with_hasher(entities.hasher().clone());
-    note_all(&mut inserted, fresh);
+    insert_uids(&mut inserted, fresh);
     let joining = listed(&inserted);
     list_if_it_pays(entities, index);
-    put_all(entities, list)?;
-    let touched = touched_by(entities, index, &inserted);
-    let anew = renews_adding(index, row_of(tc_computation));
-    forget_each(entities, &inserted, &touched, anew);
+    insert_each(entities, list)?;
+    let affected = affected_by(entities, index, &inserted);
+    let recompute_all = renews_adding(index, rules_of(tc_computation));
+    forget_each(entities, &inserted, &affected, recompute_all);
     join(index, entities, &joining);
-    settle_touched(entities, &touched, tc_computation)
+    finalize_affected(entities, &affected, tc_computation)
 }
 
 // Adds entities.
@@ -395,9 +395,9 @@ impl<S: BuildHasher + Clone> Entities<S> {
             partial,
             mut index,
         } = self;
-        let coming = with_uids(list);
-        let stays = stays_plain(tc_computation, &coming);
-        add_all(&mut entities, &mut index, coming, tc_computation)?;
+        let incoming = with_uids(list);
+        let stays = stays_plain(tc_computation, &incoming);
+        add_all(&mut entities, &mut index, incoming, tc_computation)?;
         Ok(Self {
             entities,
             partial,
@@ -470,9 +470,9 @@ impl<S: BuildHasher + Clone> Entities<S> {
             partial,
             mut index,
         } = self;
-        let coming = with_uids(list);
-        let stays = stays_plain(tc_computation, &coming);
-        put_all_over(&mut entities, &mut index, coming, tc_computation)?;
+        let incoming = with_uids(list);
+        let stays = stays_plain(tc_computation, &incoming);
+        overwrite_and_finalize(&mut entities, &mut index, incoming, tc_computation)?;
         Ok(Self {
             entities,
             partial,
@@ -534,7 +534,7 @@ impl<S: BuildHasher + Clone> Entities<S> {
             partial,
             mut index,
         } = self;
-        take_all_out(&mut entities, &mut index, list, tc_computation)?;
+        remove_and_finalize(&mut entities, &mut index, list, tc_computation)?;
         Ok(Self {
             entities,
             partial,

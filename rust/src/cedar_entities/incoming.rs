@@ -37,14 +37,14 @@ pub(crate) fn uids_in(list: &[Incoming]) -> Vec<SharedUid> {
 }
 
 // Checks whether an entity has no indirect ancestors.
-fn is_bare(entity: &Entity) -> bool {
+fn has_no_indirect(entity: &Entity) -> bool {
     entity.indirect_ancestors().next().is_none()
 }
 
 // Checks whether none of the entities has indirect ancestors.
-fn are_bare(list: &[Incoming]) -> bool {
-    for coming in list {
-        if !is_bare(&coming.entity) {
+fn have_no_indirect(list: &[Incoming]) -> bool {
+    for incoming in list {
+        if !has_no_indirect(&incoming.entity) {
             return false;
         }
     }
@@ -57,5 +57,5 @@ pub(crate) fn stays_plain(tc_computation: TCComputation, list: &[Incoming]) -> b
     if !computes(tc_computation) {
         return false;
     }
-    are_bare(list)
+    have_no_indirect(list)
 }

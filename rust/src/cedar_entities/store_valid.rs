@@ -10,7 +10,7 @@ use std::collections::HashMap;
 use std::hash::BuildHasher;
 
 // Returns the lesser of an invalid entity and the least one so far.
-fn lesser_faulty<'a>(entity: &'a Entity, least: Option<&'a Entity>) -> Option<&'a Entity> {
+fn min_faulty<'a>(entity: &'a Entity, least: Option<&'a Entity>) -> Option<&'a Entity> {
     if entity.is_valid() {
         return least;
     }
@@ -30,7 +30,7 @@ fn lesser_faulty<'a>(entity: &'a Entity, least: Option<&'a Entity>) -> Option<&'
 fn first_faulty<S: BuildHasher>(entities: &HashMap<SharedUid, SharedEntity, S>) -> Option<&Entity> {
     let mut least = None;
     for node in entities.values() {
-        least = lesser_faulty(&node.0, least);
+        least = min_faulty(&node.0, least);
     }
     least
 }

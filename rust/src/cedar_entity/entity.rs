@@ -976,7 +976,7 @@ impl Entity {
 
     // Returns the ancestor that an error for an action names: an ancestor that is not an action. Returns `None` if the
     // entity is not an action.
-    fn misfit(&self) -> Option<&EntityUID> {
+    fn invalid_action_ancestor(&self) -> Option<&EntityUID> {
         if !self.uid.is_action() {
             return None;
         }
@@ -999,7 +999,7 @@ impl Entity {
         if let Some(ancestor) = self.least_duplicate() {
             return Some(Fault::DuplicateAncestor(ancestor));
         }
-        if let Some(parent) = self.misfit() {
+        if let Some(parent) = self.invalid_action_ancestor() {
             return Some(Fault::ActionParentIsNotAction(parent));
         }
         self.reserved_key().map(Fault::ReservedKey)

@@ -4,8 +4,8 @@
 
 use crate::cedar_entities::{Entities, EntitiesError, Entity, TCComputation};
 use crate::cedar_entity_lines::command::EntityCommand;
-use crate::cedar_entity_lines::given::{entity_of_fields, shared_entity};
 use crate::cedar_entity_lines::parent_fields::KnownUids;
+use crate::cedar_entity_lines::parse_entity::{entity_of_fields, shared_entity};
 use crate::cedar_graph::TcError;
 use crate::cedar_ids::entity::EntityUID;
 use crate::cedar_keyed_hash::KeyedState;
@@ -96,7 +96,7 @@ impl<S: BuildHasher + Copy> LineStore<S> {
 
     // Stores the result of a call and writes the number of its entities. After an error the store is empty, and the
     // error is written.
-    fn keep_and_tell(&mut self, given: Result<Entities<S>, EntitiesError>, out: &mut Vec<u8>) {
+    fn store_and_report(&mut self, given: Result<Entities<S>, EntitiesError>, out: &mut Vec<u8>) {
         match given {
             Ok(store) => {
                 self.store = store;
@@ -115,7 +115,7 @@ impl<S: BuildHasher + Copy> LineStore<S> {
         let hasher = *self.store.hasher();
         let store = mem::replace(&mut self.store, Entities::with_hasher(hasher));
         let given = store.add_entities(list, TCComputation::ComputeNow);
-        self.keep_and_tell(given, out);
+        self.store_and_report(given, out);
     }
 
     // Runs `build`: replaces the store by a store of the queued entities.
@@ -130,7 +130,7 @@ impl<S: BuildHasher + Copy> LineStore<S> {
         let hasher = *self.store.hasher();
         let store = mem::replace(&mut self.store, Entities::with_hasher(hasher));
         let given = store.upsert_entities(list, TCComputation::ComputeNow);
-        self.keep_and_tell(given, out);
+        self.store_and_report(given, out);
     }
 
     // Runs `remove`: removes the entities with these uids.
@@ -138,13 +138,13 @@ impl<S: BuildHasher + Copy> LineStore<S> {
         let hasher = *self.store.hasher();
         let store = mem::replace(&mut self.store, Entities::with_hasher(hasher));
         let given = store.remove_entities(uids, TCComputation::ComputeNow);
-        self.keep_and_tell(given, out);
+        self.store_and_report(given, out);
     }
 
     // Runs `slice`: replaces the store by its slice at these uids.
     fn slice(&mut self, uids: Vec<EntityUID>, out: &mut Vec<u8>) {
         let given = Ok(slice(&self.store, &uids));
-        self.keep_and_tell(given, out);
+        self.store_and_report(given, out);
     }
 
     // Runs `anc`: writes the ancestors of an entity.
@@ -163,7 +163,7 @@ impl<S: BuildHasher + Copy> LineStore<S> {
     /// # Differences from cedar-policy-core
     ///
     /// The original has no such function.
-    pub fn take_ent(&mut self, known: &mut KnownUids, fields: &[&str]) -> bool {
+    pub fn apply_ent(&mut self, known: &mut KnownUids, fields: &[&str]) -> bool {
         let Some((word, rest)) = fields.split_first() else {
             return false;
         };

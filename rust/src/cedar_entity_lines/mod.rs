@@ -4,9 +4,9 @@
 //! entities.
 
 mod command;
-mod given;
 mod machine;
 mod parent_fields;
+mod parse_entity;
 
 pub use command::read_entity_command;
 

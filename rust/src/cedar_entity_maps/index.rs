@@ -4,7 +4,7 @@
 
 use crate::cedar_children::{Children, listed};
 use crate::cedar_entity::node::SharedEntity;
-use crate::cedar_entity_maps::touching::{note_all, touched_by_any};
+use crate::cedar_entity_maps::affected::{affected_by_any, insert_uids};
 use crate::cedar_uid_sets::{SharedUid, UidSet};
 use std::collections::{HashMap, HashSet};
 use std::fmt;
@@ -126,18 +126,18 @@ fn walk_all<S: BuildHasher + Clone>(
     entities: &HashMap<SharedUid, SharedEntity, S>,
     uids: &HashSet<SharedUid, S>,
 ) -> HashSet<SharedUid, S> {
-    let by = touched_by_any(entities, uids);
-    let mut touched = HashSet::with_hasher(entities.hasher().clone());
-    note_all(&mut touched, listed(uids));
-    note_all(&mut touched, by);
-    touched
+    let by = affected_by_any(entities, uids);
+    let mut affected = HashSet::with_hasher(entities.hasher().clone());
+    insert_uids(&mut affected, listed(uids));
+    insert_uids(&mut affected, by);
+    affected
 }
 
 /// Returns the uids of all entities that an edit of `uids` affects. The index may belong to another map if the edit
 /// affects the same entities in both.
 ///
 /// Searches down from the uids if the children are listed, and scans all entities otherwise.
-pub fn touched_by<S: BuildHasher + Clone>(
+pub fn affected_by<S: BuildHasher + Clone>(
     entities: &HashMap<SharedUid, SharedEntity, S>,
     index: &Index<S>,
     uids: &HashSet<SharedUid, S>,
@@ -177,17 +177,17 @@ fn forget_all<S: BuildHasher + Clone>(children: &mut Children<S>, uids: &[Shared
     }
 }
 
-/// Removes the entities at `uids` from the listed children, and removes the uids in `gone` as parents. Call it before
+/// Removes the entities at `uids` from the listed children, and removes the uids in `removed` as parents. Call it before
 /// the entities are changed. Does not allocate.
 pub fn part<S: BuildHasher + Clone>(
     index: &mut Index<S>,
     entities: &HashMap<SharedUid, SharedEntity, S>,
     uids: &[SharedUid],
-    gone: &[SharedUid],
+    removed: &[SharedUid],
 ) {
     if let Some(children) = &mut index.children {
         leave_all(children, entities, uids);
-        forget_all(children, gone);
+        forget_all(children, removed);
     }
 }
 

@@ -3,10 +3,10 @@
 //! The entity map of a store: the modes of its edits, the entities that an edit affects, their stale ancestors, the
 //! index of children, and the finalization of an edit.
 
+pub mod affected;
+pub mod finalize;
 pub mod index;
 pub mod modes;
-pub mod settling;
-mod sought;
-pub mod touching;
+mod uid_lookup;
 
 pub use modes::TCComputation;

@@ -21,7 +21,7 @@ pub enum TCComputation {
 
 /// The edit rules of a mode. A removal repairs the affected entities in every mode.
 #[derive(Clone, Copy, Debug)]
-pub struct Row {
+pub struct EditRules {
     /// Whether added entities, and the entities that have one of them as an ancestor, are repaired.
     pub repairs: bool,
     /// Whether a repair reports a cycle, before it writes an ancestor.
@@ -31,19 +31,19 @@ pub struct Row {
 }
 
 /// Returns the edit rules of a mode. Does not allocate.
-pub fn row_of(tc_computation: TCComputation) -> Row {
+pub fn rules_of(tc_computation: TCComputation) -> EditRules {
     match tc_computation {
-        TCComputation::AssumeAlreadyComputed => Row {
+        TCComputation::AssumeAlreadyComputed => EditRules {
             repairs: false,
             refuses_cycles: false,
             checks: false,
         },
-        TCComputation::EnforceAlreadyComputed => Row {
+        TCComputation::EnforceAlreadyComputed => EditRules {
             repairs: false,
             refuses_cycles: false,
             checks: true,
         },
-        TCComputation::ComputeNow => Row {
+        TCComputation::ComputeNow => EditRules {
             repairs: true,
             refuses_cycles: true,
             checks: false,
@@ -52,8 +52,8 @@ pub fn row_of(tc_computation: TCComputation) -> Row {
 }
 
 /// Returns the edit rules with repair on. A removal uses them. Does not allocate.
-pub fn mending(row: Row) -> Row {
-    Row {
+pub fn with_repair(row: EditRules) -> EditRules {
+    EditRules {
         repairs: true,
         refuses_cycles: row.refuses_cycles,
         checks: row.checks,
@@ -62,11 +62,11 @@ pub fn mending(row: Row) -> Row {
 
 /// Returns whether the edit rules compute the closure of added entities: they repair, report a cycle, and check nothing
 /// else. Does not allocate.
-pub fn row_computes(row: Row) -> bool {
+pub fn rules_compute(row: EditRules) -> bool {
     row.repairs && row.refuses_cycles && !row.checks
 }
 
 /// Returns whether a mode computes the closure of added entities. Does not allocate.
 pub fn computes(tc_computation: TCComputation) -> bool {
-    row_computes(row_of(tc_computation))
+    rules_compute(rules_of(tc_computation))
 }

@@ -3,7 +3,7 @@
 //! Reading the edges of a map of nodes as arcs between numbers.
 
 use crate::cedar_graph::copies::members_of;
-use crate::cedar_graph::numbering::{number_of, put_key};
+use crate::cedar_graph::numbering::{insert_key_copy, number_of};
 use crate::cedar_graph::transitive_closure::TCNode;
 use crate::ordered_map::OrderedSet;
 use std::collections::{HashMap, HashSet};
@@ -28,7 +28,7 @@ struct Edged<'a, K: Eq + Hash, V, S: BuildHasher> {
 }
 
 // Appends a node and its key, unless the node has no edges.
-fn put_edged<'a, K: Clone + Eq + Hash, V: TCNode<K>, S: BuildHasher>(
+fn push_with_edges<'a, K: Clone + Eq + Hash, V: TCNode<K>, S: BuildHasher>(
     edged: &mut Edged<'a, K, V, S>,
     key: &K,
     node: &'a V,
@@ -36,7 +36,7 @@ fn put_edged<'a, K: Clone + Eq + Hash, V: TCNode<K>, S: BuildHasher>(
     if !node.may_have_edges() {
         return;
     }
-    put_key(&mut edged.keys, key);
+    insert_key_copy(&mut edged.keys, key);
     if edged.keys.len() > edged.nodes.len() {
         edged.nodes.push(node);
     }
@@ -57,7 +57,7 @@ fn number_edged<K: Clone + Eq + Hash, V: TCNode<K>, S: BuildHasher + Clone>(
         return edged;
     }
     for (key, node) in nodes {
-        put_edged(&mut edged, key, node);
+        push_with_edges(&mut edged, key, node);
     }
     edged
 }
@@ -118,7 +118,7 @@ fn read_rows<K: Clone + Eq + Hash, V: TCNode<K>, S: BuildHasher>(
 }
 
 // Creates an empty reading of the keys, with capacity for `room` arcs.
-fn nothing_read<K: Clone + Eq + Hash, S: BuildHasher>(keys: OrderedSet<K, S>, room: usize) -> Reading<K, S> {
+fn empty_reading<K: Clone + Eq + Hash, S: BuildHasher>(keys: OrderedSet<K, S>, room: usize) -> Reading<K, S> {
     Reading {
         keys,
         from: Vec::with_capacity(room),
@@ -147,7 +147,7 @@ pub(crate) fn read_arcs<K: Clone + Eq + Hash, V: TCNode<K>, S: BuildHasher + Clo
 ) -> FixReading<K, S> {
     let edged = number_edged(nodes);
     let count = edged.nodes.len();
-    let mut s = nothing_read(edged.keys, count);
+    let mut s = empty_reading(edged.keys, count);
     read_nodes(&edged.nodes, &mut s);
     FixReading {
         reading: s,
@@ -163,7 +163,7 @@ fn number_set<K: Clone + Eq + Hash, S: BuildHasher, F: BuildHasher>(
     let all = members_of(fix);
     let mut keys = OrderedSet::with_capacity_and_hasher(all.len(), hasher);
     for key in &all {
-        put_key(&mut keys, *key);
+        insert_key_copy(&mut keys, *key);
     }
     keys
 }
@@ -175,7 +175,7 @@ pub(crate) fn read_fix<K: Clone + Eq + Hash, V: TCNode<K>, S: BuildHasher + Clon
 ) -> FixReading<K, S> {
     let keys = number_set(nodes.hasher().clone(), fix);
     let fixed = keys.len();
-    let mut s = nothing_read(keys, ARCS);
+    let mut s = empty_reading(keys, ARCS);
     read_rows(nodes, &mut s, 0, fixed);
     let near = s.keys.len();
     read_rows(nodes, &mut s, fixed, near);

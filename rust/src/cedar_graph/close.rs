@@ -46,7 +46,7 @@ fn next_known(numbers: &[usize], start: usize, known: &Known) -> usize {
 
 // Appends to an empty row copies of the keys of the numbers, in order, without the only known one. Comparing with one
 // number is faster than reading marks.
-fn pick_others<K: Clone + Eq + Hash>(row: &mut Vec<K>, keys: &[K], numbers: &[usize], known: &Known) {
+fn push_unknown_keys<K: Clone + Eq + Hash>(row: &mut Vec<K>, keys: &[K], numbers: &[usize], known: &Known) {
     for place in 0..numbers.len() {
         let y = numbers[place];
         pick_key(row, &keys[y], y == known.last);
@@ -58,7 +58,7 @@ fn pick_others<K: Clone + Eq + Hash>(row: &mut Vec<K>, keys: &[K], numbers: &[us
 #[inline(never)]
 fn pick_runs<K: Clone + Eq + Hash>(row: &mut Vec<K>, keys: &[K], numbers: &[usize], known: &Known) {
     if known.count == 1 {
-        return pick_others(row, keys, numbers, known);
+        return push_unknown_keys(row, keys, numbers, known);
     }
     let mut end = next_known(numbers, 0, known);
     pick_run(row, keys, numbers, 0, end);
@@ -169,7 +169,7 @@ pub(crate) fn mark_targets(from: &[usize], to: &[usize], known: &mut Known, x: u
 }
 
 // Checks whether number `x` reaches itself.
-pub(crate) fn goes_back(reached: &Reached, x: usize) -> bool {
+pub(crate) fn reaches_itself(reached: &Reached, x: usize) -> bool {
     listed_for(reached, x).contains(&x)
 }
 
@@ -201,7 +201,7 @@ pub(crate) fn write_rows<K: Clone + Eq + Hash, V: TCNode<K>, S: BuildHasher>(
     for x in 0..read.fixed {
         place = mark_targets(&arcs.from, &arcs.to, &mut known, x, place);
         closings += write_number(nodes, arcs, reached, x, &known);
-        has_loop = has_loop || known.marks[x] != 0 && goes_back(reached, x);
+        has_loop = has_loop || known.marks[x] != 0 && reaches_itself(reached, x);
     }
     let work = Work {
         reads: arcs.reads,

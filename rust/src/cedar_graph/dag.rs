@@ -4,7 +4,7 @@
 
 use crate::cedar_components::Reached;
 use crate::cedar_graph::arcs::{FixReading, Reading, read_arcs, read_fix};
-use crate::cedar_graph::close::{goes_back, reach_of, write_rows};
+use crate::cedar_graph::close::{reach_of, reaches_itself, write_rows};
 use crate::cedar_graph::err::{HasCycle, Result, TcError};
 use crate::cedar_graph::transitive_closure::TCNode;
 use std::collections::{HashMap, HashSet};
@@ -26,7 +26,7 @@ fn first_loop<K: Clone + Eq + Hash, S: BuildHasher>(
     reached: &Reached,
     led: &[bool],
 ) -> Option<usize> {
-    (0..read.fixed).find(|x| led[*x] && goes_back(reached, *x))
+    (0..read.fixed).find(|x| led[*x] && reaches_itself(reached, *x))
 }
 
 // Checks whether each arc leads to a component that comes before its own. If so, no number reaches itself. Otherwise a

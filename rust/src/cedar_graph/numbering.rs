@@ -6,7 +6,7 @@ use crate::ordered_map::OrderedSet;
 use std::hash::{BuildHasher, Hash};
 
 // Inserts a copy of a key, if there is no equal key. Returns the number of the key.
-pub(crate) fn put_key<K: Clone + Eq + Hash, S: BuildHasher>(keys: &mut OrderedSet<K, S>, key: &K) -> usize {
+pub(crate) fn insert_key_copy<K: Clone + Eq + Hash, S: BuildHasher>(keys: &mut OrderedSet<K, S>, key: &K) -> usize {
     let (number, _) = keys.insert_full(key.clone());
     number
 }
@@ -16,5 +16,5 @@ pub(crate) fn number_of<K: Clone + Eq + Hash, S: BuildHasher>(keys: &mut Ordered
     if let Some(number) = keys.get_index_of(key) {
         return number;
     }
-    put_key(keys, key)
+    insert_key_copy(keys, key)
 }

@@ -5,7 +5,7 @@
 use crate::cedar_graph::transitive_closure::TCNode;
 
 // Computes for each number whether an arc leads to it.
-fn led_to(to: &[usize], count: usize) -> Vec<bool> {
+fn has_incoming(to: &[usize], count: usize) -> Vec<bool> {
     let mut led = vec![false; count];
     for number in to {
         if let Some(is_led) = led.get_mut(*number) {
@@ -34,7 +34,7 @@ fn put<K: Clone>(parts: &mut Parts<K>, key: &K, number: usize, is_led: bool) {
 
 // Splits the numbers of the keys into the two parts.
 fn parts_of<K: Clone>(keys: &[K], to: &[usize]) -> Parts<K> {
-    let led = led_to(to, keys.len());
+    let led = has_incoming(to, keys.len());
     let mut parts = Parts {
         keys: Vec::new(),
         led: Vec::new(),

@@ -15,7 +15,7 @@ pub struct Escaped<'a>(pub &'a str);
 impl fmt::Display for Escaped<'_> {
     fn fmt(&self, f: &mut fmt::Formatter<'_>) -> fmt::Result {
         let text = self.0;
-        if is_own_escape(text.as_bytes()) {
+        if is_extra_escape(text.as_bytes()) {
             f.write_str(text)
         } else if text.is_ascii() {
             write_escapes(text.as_bytes(), f)
@@ -35,12 +35,12 @@ impl fmt::Display for Escaped<'_> {
 /// # Differences from cedar-policy-core
 ///
 /// The original has no such function.
-pub fn is_own_escape(text: &[u8]) -> bool {
-    text.iter().all(|b| is_own_escape_byte(*b))
+pub fn is_extra_escape(text: &[u8]) -> bool {
+    text.iter().all(|b| is_extra_escape_byte(*b))
 }
 
 // Returns whether a byte is an ASCII character that is its own escape.
-fn is_own_escape_byte(b: u8) -> bool {
+fn is_extra_escape_byte(b: u8) -> bool {
     (0x20..0x7f).contains(&b) && b != b'\'' && b != b'"' && b != b'\\'
 }
 

@@ -5,7 +5,7 @@
 use crate::cedar_ids::decode::decoded;
 use crate::cedar_ids::entity::{Eid, EntityType, EntityUID};
 use crate::cedar_ids::err::ParseErrors;
-use crate::cedar_ids::escape::{Escaped, is_own_escape};
+use crate::cedar_ids::escape::{Escaped, is_extra_escape};
 use crate::cedar_ids::loc::Loc;
 use crate::cedar_ids::name::read_name;
 use std::sync::Arc;
@@ -36,7 +36,7 @@ fn unescaped(text: &str) -> Option<String> {
 
 // Returns the eid whose escaped text is `text`, if there is one.
 fn eid_text(text: &str) -> Option<String> {
-    if is_own_escape(text.as_bytes()) {
+    if is_extra_escape(text.as_bytes()) {
         let eid = String::from(text);
         Some(eid)
     } else {

@@ -5,8 +5,8 @@
 
 use crate::cedar_ids::entity::{Eid, EntityType, EntityUID};
 use crate::cedar_ids::err::ParseErrors;
-use crate::cedar_ids::escape::is_own_escape;
-use crate::cedar_lines::eid_bytes::is_own_escape_from;
+use crate::cedar_ids::escape::is_extra_escape;
+use crate::cedar_lines::eid_bytes::is_extra_escape_from;
 use crate::cedar_lines::field::uid_field;
 use crate::cedar_lines::room::text_in;
 
@@ -99,7 +99,7 @@ fn read_type(known: &mut KnownTypes, text: &str) -> Option<EntityType> {
 // Returns the text before the first `::"`, and the text between it and the last `"`, if the second needs no escape.
 fn unescaped_halves(text: &str) -> Option<(&str, &str)> {
     let (name, eid) = text.strip_suffix('"')?.split_once("::\"")?;
-    if is_own_escape(eid.as_bytes()) {
+    if is_extra_escape(eid.as_bytes()) {
         return Some((name, eid));
     }
     None
@@ -120,7 +120,7 @@ fn type_of(known: &KnownType) -> EntityType {
 #[inline(always)]
 fn eid_of_type<'a>(known: &KnownType, unclosed: &'a str) -> Option<&'a str> {
     let eid = unclosed.strip_prefix(known.marked.as_str())?;
-    if is_own_escape_from(unclosed.as_bytes(), known.marked.len()) {
+    if is_extra_escape_from(unclosed.as_bytes(), known.marked.len()) {
         return Some(eid);
     }
     None

@@ -48,7 +48,7 @@ fn is_line_byte(b: u8) -> bool {
 
 // Returns whether a line has only tabs and printable ASCII characters. A short line is scanned to its end. That costs
 // less for each byte than a loop that stops early.
-fn has_line_bytes_alone(line: &[u8]) -> bool {
+fn has_only_line_bytes(line: &[u8]) -> bool {
     if 16 <= line.len() && has_line_bytes(line) {
         return true;
     }
@@ -76,8 +76,8 @@ fn text_of(line: &[u8]) -> &str {
 
 // Reads a line of any length as `read_fields` does.
 #[inline(never)]
-fn read_others<'a>(fields: &mut Vec<&'a str>, line: &'a [u8]) -> bool {
-    if !has_line_bytes_alone(line) {
+fn read_remaining<'a>(fields: &mut Vec<&'a str>, line: &'a [u8]) -> bool {
+    if !has_only_line_bytes(line) {
         return false;
     }
     set_fields(fields, text_of(line));
@@ -99,5 +99,5 @@ pub fn read_fields<'a>(fields: &mut Vec<&'a str>, line: &'a [u8]) -> bool {
         set_marked_fields(fields, text_of(line), tabs);
         return true;
     }
-    read_others(fields, line)
+    read_remaining(fields, line)
 }

@@ -2,7 +2,7 @@
 
 //! The errors of creating static policies and of validating templates.
 
-use crate::cedar_action::action::JoinedUids;
+use crate::cedar_action::action::UidPairs;
 use crate::cedar_ids::entity::EntityUID;
 use crate::cedar_ids::non_empty::NonEmpty;
 use crate::cedar_terms::err::ExprValidationError;
@@ -54,7 +54,7 @@ impl fmt::Display for TemplateValidationError {
             Self::InvalidActionType(uids) => write!(
                 f,
                 "the action constraint holds uids that are not actions: {}",
-                JoinedUids(uids)
+                UidPairs(uids)
             ),
             Self::SlotCacheMismatch => f.write_str("template slot cache is inconsistent with condition expression"),
             Self::InvalidExpression(error) => write!(f, "{error}"),

@@ -5,7 +5,7 @@
 use crate::cedar_action::ActionConstraint;
 use crate::cedar_annotation::annotation::Iter;
 use crate::cedar_annotation::{Annotation, Annotations};
-use crate::cedar_binding::{JoinedBindings, SlotEnv, bound_to, copy_of_bindings, no_bindings, same_bindings};
+use crate::cedar_binding::{BindingPairs, SlotEnv, bound_to, copy_of_bindings, no_bindings, same_bindings};
 use crate::cedar_body::Effect;
 use crate::cedar_ids::entity::EntityUID;
 use crate::cedar_ids::id::AnyId;
@@ -13,7 +13,7 @@ use crate::cedar_ids::loc::Loc;
 use crate::cedar_ids::policy_id::PolicyID;
 use crate::cedar_policy::static_policy::StaticPolicy;
 use crate::cedar_policy::template::Template;
-use crate::cedar_policy::unknowns::entities_named;
+use crate::cedar_policy::unknowns::are_entity_names;
 use crate::cedar_scope::{PrincipalConstraint, ResourceConstraint};
 use crate::cedar_terms::expr::Expr;
 use crate::cedar_terms::slot::SlotId;
@@ -993,7 +993,7 @@ impl Policy {
     pub fn unknown_entities_with_hasher<S: BuildHasher>(&self, hasher: S) -> HashSet<EntityUID, S> {
         let condition = self.condition();
         let unknowns = condition.unknowns();
-        entities_named(hasher, &unknowns)
+        are_entity_names(hasher, &unknowns)
     }
 }
 
@@ -1051,7 +1051,7 @@ impl fmt::Display for Policy {
             None => self.parts.template.fmt(f),
             Some(_) => {
                 let id = self.parts.template.id();
-                let bindings = JoinedBindings(&self.parts.values);
+                let bindings = BindingPairs(&self.parts.values);
                 write!(f, "Template Instance of {id}, slots: [{bindings}]")
             }
         }

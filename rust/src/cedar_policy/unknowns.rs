@@ -8,10 +8,10 @@ use std::collections::HashSet;
 use std::hash::BuildHasher;
 
 // Returns the uids that some unknowns represent.
-pub(crate) fn entities_named<S: BuildHasher>(hasher: S, unknowns: &[&Unknown]) -> HashSet<EntityUID, S> {
+pub(crate) fn are_entity_names<S: BuildHasher>(hasher: S, unknowns: &[&Unknown]) -> HashSet<EntityUID, S> {
     let mut uids = HashSet::with_hasher(hasher);
     for unknown in unknowns {
-        let uid = entity_named(unknown);
+        let uid = is_entity_name(unknown);
         put(&mut uids, uid);
     }
     uids
@@ -25,7 +25,7 @@ fn put<S: BuildHasher>(uids: &mut HashSet<EntityUID, S>, uid: Option<EntityUID>)
 }
 
 // Returns the uid that an unknown represents, if there is one.
-fn entity_named(unknown: &Unknown) -> Option<EntityUID> {
+fn is_entity_name(unknown: &Unknown) -> Option<EntityUID> {
     unknown.type_annotation.as_ref()?;
     uid_read(unknown.name.as_str())
 }

@@ -10,7 +10,7 @@ use crate::cedar_lines::known_types::KnownTypes;
 use crate::cedar_lines::room::text_in;
 use crate::cedar_policy::SlotEnv;
 use crate::cedar_policy_lines::field::{TemplateSlots, binding_of, effect_of, renaming_of, slots_of};
-use crate::cedar_policy_lines::named::NamedSlots;
+use crate::cedar_policy_lines::slot_flags::SlotFlags;
 use crate::cedar_terms::slot::SlotId;
 use std::mem;
 
@@ -111,13 +111,13 @@ fn unbind_unless(values: &mut SlotEnv, slot: SlotId, is_named: bool) {
 }
 
 // Returns whether all bound slots are named.
-fn are_named(values: &SlotEnv, named: NamedSlots) -> bool {
+fn has_all_flags(values: &SlotEnv, named: SlotFlags) -> bool {
     values.keys().all(|slot| named.has(*slot))
 }
 
 // Unbinds the slots that are not named. The check before avoids hashing, because mostly there are none.
-fn unbind_others(values: &mut SlotEnv, named: NamedSlots) {
-    if are_named(values, named) {
+fn unbind_unflagged(values: &mut SlotEnv, named: SlotFlags) {
+    if has_all_flags(values, named) {
         return;
     }
     unbind_unless(values, SlotId::Principal, named.has(SlotId::Principal));
@@ -128,7 +128,7 @@ fn unbind_others(values: &mut SlotEnv, named: NamedSlots) {
 // Reads the bindings of a link into the buffers, and returns whether the fields are bindings. Each bound slot has one
 // field.
 fn read_bindings(known: &mut KnownTypes, room: &mut LinkRoom, fields: &[&str]) -> bool {
-    let mut named = NamedSlots::none();
+    let mut named = SlotFlags::none();
     for field in fields {
         let Some((slot, uid)) = binding_of(known, &mut room.eid, field) else {
             return false;
@@ -139,7 +139,7 @@ fn read_bindings(known: &mut KnownTypes, room: &mut LinkRoom, fields: &[&str]) -
         bind(&mut room.eid, &mut room.values, slot, uid);
         named = named.with(slot);
     }
-    unbind_others(&mut room.values, named);
+    unbind_unflagged(&mut room.values, named);
     true
 }
 
@@ -191,7 +191,7 @@ fn merge_of(fields: &[&str]) -> Option<PolicyCommand> {
 }
 
 // Reads the command `other`.
-fn other_of(fields: &[&str]) -> Option<PolicyCommand> {
+fn swap_command_of(fields: &[&str]) -> Option<PolicyCommand> {
     if fields.is_empty() {
         return Some(PolicyCommand::Other);
     }
@@ -221,7 +221,7 @@ fn command_by(known: &mut KnownTypes, room: &mut LinkRoom, word: &str, fields: &
         return unlink_of(fields);
     }
     if word == "other" {
-        return other_of(fields);
+        return swap_command_of(fields);
     }
     if word == "merge" {
         return merge_of(fields);

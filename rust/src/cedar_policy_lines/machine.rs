@@ -94,7 +94,7 @@ impl<S: BuildHasher + Copy> PolicySets<S> {
     }
 
     // Runs the fields after `static` if they are a command, and returns whether they are.
-    fn take_static(&mut self, fields: &[&str], out: &mut Vec<u8>) -> bool {
+    fn remove_static_by_id(&mut self, fields: &[&str], out: &mut Vec<u8>) -> bool {
         match read_static(fields) {
             None => false,
             Some((id, effect)) => {
@@ -105,7 +105,7 @@ impl<S: BuildHasher + Copy> PolicySets<S> {
     }
 
     // Runs the fields after `template` if they are a command, and returns whether they are.
-    fn take_template(&mut self, fields: &[&str], out: &mut Vec<u8>) -> bool {
+    fn remove_template_by_id(&mut self, fields: &[&str], out: &mut Vec<u8>) -> bool {
         match read_template(fields) {
             None => false,
             Some((id, slots)) => {
@@ -117,7 +117,7 @@ impl<S: BuildHasher + Copy> PolicySets<S> {
 
     // Runs the fields after `link` if they are a command, and returns whether they are. The link is made from the
     // buffers in which it was read.
-    fn take_link(&mut self, known: &mut KnownTypes, fields: &[&str], out: &mut Vec<u8>) -> bool {
+    fn remove_link_by_id(&mut self, known: &mut KnownTypes, fields: &[&str], out: &mut Vec<u8>) -> bool {
         let Some(id) = self.room.read(known, fields) else {
             return false;
         };
@@ -128,7 +128,7 @@ impl<S: BuildHasher + Copy> PolicySets<S> {
     }
 
     // Reads the fields of a line as a command and runs it. Returns whether they are a command.
-    fn take_command(&mut self, known: &mut KnownTypes, fields: &[&str], out: &mut Vec<u8>) -> bool {
+    fn apply_command(&mut self, known: &mut KnownTypes, fields: &[&str], out: &mut Vec<u8>) -> bool {
         match self.read(known, fields) {
             None => false,
             Some(command) => {
@@ -148,20 +148,20 @@ impl<S: BuildHasher + Copy> PolicySets<S> {
     /// # Differences from cedar-policy-core
     ///
     /// The original has no such function.
-    pub fn take_fields(&mut self, known: &mut KnownTypes, fields: &[&str], out: &mut Vec<u8>) -> bool {
+    pub fn apply_fields(&mut self, known: &mut KnownTypes, fields: &[&str], out: &mut Vec<u8>) -> bool {
         let Some((word, rest)) = fields.split_first() else {
             return false;
         };
         if *word == "link" {
-            return self.take_link(known, rest, out);
+            return self.remove_link_by_id(known, rest, out);
         }
         if *word == "static" {
-            return self.take_static(rest, out);
+            return self.remove_static_by_id(rest, out);
         }
         if *word == "template" {
-            return self.take_template(rest, out);
+            return self.remove_template_by_id(rest, out);
         }
-        self.take_command(known, fields, out)
+        self.apply_command(known, fields, out)
     }
 
     // Runs `unlink`.

@@ -6,7 +6,7 @@ mod command;
 pub mod field;
 pub mod machine;
 pub mod making;
-mod named;
+mod slot_flags;
 mod writing;
 
 pub use machine::PolicySets;

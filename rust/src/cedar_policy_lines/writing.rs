@@ -3,7 +3,7 @@
 //! The output of the commands on policy sets.
 
 use crate::cedar_ids::entity::EntityUID;
-use crate::cedar_ids::escape::is_own_escape;
+use crate::cedar_ids::escape::is_extra_escape;
 use crate::cedar_ids::policy_id::PolicyID;
 use crate::cedar_lines::writing::push_line;
 use crate::cedar_policy::{LinkingError, Policy};
@@ -49,7 +49,7 @@ fn push_refused_uid(out: &mut Vec<u8>, words: &str, uid: &EntityUID) {
 // Writes the text of an id. Most ids need no escape, and are copied directly.
 fn push_id_text(out: &mut Vec<u8>, id: &PolicyID) {
     let own = id.as_ref().as_bytes();
-    if is_own_escape(own) {
+    if is_extra_escape(own) {
         out.extend_from_slice(own);
         return;
     }

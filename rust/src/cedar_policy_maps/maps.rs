@@ -57,7 +57,7 @@ pub(crate) fn list_policy<S: BuildHasher + Copy>(
 }
 
 // Reserves space for one more policy and its body, and returns their keys and the shared body.
-pub(crate) fn room_for_both<S: BuildHasher + Copy>(
+pub(crate) fn reserve_with_body<S: BuildHasher + Copy>(
     templates: &mut OrderedMap<PolicyID, Arc<Template>, S>,
     links: &mut OrderedMap<PolicyID, Policy, S>,
     policy: &Policy,
@@ -146,22 +146,22 @@ pub(crate) fn bodies_by_id<S: BuildHasher + Copy>(
     bodies: Vec<Arc<Template>>,
 ) -> OrderedMap<PolicyID, Arc<Template>, S> {
     let mut templates = OrderedMap::with_capacity_and_hasher(bodies.len(), hasher);
-    put_bodies(&mut templates, bodies);
+    fill_bodies(&mut templates, bodies);
     templates
 }
 
 // Fills an empty map with bodies, by their ids.
-fn put_bodies<S: BuildHasher + Copy>(
+fn fill_bodies<S: BuildHasher + Copy>(
     templates: &mut OrderedMap<PolicyID, Arc<Template>, S>,
     bodies: Vec<Arc<Template>>,
 ) {
     for template in bodies {
-        put_body(templates, template);
+        push_body(templates, template);
     }
 }
 
 // Appends a body with a new id.
-fn put_body<S: BuildHasher + Copy>(templates: &mut OrderedMap<PolicyID, Arc<Template>, S>, template: Arc<Template>) {
+fn push_body<S: BuildHasher + Copy>(templates: &mut OrderedMap<PolicyID, Arc<Template>, S>, template: Arc<Template>) {
     let id = template.id().clone();
     insert_new(templates, id, template);
 }
@@ -172,19 +172,19 @@ pub(crate) fn policies_by_id<S: BuildHasher + Copy>(
     policies: Vec<Policy>,
 ) -> OrderedMap<PolicyID, Policy, S> {
     let mut links = OrderedMap::with_capacity_and_hasher(policies.len(), hasher);
-    put_policies(&mut links, policies);
+    fill_policies(&mut links, policies);
     links
 }
 
 // Fills an empty map with policies, by their ids.
-fn put_policies<S: BuildHasher + Copy>(links: &mut OrderedMap<PolicyID, Policy, S>, policies: Vec<Policy>) {
+fn fill_policies<S: BuildHasher + Copy>(links: &mut OrderedMap<PolicyID, Policy, S>, policies: Vec<Policy>) {
     for policy in policies {
-        put_policy(links, policy);
+        insert_policy(links, policy);
     }
 }
 
 // Appends a policy with a new id.
-fn put_policy<S: BuildHasher + Copy>(links: &mut OrderedMap<PolicyID, Policy, S>, policy: Policy) {
+fn insert_policy<S: BuildHasher + Copy>(links: &mut OrderedMap<PolicyID, Policy, S>, policy: Policy) {
     let id = policy.id().clone();
     insert_new(links, id, policy);
 }
@@ -215,13 +215,13 @@ fn no_ids<S: BuildHasher + Copy>(
 ) -> OrderedMap<PolicyID, OrderedSet<PolicyID, S>, S> {
     let mut map = OrderedMap::with_hasher(*known.hasher());
     for template in bodies {
-        put_no_ids(&mut map, template, known);
+        push_empty_list(&mut map, template, known);
     }
     map
 }
 
 // Appends an empty list for a template, unless a policy has its id.
-fn put_no_ids<S: BuildHasher + Copy>(
+fn push_empty_list<S: BuildHasher + Copy>(
     map: &mut OrderedMap<PolicyID, OrderedSet<PolicyID, S>, S>,
     template: &Arc<Template>,
     known: &OrderedMap<PolicyID, Policy, S>,
@@ -277,13 +277,13 @@ fn gather_id<S: BuildHasher + Copy>(
     id: &PolicyID,
 ) {
     match map.get_mut(body) {
-        None => put_list(map, body, id),
+        None => push_list(map, body, id),
         Some(ids) => insert_id_copy(ids, id),
     }
 }
 
 // Appends the list of one id with a new key. Both are copied.
-fn put_list<S: BuildHasher + Copy>(
+fn push_list<S: BuildHasher + Copy>(
     map: &mut OrderedMap<PolicyID, OrderedSet<PolicyID, S>, S>,
     body: &PolicyID,
     id: &PolicyID,

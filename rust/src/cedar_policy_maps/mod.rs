@@ -2,20 +2,20 @@
 
 //! The three ordered maps of a policy set: bodies by id, policies by id, and the ids of the links of each template.
 
-mod found;
-mod grow;
+mod access;
+mod bulk_insert;
 pub mod iters;
-mod kept;
 mod lists;
 mod maps;
 pub mod policy_maps;
+mod policy_or_template;
 
-pub use found::Found;
-
-pub use grow::Parted;
+pub use bulk_insert::SharedAndNew;
 
 pub use iters::{AllTemplates, IntoPolicies, LinkedIds, Policies, StaticPolicies, Templates};
 
 pub use lists::{has_no_slots, is_link};
 
 pub use policy_maps::PolicyMaps;
+
+pub use policy_or_template::PolicyOrTemplate;

@@ -5,8 +5,10 @@
 use crate::cedar_binding::same_bindings;
 use crate::cedar_ids::policy_id::PolicyID;
 use crate::cedar_policy::{Policy, Template};
-use crate::cedar_policy_maps::{Parted, PolicyMaps, is_link};
-use crate::cedar_policy_merge::found::{Places, body_at, has_body, has_policy, joined_at, place_of_policy, policy_at};
+use crate::cedar_policy_maps::{PolicyMaps, SharedAndNew, is_link};
+use crate::cedar_policy_merge::cursor_lookup::{
+    Places, body_at, has_body, has_policy, new_body_at, place_of_policy, policy_at,
+};
 use crate::cedar_policy_merge::fresh::fresh_ids;
 use crate::cedar_policy_merge::places::are_placed_as;
 use crate::cedar_policy_set_errors::err::PolicySetError;
@@ -45,12 +47,12 @@ pub fn merge_maps<S: BuildHasher + Copy>(
         return Err(PolicySetError::Occupied { id: id.clone() });
     }
     let renaming = fresh_ids(ids, here, other);
-    put_merged(here, other, &renaming);
+    store_merged(here, other, &renaming);
     Ok(renaming)
 }
 
 // Inserts the bindings of the other set under their new ids.
-fn put_merged<S: BuildHasher + Copy>(
+fn store_merged<S: BuildHasher + Copy>(
     here: &mut PolicyMaps<S>,
     other: &PolicyMaps<S>,
     renaming: &OrderedMap<PolicyID, PolicyID, S>,
@@ -58,7 +60,7 @@ fn put_merged<S: BuildHasher + Copy>(
     let bodies = parted_bodies(here, other, renaming);
     let parted = parted_policies(here, other, renaming, &bodies.join);
     let (policies, shares) = parted;
-    here.take_in(bodies, policies);
+    here.insert_bulk(bodies, policies);
     here.share_templates(shares);
 }
 
@@ -126,7 +128,7 @@ fn gather_body<S: BuildHasher + Copy>(
     match body_at(here, own, &mut places.body) {
         None => list_id(links, own, here.has_policy(own)),
         Some(stands) => {
-            let clashes = is_other_body(here, other, stands, template, places);
+            let clashes = is_different_body(here, other, stands, template, places);
             gather_id(ids, own, clashes);
         }
     }
@@ -158,7 +160,7 @@ fn gather_policy<S: BuildHasher + Copy>(
     match policy_at(here, own, next) {
         None => list_id(templates, own, here.has_body(own)),
         Some(stands) => {
-            let clashes = is_other_policy(ids, stands, policy);
+            let clashes = is_different_policy(ids, stands, policy);
             gather_id(ids, own, clashes);
         }
     }
@@ -180,7 +182,7 @@ fn list_id(ids: &mut Vec<PolicyID>, id: &PolicyID, clashes: bool) {
 
 // Returns whether two bodies with one id are bound differently. If both sets have a policy with the id and the bodies
 // are equal, both policies are static and equal.
-fn is_other_body<S: BuildHasher + Copy>(
+fn is_different_body<S: BuildHasher + Copy>(
     here: &PolicyMaps<S>,
     other: &PolicyMaps<S>,
     stands: &Template,
@@ -206,7 +208,7 @@ fn have_policies_alike<S: BuildHasher + Copy>(
 
 // Returns whether two policies with one id are bound differently and one of them is a link. Static policies are
 // compared by their bodies.
-fn is_other_policy<S: BuildHasher + Copy>(ids: &OrderedSet<PolicyID, S>, stands: &Policy, policy: &Policy) -> bool {
+fn is_different_policy<S: BuildHasher + Copy>(ids: &OrderedSet<PolicyID, S>, stands: &Policy, policy: &Policy) -> bool {
     has_link(stands, policy) && !is_same_policy(ids, stands, policy)
 }
 
@@ -227,14 +229,14 @@ fn is_same_template<S: BuildHasher + Copy>(
     if stands.id() != template.id() {
         return false;
     }
-    if is_among(ids, template.id()) {
+    if is_listed_id(ids, template.id()) {
         return stands == template;
     }
     true
 }
 
 // Returns whether an id is in the set. Does not hash the id if the set is empty.
-fn is_among<S: BuildHasher + Copy>(ids: &OrderedSet<PolicyID, S>, id: &PolicyID) -> bool {
+fn is_listed_id<S: BuildHasher + Copy>(ids: &OrderedSet<PolicyID, S>, id: &PolicyID) -> bool {
     if ids.is_empty() {
         return false;
     }
@@ -268,7 +270,7 @@ fn new_of<'a, S: BuildHasher + Copy>(
 
 // Returns whether this set uses the id of a body of the other set after renaming. This set uses no new id. Bodies are
 // checked first, because most ids are found there.
-fn stands_here<S: BuildHasher + Copy>(
+fn is_bound_in_target<S: BuildHasher + Copy>(
     here: &PolicyMaps<S>,
     new: Option<&PolicyID>,
     id: &PolicyID,
@@ -281,7 +283,7 @@ fn stands_here<S: BuildHasher + Copy>(
 }
 
 // Returns the place of this set's policy with this id after renaming. This set uses no new id.
-fn place_here<S: BuildHasher + Copy>(
+fn position_of<S: BuildHasher + Copy>(
     here: &PolicyMaps<S>,
     new: Option<&PolicyID>,
     id: &PolicyID,
@@ -294,7 +296,7 @@ fn place_here<S: BuildHasher + Copy>(
 }
 
 // Returns whether a body of this set has this id after renaming. This set uses no new id.
-fn has_body_here<S: BuildHasher + Copy>(here: &PolicyMaps<S>, new: Option<&PolicyID>, id: &PolicyID) -> bool {
+fn contains_body<S: BuildHasher + Copy>(here: &PolicyMaps<S>, new: Option<&PolicyID>, id: &PolicyID) -> bool {
     match new {
         Some(_) => false,
         None => here.has_body(id),
@@ -302,7 +304,7 @@ fn has_body_here<S: BuildHasher + Copy>(here: &PolicyMaps<S>, new: Option<&Polic
 }
 
 // Appends a value to the existing ones (`stand`) or to the new ones (`join`).
-fn part<T>(parted: &mut Parted<T>, stands: bool, thing: T) {
+fn part<T>(parted: &mut SharedAndNew<T>, stands: bool, thing: T) {
     if stands {
         parted.stand.push(thing);
     } else {
@@ -315,15 +317,15 @@ fn parted_bodies<S: BuildHasher + Copy>(
     here: &PolicyMaps<S>,
     other: &PolicyMaps<S>,
     renaming: &OrderedMap<PolicyID, PolicyID, S>,
-) -> Parted<Arc<Template>> {
-    let mut parted = Parted::new();
+) -> SharedAndNew<Arc<Template>> {
+    let mut parted = SharedAndNew::new();
     part_bodies(&mut parted, here, other.shared_bodies(), renaming);
     parted
 }
 
 // Splits these bodies, and appends each to the existing or to the new ones.
 fn part_bodies<S: BuildHasher + Copy>(
-    parted: &mut Parted<Arc<Template>>,
+    parted: &mut SharedAndNew<Arc<Template>>,
     here: &PolicyMaps<S>,
     theirs: &[Arc<Template>],
     renaming: &OrderedMap<PolicyID, PolicyID, S>,
@@ -336,14 +338,14 @@ fn part_bodies<S: BuildHasher + Copy>(
 
 // Appends a body under its new id to the existing or to the new ones.
 fn part_body<S: BuildHasher + Copy>(
-    parted: &mut Parted<Arc<Template>>,
+    parted: &mut SharedAndNew<Arc<Template>>,
     here: &PolicyMaps<S>,
     template: &Arc<Template>,
     renaming: &OrderedMap<PolicyID, PolicyID, S>,
     next: &mut usize,
 ) {
     let new = new_of(renaming, template.id());
-    let stands = stands_here(here, new, template.id(), next);
+    let stands = is_bound_in_target(here, new, template.id(), next);
     part(parted, stands, renamed_body(template, new));
 }
 
@@ -360,8 +362,8 @@ fn renamed_body(template: &Arc<Template>, new: Option<&PolicyID>) -> Arc<Templat
 // - `policies`: the new policies, and the existing policies whose locations differ.
 // - `shares`: the templates of other existing policies, each with the place of its policy in this set.
 // - `next` and `joined`: the places to try first, in this set's policies and in the new bodies.
-struct PartedPolicies {
-    policies: Parted<Policy>,
+struct SharedAndNewPolicies {
+    policies: SharedAndNew<Policy>,
     shares: Vec<(usize, Arc<Template>)>,
     next: usize,
     joined: usize,
@@ -373,9 +375,9 @@ fn parted_policies<S: BuildHasher + Copy>(
     other: &PolicyMaps<S>,
     renaming: &OrderedMap<PolicyID, PolicyID, S>,
     joined: &[Arc<Template>],
-) -> (Parted<Policy>, Vec<(usize, Arc<Template>)>) {
-    let mut parted = PartedPolicies {
-        policies: Parted::new(),
+) -> (SharedAndNew<Policy>, Vec<(usize, Arc<Template>)>) {
+    let mut parted = SharedAndNewPolicies {
+        policies: SharedAndNew::new(),
         shares: Vec::new(),
         next: 0,
         joined: 0,
@@ -387,7 +389,7 @@ fn parted_policies<S: BuildHasher + Copy>(
 
 // Splits these policies, one after another.
 fn part_policies<S: BuildHasher + Copy>(
-    parted: &mut PartedPolicies,
+    parted: &mut SharedAndNewPolicies,
     here: &PolicyMaps<S>,
     theirs: &[Policy],
     renaming: &OrderedMap<PolicyID, PolicyID, S>,
@@ -401,19 +403,19 @@ fn part_policies<S: BuildHasher + Copy>(
 // Appends a policy under its new id to the new policies. If this set has an equal policy with the id, it is recorded as
 // an existing one.
 fn part_policy<S: BuildHasher + Copy>(
-    parted: &mut PartedPolicies,
+    parted: &mut SharedAndNewPolicies,
     here: &PolicyMaps<S>,
     policy: &Policy,
     renaming: &OrderedMap<PolicyID, PolicyID, S>,
     joined: &[Arc<Template>],
 ) {
     let new = new_of(renaming, policy.id());
-    if let Some(place) = place_here(here, new, policy.id(), &mut parted.next) {
+    if let Some(place) = position_of(here, new, policy.id(), &mut parted.next) {
         let stands = &here.all_policies()[place];
-        keep_at(parted, place, stands, policy);
+        push_shared(parted, place, stands, policy);
         return;
     }
-    if has_body_here(here, new, policy.id()) {
+    if contains_body(here, new, policy.id()) {
         return;
     }
     let renamed = joining(policy, new, renaming, joined, &mut parted.joined);
@@ -428,7 +430,7 @@ fn joining<S: BuildHasher + Copy>(
     joined: &[Arc<Template>],
     next: &mut usize,
 ) -> Policy {
-    match on_joined(policy, new, joined, next) {
+    match on_new_body(policy, new, joined, next) {
         None => renamed_policy(policy, new, renaming),
         Some(shared) => shared,
     }
@@ -436,12 +438,12 @@ fn joining<S: BuildHasher + Copy>(
 
 // Returns a renamed static policy that shares the new body with its new id. Returns nothing for a link, and for a
 // policy that is not renamed.
-fn on_joined(policy: &Policy, new: Option<&PolicyID>, joined: &[Arc<Template>], next: &mut usize) -> Option<Policy> {
+fn on_new_body(policy: &Policy, new: Option<&PolicyID>, joined: &[Arc<Template>], next: &mut usize) -> Option<Policy> {
     if is_link(policy) {
         return None;
     }
     let id = new?;
-    match joined_at(joined, id, next) {
+    match new_body_at(joined, id, next) {
         None => None,
         Some(template) => static_on(template),
     }
@@ -449,7 +451,7 @@ fn on_joined(policy: &Policy, new: Option<&PolicyID>, joined: &[Arc<Template>], 
 
 // Records a policy that both sets bind equally. It records a copy of the other set's policy if the locations of bound
 // uids differ. Otherwise it records the template, unless the policies share it already.
-fn keep_at(parted: &mut PartedPolicies, place: usize, stands: &Policy, policy: &Policy) {
+fn push_shared(parted: &mut SharedAndNewPolicies, place: usize, stands: &Policy, policy: &Policy) {
     if !are_placed_as(stands.env(), policy.env()) {
         parted.policies.stand.push(policy.clone());
         return;
@@ -471,13 +473,13 @@ fn renamed_policy<S: BuildHasher + Copy>(
     renaming: &OrderedMap<PolicyID, PolicyID, S>,
 ) -> Policy {
     match on_renamed_template(policy, renaming) {
-        None => under_new_id(policy, new),
-        Some(renamed) => under_new_id(&renamed, new),
+        None => with_new_id(policy, new),
+        Some(renamed) => with_new_id(&renamed, new),
     }
 }
 
 // Returns a policy under its new id, or a copy if it has none.
-fn under_new_id(policy: &Policy, new: Option<&PolicyID>) -> Policy {
+fn with_new_id(policy: &Policy, new: Option<&PolicyID>) -> Policy {
     match new {
         None => policy.clone(),
         Some(id) => policy.new_id(id.clone()),

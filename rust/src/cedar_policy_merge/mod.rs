@@ -2,7 +2,7 @@
 
 //! The merge of two policy sets, on their maps: the ids in conflict, their new ids, and the merged maps.
 
-mod found;
+mod cursor_lookup;
 mod fresh;
 mod merge;
 mod places;

@@ -90,7 +90,7 @@ impl PolicySet {
             "a link has another id than its template"
         );
         let mut set = Self::new();
-        set.maps.put_both(policy);
+        set.maps.insert_with_body(policy);
         set
     }
 

@@ -54,7 +54,7 @@ impl<S: BuildHasher + Copy> PolicySet<S> {
     /// # Ok::<(), Box<dyn std::error::Error>>(())
     /// ```
     pub fn link(&mut self, template_id: PolicyID, new_id: PolicyID, values: SlotEnv) -> Result<&Policy, LinkingError> {
-        self.join_link(template_id, new_id, values)?;
+        self.insert_link_body(template_id, new_id, values)?;
         Ok(self.last())
     }
 

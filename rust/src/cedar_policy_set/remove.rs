@@ -4,7 +4,7 @@
 
 use crate::cedar_ids::policy_id::PolicyID;
 use crate::cedar_policy::{Policy, Template};
-use crate::cedar_policy_maps::{Found, is_link};
+use crate::cedar_policy_maps::{PolicyOrTemplate, is_link};
 use crate::cedar_policy_set::policy_set::PolicySet;
 use crate::cedar_policy_set_errors::err::{
     PolicySetPolicyRemovalError, PolicySetTemplateRemovalError, PolicySetUnlinkError,
@@ -63,10 +63,10 @@ impl<S: BuildHasher + Copy> PolicySet<S> {
     pub fn unlink(&mut self, id: &PolicyID) -> Result<Policy, PolicySetUnlinkError> {
         match self.maps.found(id) {
             None => return Err(PolicySetUnlinkError::UnlinkingError(id.clone())),
-            Some(Found::Template(_)) => {
+            Some(PolicyOrTemplate::Template(_)) => {
                 return Err(PolicySetUnlinkError::NotLinkError(id.clone()));
             }
-            Some(Found::Policy(policy)) => {
+            Some(PolicyOrTemplate::Policy(policy)) => {
                 if !is_link(policy) {
                     return Err(PolicySetUnlinkError::NotLinkError(id.clone()));
                 }
@@ -128,10 +128,10 @@ impl<S: BuildHasher + Copy> PolicySet<S> {
     pub fn remove_static(&mut self, id: &PolicyID) -> Result<Policy, PolicySetPolicyRemovalError> {
         match self.maps.found(id) {
             None => return Err(PolicySetPolicyRemovalError::RemovePolicyNoLinkError(id.clone())),
-            Some(Found::Template(_)) => {
+            Some(PolicyOrTemplate::Template(_)) => {
                 return Err(PolicySetPolicyRemovalError::RemovePolicyNoLinkError(id.clone()));
             }
-            Some(Found::Policy(policy)) => {
+            Some(PolicyOrTemplate::Policy(policy)) => {
                 if is_link(policy) {
                     return Err(PolicySetPolicyRemovalError::RemovePolicyNoTemplateError(id.clone()));
                 }
@@ -196,10 +196,10 @@ impl<S: BuildHasher + Copy> PolicySet<S> {
             None => {
                 return Err(PolicySetTemplateRemovalError::RemovePolicyNoTemplateError(id.clone()));
             }
-            Some(Found::Policy(_)) => {
+            Some(PolicyOrTemplate::Policy(_)) => {
                 return Err(PolicySetTemplateRemovalError::NotTemplateError(id.clone()));
             }
-            Some(Found::Template(template)) => {
+            Some(PolicyOrTemplate::Template(template)) => {
                 let template: &Template = template;
                 template
             }

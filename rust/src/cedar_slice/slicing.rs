@@ -8,22 +8,22 @@ use std::collections::HashSet;
 use std::hash::BuildHasher;
 
 // Inserts uids into a set.
-fn note_all<S: BuildHasher>(noted: &mut HashSet<SharedUid, S>, uids: SharedUids<'_>) {
+fn insert_uids<S: BuildHasher>(noted: &mut HashSet<SharedUid, S>, uids: SharedUids<'_>) {
     for uid in uids {
         noted.insert(uid.clone());
     }
 }
 
 // Inserts the ancestors of the entity with a uid into a set, if the store has that entity.
-fn note_above<S: BuildHasher + Clone>(store: &Entities<S>, noted: &mut HashSet<SharedUid, S>, uid: &EntityUID) {
+fn cache_ancestors<S: BuildHasher + Clone>(store: &Entities<S>, noted: &mut HashSet<SharedUid, S>, uid: &EntityUID) {
     if let Some(entity) = store.stored(uid) {
-        note_all(noted, entity.shared_ancestors());
+        insert_uids(noted, entity.shared_ancestors());
     }
 }
 
 // Inserts a requested uid, and the ancestors of the entity with this uid.
 fn want<S: BuildHasher + Clone>(store: &Entities<S>, wanted: &mut HashSet<SharedUid, S>, uid: &EntityUID) {
-    note_above(store, wanted, uid);
+    cache_ancestors(store, wanted, uid);
     wanted.insert(SharedUid::copy_of(uid));
 }
 

@@ -82,7 +82,7 @@ fn answer<S: BuildHasher + Copy>(hasher: S, input: &[u8]) -> (Vec<u8>, u8, Sessi
     while let Some(rest) = left {
         let (line, behind) = first_line(rest);
         number += 1;
-        if !session.take_fields_of(&mut fields, line, &mut out) {
+        if !session.apply_fields_of(&mut fields, line, &mut out) {
             push_not_command(&mut out, number);
             return (out, 2, session);
         }

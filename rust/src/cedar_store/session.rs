@@ -96,10 +96,10 @@ impl Session {
     /// use cedar_store::program::Session;
     /// let mut session = Session::new();
     /// let mut out = Vec::new();
-    /// assert!(session.take_line(b"ent\tA::\"a\"", &mut out) && session.take_line(b"build", &mut out));
+    /// assert!(session.apply_line(b"ent\tA::\"a\"", &mut out) && session.apply_line(b"build", &mut out));
     /// assert_eq!(out, b"ok 1\n");
-    /// assert!(!session.take_line(b"frob", &mut out));
-    /// assert!(Session::with_hasher(cedar_store::KeyedState::with_keys(1, 2)).take_line(b"build", &mut out));
+    /// assert!(!session.apply_line(b"frob", &mut out));
+    /// assert!(Session::with_hasher(cedar_store::KeyedState::with_keys(1, 2)).apply_line(b"build", &mut out));
     /// ```
     pub fn new() -> Self {
         Self::with_hasher(KeyedState::default())
@@ -132,10 +132,10 @@ impl<S: BuildHasher + Copy> Session<S> {
     /// use cedar_store::program::Session;
     /// let mut session = Session::new();
     /// let mut out = Vec::new();
-    /// assert!(session.take_line(b"ent\tA::\"a\"", &mut out) && session.take_line(b"build", &mut out));
+    /// assert!(session.apply_line(b"ent\tA::\"a\"", &mut out) && session.apply_line(b"build", &mut out));
     /// assert_eq!(out, b"ok 1\n");
-    /// assert!(!session.take_line(b"frob", &mut out));
-    /// assert!(Session::with_hasher(cedar_store::KeyedState::with_keys(1, 2)).take_line(b"build", &mut out));
+    /// assert!(!session.apply_line(b"frob", &mut out));
+    /// assert!(Session::with_hasher(cedar_store::KeyedState::with_keys(1, 2)).apply_line(b"build", &mut out));
     /// ```
     pub fn with_hasher(hasher: S) -> Self {
         Self {
@@ -146,7 +146,7 @@ impl<S: BuildHasher + Copy> Session<S> {
     }
 
     // Runs the fields of a line if they are a command on the store, and returns whether they are.
-    fn take_on_store(&mut self, fields: &[&str], out: &mut Vec<u8>) -> bool {
+    fn apply_to_store(&mut self, fields: &[&str], out: &mut Vec<u8>) -> bool {
         match read_entity_command(&mut self.known, fields) {
             None => false,
             Some(command) => {
@@ -157,8 +157,8 @@ impl<S: BuildHasher + Copy> Session<S> {
     }
 
     // Runs the fields of a line if they are a command on policy sets, and returns whether they are.
-    fn take_on_sets(&mut self, fields: &[&str], out: &mut Vec<u8>) -> bool {
-        self.sets.take_fields(self.known.types(), fields, out)
+    fn apply_to_sets(&mut self, fields: &[&str], out: &mut Vec<u8>) -> bool {
+        self.sets.apply_fields(self.known.types(), fields, out)
     }
 
     // Runs a line if it is a command, and returns whether it is. `fields` is a buffer that callers reuse: its old
@@ -168,7 +168,7 @@ impl<S: BuildHasher + Copy> Session<S> {
     // read. Lines `ent` come first, since most lines declare entities. Lines on policy sets are checked next, because
     // they are cheaper than the other commands on the store. A command is passed directly from its reader to the store
     // or the sets.
-    pub(crate) fn take_fields_of<'a>(&mut self, fields: &mut Vec<&'a str>, line: &'a [u8], out: &mut Vec<u8>) -> bool {
+    pub(crate) fn apply_fields_of<'a>(&mut self, fields: &mut Vec<&'a str>, line: &'a [u8], out: &mut Vec<u8>) -> bool {
         if line.is_empty() {
             return true;
         }
@@ -176,11 +176,11 @@ impl<S: BuildHasher + Copy> Session<S> {
         if !is_text {
             return false;
         }
-        let waits = self.entities.take_ent(&mut self.known, fields);
+        let waits = self.entities.apply_ent(&mut self.known, fields);
         if waits {
             return true;
         }
-        let on_sets = self.take_on_sets(fields, out);
+        let on_sets = self.apply_to_sets(fields, out);
         if on_sets {
             return true;
         }
@@ -188,7 +188,7 @@ impl<S: BuildHasher + Copy> Session<S> {
         if begins_with_ent(fields) {
             return false;
         }
-        let on_store = self.take_on_store(fields, out);
+        let on_store = self.apply_to_store(fields, out);
         if on_store {
             return true;
         }
@@ -232,13 +232,13 @@ impl<S: BuildHasher + Copy> Session<S> {
     /// use cedar_store::program::Session;
     /// let mut session = Session::new();
     /// let mut out = Vec::new();
-    /// assert!(session.take_line(b"ent\tA::\"a\"", &mut out) && session.take_line(b"build", &mut out));
+    /// assert!(session.apply_line(b"ent\tA::\"a\"", &mut out) && session.apply_line(b"build", &mut out));
     /// assert_eq!(out, b"ok 1\n");
-    /// assert!(!session.take_line(b"frob", &mut out));
-    /// assert!(Session::with_hasher(cedar_store::KeyedState::with_keys(1, 2)).take_line(b"build", &mut out));
+    /// assert!(!session.apply_line(b"frob", &mut out));
+    /// assert!(Session::with_hasher(cedar_store::KeyedState::with_keys(1, 2)).apply_line(b"build", &mut out));
     /// ```
-    pub fn take_line(&mut self, line: &[u8], out: &mut Vec<u8>) -> bool {
+    pub fn apply_line(&mut self, line: &[u8], out: &mut Vec<u8>) -> bool {
         let mut fields = Vec::new();
-        self.take_fields_of(&mut fields, line, out)
+        self.apply_fields_of(&mut fields, line, out)
     }
 }

@@ -14,33 +14,33 @@ pub(crate) fn show(expr: &Expr, f: &mut fmt::Formatter<'_>) -> fmt::Result {
         ExprKind::Unknown(unknown) => write!(f, "{unknown}"),
         ExprKind::Set(exprs) => {
             f.write_str("[")?;
-            show_all(exprs, f)?;
+            write_all_exprs(exprs, f)?;
             f.write_str("]")
         }
         ExprKind::Call(name, args) => {
             write!(f, "{name}(")?;
-            show_all(args, f)?;
+            write_all_exprs(args, f)?;
             f.write_str(")")
         }
         ExprKind::Not(operand) => {
             f.write_str("!")?;
-            show_operand(operand, f)
+            write_operand(operand, f)
         }
         ExprKind::Binary(op, left, right) => {
-            show_operand(left, f)?;
-            show_operator(*op, f)?;
-            show_operand(right, f)
+            write_operand(left, f)?;
+            write_operator(*op, f)?;
+            write_operand(right, f)
         }
         ExprKind::Is(operand, ty) => {
-            show_operand(operand, f)?;
+            write_operand(operand, f)?;
             write!(f, " is {ty}")
         }
     }
 }
 
 // Writes an operand, in parentheses if it is not an atom.
-fn show_operand(expr: &Expr, f: &mut fmt::Formatter<'_>) -> fmt::Result {
-    if stands_bare(expr) {
+fn write_operand(expr: &Expr, f: &mut fmt::Formatter<'_>) -> fmt::Result {
+    if is_unparenthesized(expr) {
         show(expr, f)
     } else {
         f.write_str("(")?;
@@ -50,7 +50,7 @@ fn show_operand(expr: &Expr, f: &mut fmt::Formatter<'_>) -> fmt::Result {
 }
 
 // Writes the expressions of a list, separated by a comma and a space.
-fn show_all(exprs: &[Expr], f: &mut fmt::Formatter<'_>) -> fmt::Result {
+fn write_all_exprs(exprs: &[Expr], f: &mut fmt::Formatter<'_>) -> fmt::Result {
     let mut before = "";
     for expr in exprs {
         f.write_str(before)?;
@@ -61,7 +61,7 @@ fn show_all(exprs: &[Expr], f: &mut fmt::Formatter<'_>) -> fmt::Result {
 }
 
 // Returns whether an operand is an atom, which is written without parentheses.
-fn stands_bare(expr: &Expr) -> bool {
+fn is_unparenthesized(expr: &Expr) -> bool {
     match &expr.kind {
         ExprKind::Lit(_)
         | ExprKind::Var(_)
@@ -74,7 +74,7 @@ fn stands_bare(expr: &Expr) -> bool {
 }
 
 // Writes an operator between spaces.
-fn show_operator(op: BinaryOp, f: &mut fmt::Formatter<'_>) -> fmt::Result {
+fn write_operator(op: BinaryOp, f: &mut fmt::Formatter<'_>) -> fmt::Result {
     match op {
         BinaryOp::And => f.write_str(" && "),
         BinaryOp::Eq => f.write_str(" == "),

@@ -13,12 +13,12 @@ pub(crate) fn show(value: &Value, f: &mut fmt::Formatter<'_>) -> fmt::Result {
         ValueKind::Lit(literal) => write!(f, "{literal}"),
         ValueKind::Set(elements) => {
             f.write_str("[")?;
-            show_elements(elements, f)?;
+            write_elements(elements, f)?;
             f.write_str("]")
         }
         ValueKind::Record(fields) => {
             f.write_str("{")?;
-            show_fields(fields, f)?;
+            write_fields(fields, f)?;
             f.write_str("}")
         }
         ValueKind::ExtensionValue(extension) => {
@@ -30,7 +30,7 @@ pub(crate) fn show(value: &Value, f: &mut fmt::Formatter<'_>) -> fmt::Result {
 }
 
 // Writes the elements of a set, separated by a comma and a space.
-fn show_elements(elements: &[Value], f: &mut fmt::Formatter<'_>) -> fmt::Result {
+fn write_elements(elements: &[Value], f: &mut fmt::Formatter<'_>) -> fmt::Result {
     let mut before = "";
     for element in elements {
         f.write_str(before)?;
@@ -41,11 +41,11 @@ fn show_elements(elements: &[Value], f: &mut fmt::Formatter<'_>) -> fmt::Result 
 }
 
 // Writes the keys and values of a record, separated by a comma and a space.
-fn show_fields(fields: &BTreeMap<String, Value>, f: &mut fmt::Formatter<'_>) -> fmt::Result {
+fn write_fields(fields: &BTreeMap<String, Value>, f: &mut fmt::Formatter<'_>) -> fmt::Result {
     let mut before = "";
     for (key, value) in fields.iter() {
         f.write_str(before)?;
-        show_key(key.as_str(), f)?;
+        write_key(key.as_str(), f)?;
         show(value, f)?;
         before = ", ";
     }
@@ -53,7 +53,7 @@ fn show_fields(fields: &BTreeMap<String, Value>, f: &mut fmt::Formatter<'_>) -> 
 }
 
 // Writes a quoted key of a record, a colon and a space.
-fn show_key(key: &str, f: &mut fmt::Formatter<'_>) -> fmt::Result {
+fn write_key(key: &str, f: &mut fmt::Formatter<'_>) -> fmt::Result {
     let key = Escaped(key);
     write!(f, "\"{key}\": ")
 }

@@ -17,7 +17,7 @@ pub(crate) fn shared<S: BuildHasher>(uids: HashSet<EntityUID, S>) -> Vec<SharedU
 
 // Moves the uids that are less than `uid` from the front of the queue to the end of the vector. Drops the next uid if
 // it is equal to `uid`.
-fn move_below(queue: &mut IntoIter<SharedUid>, uid: &Key<'_>, to: &mut Vec<SharedUid>) {
+fn shift_lower(queue: &mut IntoIter<SharedUid>, uid: &Key<'_>, to: &mut Vec<SharedUid>) {
     while let Some(next) = queue.as_slice().first() {
         let at = order(next, uid);
         if at.is_gt() {
@@ -46,7 +46,7 @@ pub(crate) fn merge(room: Vec<SharedUid>, left: Vec<SharedUid>, right: Vec<Share
     let mut to = room;
     let mut left = left.into_iter();
     for shared in right {
-        move_below(&mut left, &shared.key(), &mut to);
+        shift_lower(&mut left, &shared.key(), &mut to);
         to.push(shared);
     }
     move_all(left, &mut to);

@@ -5,7 +5,7 @@
 use crate::cedar_ids::entity::EntityUID;
 use crate::cedar_uid_sets::fronts::Key;
 use crate::cedar_uid_sets::merge::{merge, shared};
-use crate::cedar_uid_sets::order::{has, is_one_of, may_be_among, place, place_from_end};
+use crate::cedar_uid_sets::order::{has, is_one_of, may_contain, place, place_from_end};
 use crate::cedar_uid_sets::shared_uid::SharedUid;
 use std::collections::HashSet;
 use std::hash::BuildHasher;
@@ -86,7 +86,7 @@ impl UidSet {
     // Checks whether the set contains a shared uid. Compares the numbers first, because they mostly show that it does
     // not.
     fn holds(&self, shared: &SharedUid) -> bool {
-        may_be_among(&self.uids, &shared.key()) && self.contains_shared(shared)
+        may_contain(&self.uids, &shared.key()) && self.contains_shared(shared)
     }
 
     /// Returns whether one of two sets contains a shared uid. In a set of at most sixteen uids, mostly only the numbers
@@ -144,7 +144,7 @@ impl UidSet {
         if others.len() < FEW && others.len() < self.len() {
             self.remove_each(others.pointers());
         } else {
-            self.keep_others(others);
+            self.retain_unlisted(others);
         }
     }
 
@@ -156,7 +156,7 @@ impl UidSet {
     }
 
     // Keeps the uids that are not in `others`.
-    fn keep_others(&mut self, others: &Self) {
+    fn retain_unlisted(&mut self, others: &Self) {
         self.uids.retain(|shared| !others.contains_shared(shared));
     }
 

@@ -140,7 +140,7 @@ fn sets_are_filled_gathered_and_hashed_in_any_order() {
 }
 
 #[test]
-fn sets_lose_and_take_in_others() {
+fn sets_remove_and_merge_uids() {
     let uids = numbered(2_000);
     let mut set = filled(&uids, 0..1_000);
     for one in shared(
@@ -214,7 +214,7 @@ fn two_sets_are_walked_and_looked_through() {
 }
 
 #[test]
-fn uids_stand_in_their_order_shared_or_not() {
+fn uids_are_sorted_shared_or_not() {
     for uids in [fronts(), numbered(3), alike(5)] {
         let (one, other) = (shared(&uids, 0..uids.len()), shared(&uids, 0..uids.len()));
         let mut map = HashMap::new();
@@ -232,7 +232,7 @@ fn uids_stand_in_their_order_shared_or_not() {
 }
 
 #[test]
-fn what_numbers_reach_is_written() {
+fn reachable_numbers_are_written() {
     let reached = Reached {
         component: vec![2, 2, 1],
         start: vec![0, 0, 0, 3],

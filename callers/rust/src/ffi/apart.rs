@@ -1,21 +1,21 @@
 //! Handles that can be sent to another thread. The library functions whose names end in `_apart` create them.
 use super::{
-    cedar_policies_merge_apart, cedar_store_slice_apart, Handle, Held, Kind, Sets, Stores,
+    cedar_policies_merge_deep_copy, cedar_store_slice_deep_copy, Handle, Held, Kind, Sets, Stores,
 };
 use crate::lists::Lists;
 
 /// A handle that shares nothing with any other handle, so it can be sent to another thread.
-pub(crate) struct Apart<K: Kind>(Held<K>);
+pub(crate) struct DeepCopyHandle<K: Kind>(Held<K>);
 
-// SAFETY: only `Held::apart` creates an `Apart`, from a new handle that was filled by a library function whose name
+// SAFETY: only `Held::apart` creates an `DeepCopyHandle`, from a new handle that was filled by a library function whose name
 // ends in `_apart`. By the rules of `cedar.h`, the content of this handle shares nothing with another handle. While the
-// handle is in the `Apart`, only the functions in this file use it: they merge by deep copies or copy an output.
+// handle is in the `DeepCopyHandle`, only the functions in this file use it: they merge by deep copies or copy an output.
 // `into_held` moves the handle to the thread that calls it. Sending a value to another thread orders all earlier uses
-// before the later ones. Two threads never use the handle at the same time, because `Apart` is not `Sync`: the handle
+// before the later ones. Two threads never use the handle at the same time, because `DeepCopyHandle` is not `Sync`: the handle
 // in it is not.
-unsafe impl<K: Kind> Send for Apart<K> {}
+unsafe impl<K: Kind> Send for DeepCopyHandle<K> {}
 
-impl<K: Kind> Apart<K> {
+impl<K: Kind> DeepCopyHandle<K> {
     /// Returns the handle, which from now on belongs to the current thread.
     pub(crate) fn into_held(self) -> Held<K> {
         self.0
@@ -32,35 +32,35 @@ impl<K: Kind> Apart<K> {
     }
 }
 
-impl Apart<Sets> {
+impl DeepCopyHandle<Sets> {
     /// Merges deep copies of the content of another set into this one. Stores the renamed ids as the last answer.
     pub(crate) fn merge(&mut self, other: &Held<Sets>, rename: bool) -> u32 {
         // SAFETY: one handle is borrowed mutably, so the other one is a different handle.
-        unsafe { cedar_policies_merge_apart(self.0.at(), other.at(), rename) }
+        unsafe { cedar_policies_merge_deep_copy(self.0.at(), other.at(), rename) }
     }
 }
 
 impl<K: Kind> Held<K> {
     // Creates a handle that shares nothing. `call` must be a library function whose name ends in `_apart`.
-    fn apart(call: impl FnOnce(*mut Handle) -> u32) -> Result<Apart<K>, u32> {
-        Held::made(call).map(Apart)
+    fn apart(call: impl FnOnce(*mut Handle) -> u32) -> Result<DeepCopyHandle<K>, u32> {
+        Held::made(call).map(DeepCopyHandle)
     }
 
     /// Returns a deep copy.
-    pub(crate) fn copy_apart(&self) -> Result<Apart<K>, u32> {
+    pub(crate) fn deep_copy(&self) -> Result<DeepCopyHandle<K>, u32> {
         // SAFETY: one handle is borrowed, and the other is new.
-        Held::apart(|to| unsafe { (K::CALLS.copy_apart)(self.at(), to) })
+        Held::apart(|to| unsafe { (K::CALLS.deep_copy)(self.at(), to) })
     }
 }
 
 impl Held<Stores> {
     /// Returns a slice of the store at these uids, which shares nothing with the store.
-    pub(crate) fn slice_apart(&self, lists: &Lists) -> Result<Apart<Stores>, u32> {
+    pub(crate) fn slice_deep_copy(&self, lists: &Lists) -> Result<DeepCopyHandle<Stores>, u32> {
         let Lists { text, uids, .. } = lists;
         let (text_at, uids_at) = (text.as_ptr(), uids.as_ptr());
         // SAFETY: one handle is borrowed, and the other is new. The pointers and the lengths come from borrowed slices.
         Held::apart(|to| unsafe {
-            cedar_store_slice_apart(self.at(), to, text_at, text.len(), uids_at, uids.len())
+            cedar_store_slice_deep_copy(self.at(), to, text_at, text.len(), uids_at, uids.len())
         })
     }
 }

@@ -5,11 +5,11 @@ use Rattle.std.proofs.lemmas.Bool.{false≢true}
 use Rattle.cedar_ids.specs.Uid.{UidParts}
 use Rattle.cedar_terms.specs.laws.SlotIdLaws.{same_slot_decides}
 use Rattle.cedar_terms.specs.declared.slot.SlotId.{SlotId}
-use Rattle.cedar_binding.specs.Bindings.{EnvParts, no_env, binds, is_among, BindsExactly, FitsSlots}
+use Rattle.cedar_binding.specs.Bindings.{EnvParts, no_env, binds, is_listed_id, BindsExactly, FitsSlots}
 
 -- If there are no slots, empty bindings fit.
 pub no_env-fits : (slots : List SlotId) → slots ≡ [] → BindsExactly slots no_env
-no_env-fits slots h s = ap (λ xs. is_among xs s) (sym h)
+no_env-fits slots h s = ap (λ xs. is_listed_id xs s) (sym h)
 
 pub fits_nothing : (slots : List SlotId) → slots ≡ [] → FitsSlots slots no_env
 fits_nothing slots h = record { exactly = no_env-fits slots h; action = refl }
@@ -20,7 +20,7 @@ not_bound s h = false≢true h
 -- If empty bindings fit, there are no slots.
 pub no_slot_fits : (slots : List SlotId) → BindsExactly slots no_env → slots ≡ []
 no_slot_fits [] f = refl
-no_slot_fits (s ∷ ss) f = absurd (not_bound s (f s ∙ ap (λ b. b || is_among ss s) ((same_slot_decides s s).1 refl)))
+no_slot_fits (s ∷ ss) f = absurd (not_bound s (f s ∙ ap (λ b. b || is_listed_id ss s) ((same_slot_decides s s).1 refl)))
 
 unbound_is_none : (o : Option UidParts) → is_some o ≡ false → o ≡ None
 unbound_is_none None h = refl

@@ -19,7 +19,7 @@ use Rattle.cedar_c_lists.specs.declared.reason.Reason.TheVariants.{NoMemory, Bad
 use Rattle.cedar_c_trees.specs.Partials.{IsPartialReadAs, IsPartialRefused}
 use Rattle.cedar_c_trees.specs.Refusals.{IsNotUtf8At}
 use Rattle.cedar_c_trees.specs.declared.node.Node.{Node}
-use Rattle.cedar_c_stores.specs.Contents.{Field, IsFieldOf, IsTermIn, IsTermUnread, Laid, Said, nodes_of, placed, said_at}
+use Rattle.cedar_c_stores.specs.Contents.{Field, IsFieldOf, IsTermIn, IsTermUnread, ListInput, EntityParts, nodes_of, placed, entity_parts_at}
 use Rattle.cedar_c_stores.specs.Lists.{AreEdgesOf, IsEdgeOf}
 use Rattle.cedar_c_stores.specs.declared.content.Term.{Term}
 use Rattle.cedar_c_stores.specs.laws.Listed.{Gathered, IsSomeEdgeOut, IsUngathered}
@@ -29,7 +29,7 @@ abbrev pub SaidParts : Type 0
 SaidParts = EntityUID × ((List EntityUID × List EntityUID) × (Fields × Fields))
 
 -- The code of the parts of an entity, by their nested pairs.
-abbrev pub said_code : Coded Said
+abbrev pub said_code : Coded EntityParts
 said_code =
     code_by SaidParts
     (coded× uid_code (coded× (coded× (coded_list uid_code) (coded_list uid_code)) (coded× fields_code fields_code)))
@@ -37,11 +37,11 @@ said_code =
     (λ p. record { uid = p.0; parents = p.1.0.0; above = p.1.0.1; attrs = p.1.1.0; tags = p.1.1.1 }) (λ _. refl)
 
 -- The parts of an entity with only a uid and parents.
-abbrev pub said_of : Gathered → Said
+abbrev pub said_of : Gathered → EntityParts
 said_of g = record { uid = g.0; parents = g.1; above = []; attrs = []; tags = [] }
 
 -- The parts with one more indirect ancestor.
-abbrev pub with_above : EntityUID → Said → Said
+abbrev pub with_above : EntityUID → EntityParts → EntityParts
 with_above u s = record s { above = s.above ++ u ∷ [] }
 
 -- A key and a value, if their part q is p.
@@ -49,7 +49,7 @@ abbrev pub in_part : ℕ → ℕ → List ℕ → PartialValue → Option (List 
 in_part p q key value = if q == p then Some (key, value) else None
 
 -- The parts with one more attribute (q is 0) or tag (q is 1).
-abbrev pub with_field : ℕ → List ℕ → PartialValue → Said → Said
+abbrev pub with_field : ℕ → List ℕ → PartialValue → EntityParts → EntityParts
 with_field q key value s = record s {
   attrs = s.attrs ++ cons_option (in_part 0 q key value) [];
   tags = s.tags ++ cons_option (in_part 1 q key value) [];
@@ -70,25 +70,25 @@ pub record HasFields (u : EntityUID) (attrs tags : Fields) (e : EntityView) : Ty
   pub indirect : e.indirect ≡ set.empty
 
 -- Holds if all edges are in range, and the target of each was appended to the indirect ancestors of its source.
-pub record PutsAbove (us : List EntityUID) (far : List Edge) (old new : List Said) : Type 0 where
-  pub rows : (es : List Edge) (xs : List EntityUID) → old ≡ placed (said_at us es [] []) 0 xs
-      → new ≡ placed (said_at us es far []) 0 xs
+pub record PutsAbove (us : List EntityUID) (far : List Edge) (old new : List EntityParts) : Type 0 where
+  pub rows : (es : List Edge) (xs : List EntityUID) → old ≡ placed (entity_parts_at us es [] []) 0 xs
+      → new ≡ placed (entity_parts_at us es far []) 0 xs
   pub many : length new ≡ length old
   pub range : AllByRecursion (IsEdgeOf (length old) (length us)) far
 
 -- Holds if a term is in range, and its field was appended to its row.
-pub record PutsTerm (text : List ℕ) (ns : List Node) (t : Term) (old new : List Said) : Type 0 where
+pub record PutsTerm (text : List ℕ) (ns : List Node) (t : Term) (old new : List EntityParts) : Type 0 where
   pub field : Field
   pub read : IsFieldOf text ns t field
   pub range : IsTermIn text ns (length old) t
   pub put : new ≡ changed_at field.of (with_field field.part field.key field.value) old
 
 -- Holds if all terms are in range, and the field of each was appended to its row.
-pub record PutsTerms (text : List ℕ) (ns : List Node) (ts : List Term) (old new : List Said) : Type 0 where
+pub record PutsTerms (text : List ℕ) (ns : List Node) (ts : List Term) (old new : List EntityParts) : Type 0 where
   pub fields : List Field
   pub read : AllZip (IsFieldOf text ns) ts fields
   pub rows : (us : List EntityUID) (es far : List Edge) (xs : List EntityUID)
-      → old ≡ placed (said_at us es far []) 0 xs → new ≡ placed (said_at us es far fields) 0 xs
+      → old ≡ placed (entity_parts_at us es far []) 0 xs → new ≡ placed (entity_parts_at us es far fields) 0 xs
   pub many : length new ≡ length old
   pub range : AllByRecursion (IsTermIn text ns (length old)) ts
 
@@ -121,23 +121,23 @@ IsSomeTermOut text ns n ts w = (k : ℕ) × (t : Term) × (slice_get ts k ≡ So
 
 -- Holds if the rows are the parts of entities with the first n uids and with the parents in the edges, and the edges
 -- are in range.
-pub record AreFirst (us : List EntityUID) (n : ℕ) (es : List Edge) (rows : List Said) : Type 0 where
+pub record AreFirst (us : List EntityUID) (n : ℕ) (es : List Edge) (rows : List EntityParts) : Type 0 where
   pub enough : n ≤ length us
   pub leading : AreEdgesOf n (length us) es
-  pub said : rows ≡ placed (said_at us es [] []) 0 (take n us)
+  pub said : rows ≡ placed (entity_parts_at us es [] []) 0 (take n us)
 
 -- Holds if the rows are the parts of the entities of an input with these uids, and the input is in range.
-pub record AreSaid (us : List EntityUID) (L : Laid) (rows : List Said) : Type 0 where
+pub record AreSaid (us : List EntityUID) (L : ListInput) (rows : List EntityParts) : Type 0 where
   pub enough : L.count ≤ length us
   pub leading : AreEdgesOf L.count (length us) L.edges
   pub above : AreEdgesOf L.count (length us) L.above
   pub terms : AllByRecursion (IsTermIn L.text L.nodes L.count) L.terms
   pub fields : List Field
   pub read : AllZip (IsFieldOf L.text L.nodes) L.terms fields
-  pub said : rows ≡ placed (said_at us L.edges L.above fields) 0 (take L.count us)
+  pub said : rows ≡ placed (entity_parts_at us L.edges L.above fields) 0 (take L.count us)
 
 -- Holds if w is a reason why the parts of the entities of an input cannot be collected.
-abbrev pub IsUnsaid : List EntityUID → Laid → Reason → Type 0
+abbrev pub IsUnsaid : List EntityUID → ListInput → Reason → Type 0
 IsUnsaid us L w =
     IsUngathered (length us) L.count L.edges w ⊎ (IsSomeEdgeOut L.count (length us) L.above w
     ⊎ IsSomeTermOut L.text L.nodes L.count L.terms w)

@@ -14,7 +14,7 @@ use Rattle.cedar_c_lists.specs.declared.reason.Reason.TheVariants.{NoMemory, Bad
 use Rattle.cedar_c_trees.specs.Items.{Item}
 use Rattle.cedar_c_trees.specs.Plans.{literal_item}
 use Rattle.cedar_c_trees.specs.Refusals.{IsNoUidAt, IsNotUtf8At, IsNoNameAt, HasText}
-use Rattle.cedar_c_trees.specs.Reads.{Says}
+use Rattle.cedar_c_trees.specs.Reads.{Decodes}
 use Rattle.cedar_c_trees.specs.Shapes.{Fits}
 use Rattle.cedar_c_trees.specs.declared.node.Node.{Node}
 
@@ -23,7 +23,7 @@ pub record Makes {V : Type 0} (C : Item → List V → V → Type 0) (text : Lis
     (v : V) : Type 0 where
   pub item : Item
   pub below : List V
-  pub says : Says text n item
+  pub says : Decodes text n item
   pub stack : old ≡ new ++ below
   pub combines : C item below v
 

@@ -15,7 +15,7 @@ use Rattle.cedar_ids.specs.laws.UidTexts.{uid_found}
 use Rattle.cedar_ids.specs.declared.err.ParseErrors.{ParseErrors}
 use Rattle.cedar_ids.specs.declared.entity.EntityUID.{EntityUID}
 use Rattle.cedar_ids.specs.declared.entity.EntityUID.TheVariants as uids
-use Rattle.cedar_entities.specs.laws.Settled.{Settled, settled_by}
+use Rattle.cedar_entities.specs.laws.Finalized.{Settled, settled_by}
 use Rattle.cedar_entity_lines.specs.EntityCommand.{EntityCommand, Ent, Build, Add, Upsert, Remove, Slice, Anc, AreTexts}
 use Rattle.cedar_entity_lines.specs.EntityCommand.{AreFields, IsEntityCommand}
 use Rattle.cedar_entity_lines.specs.Holding.{AreAsciiUids, HasAsciiUids}
@@ -136,9 +136,9 @@ differs : (a b : List ℕ) → bytes_eq a b ≡ false → bytes_eq b b ≡ true 
 differs a b apart itself e = false≢true (sym apart ∙ ap (λ w. bytes_eq w b) e ∙ itself)
 
 -- A command whose fields begin with a word is determined by the word and the uids after it.
-told_by : (w : List ℕ) (ts : List (List ℕ)) (c : EntityCommand) → IsEntityCommand c (w ∷ ts) → (us : List EntityUID)
+error_text_of : (w : List ℕ) (ts : List (List ℕ)) (c : EntityCommand) → IsEntityCommand c (w ∷ ts) → (us : List EntityUID)
     × AreTexts us ts × (command_by w us ≡ c)
-told_by w ts c h =
+error_text_of w ts c h =
     let f = fields_are c (w ∷ ts) h in
     (named_by c, f.1, ap (λ v. command_by v (named_by c)) f.0 ∙ read_back c)
 
@@ -159,14 +159,14 @@ ent_told w ts (u ∷ ps) e k none c same h = none (u, ps) k
 pub not_ent : (w : List ℕ) (ts : List (List ℕ)) → w ≡ codes "ent"
     → ((p : EntityUID × List EntityUID) → AreTexts (p.0 ∷ p.1) ts → ⊥) → (c : EntityCommand)
     → IsEntityCommand c (w ∷ ts) → ⊥
-not_ent w ts e none c h = let t = told_by w ts c h in ent_told w ts t.0 e t.1 none c t.2 h
+not_ent w ts e none c h = let t = error_text_of w ts c h in ent_told w ts t.0 e t.1 none c t.2 h
 
 -- Fields after `remove` that are not one or more texts of uids are not a command.
 pub not_remove : (w : List ℕ) (ts : List (List ℕ)) → w ≡ codes "remove"
     → ((us : List EntityUID) → (us ≡ [] → ⊥) × AreTexts us ts → ⊥) → (c : EntityCommand) → IsEntityCommand c (w ∷ ts)
     → ⊥
 not_remove w ts e none c h =
-    let t = told_by w ts c h in
+    let t = error_text_of w ts c h in
     let same : Remove t.0 ≡ c = ap (λ v. command_by v t.0) (sym e) ∙ t.2 in
     let r : IsEntityCommand (Remove t.0) (w ∷ ts) = subst (λ d. IsEntityCommand d (w ∷ ts)) (sym same) h in
     none t.0 (r.1, t.1)
@@ -176,7 +176,7 @@ pub not_slice : (w : List ℕ) (ts : List (List ℕ)) → w ≡ codes "slice"
     → ((us : List EntityUID) → (us ≡ [] → ⊥) × AreTexts us ts → ⊥) → (c : EntityCommand) → IsEntityCommand c (w ∷ ts)
     → ⊥
 not_slice w ts e none c h =
-    let t = told_by w ts c h in
+    let t = error_text_of w ts c h in
     let same : Slice t.0 ≡ c = ap (λ v. command_by v t.0) (sym e) ∙ t.2 in
     let r : IsEntityCommand (Slice t.0) (w ∷ ts) = subst (λ d. IsEntityCommand d (w ∷ ts)) (sym same) h in
     none t.0 (r.1, t.1)
@@ -193,12 +193,12 @@ anc_told w ts (u ∷ us) e none c same h =
 -- Fields after `anc` that are not the text of one uid are not a command.
 pub not_anc : (w : List ℕ) (ts : List (List ℕ)) → w ≡ codes "anc" → ((u : EntityUID) → AreTexts (u ∷ []) ts → ⊥)
     → (c : EntityCommand) → IsEntityCommand c (w ∷ ts) → ⊥
-not_anc w ts e none c h = let t = told_by w ts c h in anc_told w ts t.0 e none c t.2 h
+not_anc w ts e none c h = let t = error_text_of w ts c h in anc_told w ts t.0 e none c t.2 h
 
 -- If the fields after a word are not texts of uids, the fields are not a command.
 no_uid_texts : (w : List ℕ) (ts : List (List ℕ)) → ((us : List EntityUID) → AreTexts us ts → ⊥) → (c : EntityCommand)
     → IsEntityCommand c (w ∷ ts) → ⊥
-no_uid_texts w ts none c h = let t = told_by w ts c h in none t.0 t.1
+no_uid_texts w ts none c h = let t = error_text_of w ts c h in none t.0 t.1
 
 -- A single word is `build`, `add` or `upsert`, or not a command.
 pub not_word : (w : List ℕ) → (w ≡ codes "build" → ⊥) → (w ≡ codes "add" → ⊥) → (w ≡ codes "upsert" → ⊥)

@@ -16,10 +16,10 @@ use Rattle.cedar_uid_sets.specs.UidSets.{UidValues}
 use Rattle.cedar_uid_sets.specs.laws.Sets.{one_equal}
 use Rattle.cedar_entity.specs.laws.UidSets.{kept_in}
 use Rattle.cedar_entity.specs.View.{EntityView, has_ancestor}
-use Rattle.cedar_entity_maps.specs.Edits.{goes_with, lessened}
+use Rattle.cedar_entity_maps.specs.Edits.{is_stale, without_stale}
 use Rattle.cedar_entity_maps.specs.Modes.{ancestry, is_ancestor_in}
-use Rattle.cedar_entity_maps.specs.Plain.{Held}
-use Rattle.cedar_entity_maps.specs.laws.Held.{held, shared}
+use Rattle.cedar_entity_maps.specs.Plain.{EntityMap}
+use Rattle.cedar_entity_maps.specs.laws.EntityMap.{entity_at, shared}
 use Rattle.cedar_entity.specs.declared.node.SharedEntity.{SharedEntity}
 use Rattle.std.proofs.Math.Bool.{and-true}
 
@@ -101,7 +101,7 @@ one_left_out p (y ∷ ys) x h = ap (λ zs. cond (p y) (y ∷ zs) zs) (one_left_o
 
 -- A key of the map is not absent.
 pub not_absent : {S : Type 0} (m : HashMap EntityUID SharedEntity S) (u : EntityUID) → is_some (get same_uid m u) ≡ true
-    → not (is_some (held m u)) ≡ false
+    → not (is_some (entity_at m u)) ≡ false
 not_absent m u h = at (get same_uid m u) h
   where
     at : (o : Option SharedEntity) → is_some o ≡ true → not (is_some (option_map shared o)) ≡ false

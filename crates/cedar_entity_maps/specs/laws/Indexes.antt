@@ -7,8 +7,8 @@ use Rattle.cedar_ids.specs.declared.entity.EntityUID.{EntityUID}
 use Rattle.cedar_entity.specs.View.{EntityView}
 use Rattle.cedar_children.specs.Children.{is_child}
 use Rattle.cedar_children.specs.declared.children.Children.{Children}
-use Rattle.cedar_entity_maps.specs.Plain.{Held, IsPlainStore, parts_of}
-use Rattle.cedar_entity_maps.specs.World.{World, is_parent_in}
+use Rattle.cedar_entity_maps.specs.Plain.{EntityMap, IsPlainStore, parts_of}
+use Rattle.cedar_entity_maps.specs.InputStore.{InputStore, is_parent_in}
 use Rattle.cedar_entity_maps.specs.declared.index.Index.{Index}
 use Rattle.std.proofs.Common.{refl}
 
@@ -18,8 +18,8 @@ is_parent_at None p = false
 is_parent_at (Some e) p = set.contains e.parents p
 
 -- Holds if D is the entity map of the plain store of some input store.
-abbrev pub IsPlainHeld : Held → Type 0
-IsPlainHeld D = (W : World) × IsPlainStore W (record { held = D; partial = W.partial })
+abbrev pub IsPlainHeld : EntityMap → Type 0
+IsPlainHeld D = (W : InputStore) × IsPlainStore W (record { entities = D; partial = W.partial })
 
 -- Holds if p has the child q exactly if f states it.
 abbrev pub HasChildren : {S H : Type 0} → (EntityUID → EntityUID → Bool) → Children S H → Type 0
@@ -31,7 +31,7 @@ parentage g p q = is_parent_at (g q) p
 
 -- Holds if the index is correct for D: D is plain if the index states it, and the listed children are the children in
 -- D.
-pub record IsIndexOf {S H : Type 0} (x : Index S H) (D : Held) : Type 0 where
+pub record IsIndexOf {S H : Type 0} (x : Index S H) (D : EntityMap) : Type 0 where
   pub plain : IsTrue x.plain → IsPlainHeld D
   pub children : IfSome x.children (HasChildren (parentage (finmap.get D)))
 

@@ -7,7 +7,7 @@ use Rattle.cedar_ids.specs.UidOf.{same_uid}
 use Rattle.cedar_ids.specs.laws.UidOfLaws.{same_uid_decides}
 use Rattle.cedar_ids.specs.declared.entity.EntityUID.{EntityUID}
 use Rattle.cedar_entity.specs.declared.node.SharedEntity.{SharedEntity}
-use Rattle.cedar_entity_maps.specs.laws.Held.{held, shared, UidsMatch}
+use Rattle.cedar_entity_maps.specs.laws.EntityMap.{entity_at, shared, UidsMatch}
 use Rattle.cedar_entity.specs.View.{EntityView}
 
 -- If the keys are the uids of the entities, each entity is stored under its uid.
@@ -34,14 +34,14 @@ cond_holds P false o h = h
 -- Changing entities, but not their uids, keeps them under their uids.
 pub changed_match : {S : Type 0} (m n : HashMap EntityUID SharedEntity S) (f : EntityUID → EntityView → EntityView)
     → ((q : EntityUID) (e : EntityView) → (f q e).uid ≡ e.uid)
-    → ((q : EntityUID) → held n q ≡ option_map (f q) (held m q)) → UidsMatch m → UidsMatch n
+    → ((q : EntityUID) → entity_at n q ≡ option_map (f q) (entity_at m q)) → UidsMatch m → UidsMatch n
 changed_match m n f keeps is h q =
     key_back q (get same_uid n q) (subst (λ o. IfSome o (λ e. e.uid ≡ q)) (sym (is q))
-    (map_keyed (f q) (keeps q) q (held m q) (key_at q (get same_uid m q) (h q))))
+    (map_keyed (f q) (keeps q) q (entity_at m q) (key_at q (get same_uid m q) (h q))))
 
 -- Removing entities keeps the others under their uids.
-pub left_match : {S : Type 0} (m n : HashMap EntityUID SharedEntity S) (gone : EntityUID → Bool)
-    → ((q : EntityUID) → held n q ≡ cond (gone q) None (held m q)) → UidsMatch m → UidsMatch n
-left_match m n gone step h q =
+pub left_match : {S : Type 0} (m n : HashMap EntityUID SharedEntity S) (removed : EntityUID → Bool)
+    → ((q : EntityUID) → entity_at n q ≡ cond (removed q) None (entity_at m q)) → UidsMatch m → UidsMatch n
+left_match m n removed step h q =
     key_back q (get same_uid n q) (subst (λ o. IfSome o (λ e. e.uid ≡ q)) (sym (step q))
-    (cond_holds (λ e. e.uid ≡ q) (gone q) (held m q) (key_at q (get same_uid m q) (h q))))
+    (cond_holds (λ e. e.uid ≡ q) (removed q) (entity_at m q) (key_at q (get same_uid m q) (h q))))

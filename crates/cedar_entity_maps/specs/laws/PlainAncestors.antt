@@ -9,20 +9,20 @@ use Rattle.cedar_ids.specs.declared.entity.EntityUID.{EntityUID}
 use Rattle.cedar_entity.specs.View.{EntityView, has_ancestor}
 use Rattle.cedar_entity_maps.specs.Modes.{ancestry, is_ancestor_in}
 use Rattle.cedar_entity_maps.specs.Plain.{StoreView, IsPlainStore, parts_of}
-use Rattle.cedar_entity_maps.specs.World.{World, Parts, graph, is_parent_in}
+use Rattle.cedar_entity_maps.specs.InputStore.{InputStore, Parts, graph, is_parent_in}
 
 has_parts : (o : Option Parts) (b : EntityUID) → is_parent_in o b ≡ true → is_some o ≡ true
 has_parts None b h = absurd (false≢true h)
 has_parts (Some p) b h = refl
 
 -- The first uid of a path has an entity in the input store.
-pub first_key : (W : World) (a b : EntityUID) (xs : List EntityUID) → Path (graph W) a xs b
+pub first_key : (W : InputStore) (a b : EntityUID) (xs : List EntityUID) → Path (graph W) a xs b
     → finmap.contains_key W.entities a ≡ true
 first_key W a b [] p = has_parts (finmap.get W.entities a) b p
 first_key W a b (x ∷ xs) p = has_parts (finmap.get W.entities a) x p.0
 
-module _ (W : World) (S : StoreView) (plain : IsPlainStore W S) where
-  ancestor_at : (a b : EntityUID) (o : Option EntityView) → finmap.get S.held a ≡ o
+module _ (W : InputStore) (S : StoreView) (plain : IsPlainStore W S) where
+  ancestor_at : (a b : EntityUID) (o : Option EntityView) → finmap.get S.entities a ≡ o
       → IfSome o (λ e. (x : EntityUID) → (has_ancestor e x ≡ true) ↔ Reach (graph W) a x) → (is_ancestor_in o b ≡ true)
       ↔ Reach (graph W) a b
   ancestor_at a b (Some e) is h = h b
@@ -33,5 +33,5 @@ module _ (W : World) (S : StoreView) (plain : IsPlainStore W S) where
   )
 
   -- The ancestors are exactly the uids that are reached over parents.
-  pub ancestry_plain : (a b : EntityUID) → (ancestry S.held a b ≡ true) ↔ Reach (graph W) a b
-  ancestry_plain a b = ancestor_at a b (finmap.get S.held a) refl (plain.reached a)
+  pub ancestry_plain : (a b : EntityUID) → (ancestry S.entities a b ≡ true) ↔ Reach (graph W) a b
+  ancestry_plain a b = ancestor_at a b (finmap.get S.entities a) refl (plain.reached a)

@@ -5,10 +5,10 @@ use Rattle.std.proofs.lemmas.Bool.{false≢true}
 use Rattle.std.specs.Bool.{OnTrue}
 use Rattle.cedar_graph.specs.declared.err.TcError.{TcError}
 use Rattle.cedar_ids.specs.declared.entity.EntityUID.{EntityUID}
-use Rattle.cedar_entity_maps.specs.Modes.{Also, IsSound, OneOf, TellsCycle, TellsUnsound, WhereComputed}
-use Rattle.cedar_entity_maps.specs.Plain.{Held}
-use Rattle.cedar_entity_maps.specs.Touching.{IsAcyclicAt, IsMended, IsMendRefused, IsRepairOf, IsSettled}
-use Rattle.cedar_entity_maps.specs.Touching.{IsSettleRefused, WhereTaken}
+use Rattle.cedar_entity_maps.specs.Modes.{Also, IsSound, OneOf, ReportsCycle, ReportsUnsound, IfComputing}
+use Rattle.cedar_entity_maps.specs.Plain.{EntityMap}
+use Rattle.cedar_entity_maps.specs.Affected.{IsAcyclicAt, IsRepaired, IsRepairError, IsRepairOf, IsFinalized}
+use Rattle.cedar_entity_maps.specs.Affected.{IsFinalizeError, UnlessRepairing}
 use Rattle.cedar_entity_maps.specs.declared.modes.TCComputation.TheVariants as modes
 
 -- P implies P under a condition.
@@ -59,35 +59,35 @@ one_cases false true P Q R f g q = g q
 one_cases false false P Q R f g h = absurd h
 
 -- For each mode by its name: the result of finalizing an addition, an overwriting and a removal, and the errors.
-module _ (touched : EntityUID → Bool) (D N : Held) (t : TcError EntityUID) where
-  pub assumed : (IsSettled modes.AssumeAlreadyComputed touched D N ↔ (N ≡ D))
-      × (IsSettleRefused modes.AssumeAlreadyComputed touched D t ↔ ⊥)
-      × (IsMended modes.AssumeAlreadyComputed touched D N ↔ (IsRepairOf touched D N))
-      × (IsMendRefused modes.AssumeAlreadyComputed touched D t ↔ ⊥)
+module _ (affected : EntityUID → Bool) (D N : EntityMap) (t : TcError EntityUID) where
+  pub assumed : (IsFinalized modes.AssumeAlreadyComputed affected D N ↔ (N ≡ D))
+      × (IsFinalizeError modes.AssumeAlreadyComputed affected D t ↔ ⊥)
+      × (IsRepaired modes.AssumeAlreadyComputed affected D N ↔ (IsRepairOf affected D N))
+      × (IsRepairError modes.AssumeAlreadyComputed affected D t ↔ ⊥)
   assumed = ((λ h. h, λ h. h), (λ h. h, λ h. h), (λ h. h, λ h. h), (λ h. h, λ h. h))
 
-  pub enforced : (IsSettled modes.EnforceAlreadyComputed touched D N ↔ ((N ≡ D) × IsSound N))
-      × (IsSettleRefused modes.EnforceAlreadyComputed touched D t ↔ (TellsUnsound D t))
-      × (IsMended modes.EnforceAlreadyComputed touched D N ↔ (IsRepairOf touched D N × IsSound N))
-      × (IsMendRefused modes.EnforceAlreadyComputed touched D t
-      ↔ ((M : Held) × IsRepairOf touched D M × TellsUnsound M t))
+  pub enforced : (IsFinalized modes.EnforceAlreadyComputed affected D N ↔ ((N ≡ D) × IsSound N))
+      × (IsFinalizeError modes.EnforceAlreadyComputed affected D t ↔ (ReportsUnsound D t))
+      × (IsRepaired modes.EnforceAlreadyComputed affected D N ↔ (IsRepairOf affected D N × IsSound N))
+      × (IsRepairError modes.EnforceAlreadyComputed affected D t
+      ↔ ((M : EntityMap) × IsRepairOf affected D M × ReportsUnsound M t))
   enforced = ((λ h. h, λ h. h), (λ h. h, λ h. h), (λ h. h, λ h. h), (λ h. h, λ h. h))
 
-  pub computed : (IsSettled modes.ComputeNow touched D N ↔ (IsRepairOf touched D N × IsAcyclicAt touched D))
-      × (IsSettleRefused modes.ComputeNow touched D t ↔ (TellsCycle D t))
-      × (IsMended modes.ComputeNow touched D N ↔ (IsRepairOf touched D N × IsAcyclicAt touched D))
-      × (IsMendRefused modes.ComputeNow touched D t ↔ (TellsCycle D t))
+  pub computed : (IsFinalized modes.ComputeNow affected D N ↔ (IsRepairOf affected D N × IsAcyclicAt affected D))
+      × (IsFinalizeError modes.ComputeNow affected D t ↔ (ReportsCycle D t))
+      × (IsRepaired modes.ComputeNow affected D N ↔ (IsRepairOf affected D N × IsAcyclicAt affected D))
+      × (IsRepairError modes.ComputeNow affected D t ↔ (ReportsCycle D t))
   computed = ((λ h. h, λ h. h), (λ h. h, λ h. h), (λ h. h, λ h. h), (λ h. h, λ h. h))
 
 -- For each mode by its name: whether it computes the closure, and whether added entities are stored without changes.
 module _ (P : Type 0) where
-  pub where_assumed : (WhereComputed modes.AssumeAlreadyComputed P ↔ Unit {0})
-      × (WhereTaken modes.AssumeAlreadyComputed P ↔ P)
+  pub where_assumed : (IfComputing modes.AssumeAlreadyComputed P ↔ Unit {0})
+      × (UnlessRepairing modes.AssumeAlreadyComputed P ↔ P)
   where_assumed = ((λ h. h, λ h. h), (λ h. h, λ h. h))
 
-  pub where_enforced : (WhereComputed modes.EnforceAlreadyComputed P ↔ Unit {0})
-      × (WhereTaken modes.EnforceAlreadyComputed P ↔ P)
+  pub where_enforced : (IfComputing modes.EnforceAlreadyComputed P ↔ Unit {0})
+      × (UnlessRepairing modes.EnforceAlreadyComputed P ↔ P)
   where_enforced = ((λ h. h, λ h. h), (λ h. h, λ h. h))
 
-  pub where_now : (WhereComputed modes.ComputeNow P ↔ P) × (WhereTaken modes.ComputeNow P ↔ Unit {0})
+  pub where_now : (IfComputing modes.ComputeNow P ↔ P) × (UnlessRepairing modes.ComputeNow P ↔ Unit {0})
   where_now = ((λ h. h, λ h. h), (λ h. h, λ h. h))

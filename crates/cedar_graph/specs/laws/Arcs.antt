@@ -1,7 +1,7 @@
 -- Numbers for keys, and arcs between numbers.
 use Rattle.std.specs.Prelude.{◌≡◌, ℕ, ◌<◌, ◌≤◌, ◌+◌, slice_get, slice_index, Bool, true, ◌&&◌, List, ◌++◌, Some, length}
 use Rattle.std.specs.Set.{is_member}
-use Rattle.cedar_components.specs.Reach.{Goes}
+use Rattle.cedar_components.specs.Reach.{HasPath}
 
 -- Holds if the list is in ascending order; equal numbers are allowed.
 abbrev pub Ascends : List ℕ → Type 0
@@ -70,7 +70,7 @@ IsKeyAt {K} eq keys x q = (k : K) × (slice_get keys x ≡ Some k) × (eq k q �
 
 -- Holds if q is the key of a number that number x reaches.
 abbrev pub ReachesKey : {K : Type 0} → (K → K → Bool) → List K → (ℕ → ℕ → Type 0) → ℕ → K → Type 0
-ReachesKey {K} eq keys E x q = (y : ℕ) × (k : K) × Goes E x y × (slice_get keys y ≡ Some k) × (eq q k ≡ true)
+ReachesKey {K} eq keys E x q = (y : ℕ) × (k : K) × HasPath E x y × (slice_get keys y ≡ Some k) × (eq q k ≡ true)
 
 -- Holds if a is the key of number x, and b is the key of a number that x reaches.
 abbrev pub IsRowEdge : {K : Type 0} → (K → K → Bool) → List K → (ℕ → ℕ → Type 0) → ℕ → K → K → Type 0

@@ -7,7 +7,7 @@ use Rattle.std.specs.HashMap.{HashMap, get, hash_map_len}
 use Rattle.std.specs.HashSet.{HashSet, contains, hash_set_len}
 use Rattle.indexmap.specs.IndexSet.{IndexSet, IsUnique}
 use Rattle.cedar_components.specs.Reach.{HasArc, AreArcs}
-use Rattle.cedar_graph.specs.Calls.{IsNear}
+use Rattle.cedar_graph.specs.Calls.{NeedsEdges}
 use Rattle.cedar_graph.specs.Graph.{graph_of}
 use Rattle.cedar_graph.specs.laws.Arcs.{AreArcsOf, AreEdges, AreSameEdges, Ascends, HasNumber, HasNumberBelow}
 use Rattle.cedar_graph.specs.laws.Arcs.{IsPrefix, near_graph}
@@ -135,6 +135,6 @@ pub record ReadsFix {K V S F H : Type 0} (eq : K → K → Bool) (edges : V → 
       → is_member eq (take read.near read.reading.keys.keys) u ≡ true
   pub near_fixed : (x : K) → contains eq fix x ≡ true → is_member eq (take read.near read.reading.keys.keys) x ≡ true
   pub only_near : (i : ℕ) (k : K) → i < read.near → slice_get read.reading.keys.keys i ≡ Some k
-      → IsNear (contains eq fix) (graph_of eq edges nodes) k
+      → NeedsEdges (contains eq fix) (graph_of eq edges nodes) k
   pub within : read.near ≤ length read.reading.keys.keys
   pub reads : read.reading.reads ≤ read.near

@@ -4,7 +4,7 @@ use Rattle.std.specs.Prelude.{◌+◌, is_some, Result, OnOk}
 use Rattle.std.specs.List.{slice_range}
 use Rattle.std.specs.Set.{is_member}
 use Rattle.std.specs.HashMap.{HashMap, get}
-use Rattle.cedar_components.specs.Reach.{Goes, HasArc, IsReach}
+use Rattle.cedar_components.specs.Reach.{HasPath, HasArc, IsReach}
 use Rattle.cedar_components.specs.declared.Reached.{Reached}
 use Rattle.cedar_graph.specs.Graph.{graph_of, KeepsEdges}
 use Rattle.cedar_graph.specs.laws.Arcs.{IsKeyAt, IsRowEdgeBelow}
@@ -119,11 +119,11 @@ listed r x = slice_range r.lists.items (slice_index r.start.items (slice_index r
 
 -- Holds if no number x below n reaches itself for which there is an arc to x from x or a lower number.
 abbrev pub NoneGoesBack : (ℕ → ℕ → Type 0) → ℕ → Type 0
-NoneGoesBack E n = (w x : ℕ) → w ≤ x → x < n → E w x → Goes E x x → ⊥
+NoneGoesBack E n = (w x : ℕ) → w ≤ x → x < n → E w x → HasPath E x x → ⊥
 
 -- Holds if no number below n to which an arc leads reaches itself.
 abbrev pub NoneLoops : (ℕ → ℕ → Type 0) → ℕ → Type 0
-NoneLoops E n = (w x : ℕ) → x < n → E w x → Goes E x x → ⊥
+NoneLoops E n = (w x : ℕ) → x < n → E w x → HasPath E x x → ⊥
 
 -- Holds if each target of a number below n has a mark.
 abbrev pub AreMarked : (ℕ → ℕ → Type 0) → ℕ → List ℕ → Type 0
@@ -161,4 +161,4 @@ pub record HasMarks {K S H : Type 0} (s : Reading K S H) (n : ℕ) (marks : List
 -- Holds if q is the key of a number to fix that reaches itself.
 abbrev pub IsKeyOfLoop : {K S H : Type 0} → (K → K → Bool) → FixReading K S H → K → Type 0
 IsKeyOfLoop {K} eq read q = (x : ℕ) × (k : K) × (x < read.fixed) × (slice_get read.reading.keys.keys x ≡ Some k)
-    × (eq k q ≡ true) × Goes (IsArc read.reading) x x
+    × (eq k q ≡ true) × HasPath (IsArc read.reading) x x

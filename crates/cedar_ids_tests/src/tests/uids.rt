@@ -4,7 +4,7 @@ use cedar_ids::entity::{Eid, EntityType, EntityUID, EntityUIDImpl};
 use cedar_ids::err::ParseErrors;
 use cedar_ids::name::Name;
 use cedar_ids::non_empty::NonEmpty;
-use cedar_test_helpers::made::both;
+use cedar_test_helpers::creation::both;
 use std::alloc::{AllocError, Global};
 use std::collections::HashSet;
 use std::hash::Hash;

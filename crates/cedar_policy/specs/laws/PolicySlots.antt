@@ -21,7 +21,7 @@ use Rattle.cedar_action.specs.RuleReads.{rule_has_slot}
 use Rattle.cedar_action.specs.laws.RuleSlots.{rule_slots, rule_has_slot-filled}
 use Rattle.cedar_body.specs.Bodies.{BodyParts, body_slots, clause_slots}
 use Rattle.cedar_body.specs.laws.BodySlots.{body_slots-parts}
-use Rattle.cedar_binding.specs.Bindings.{is_among, BindsExactly}
+use Rattle.cedar_binding.specs.Bindings.{is_listed_id, BindsExactly}
 use Rattle.cedar_binding.specs.laws.NoBindings.{nothing_bound}
 use Rattle.cedar_ids.specs.Uid.{UidParts}
 use Rattle.cedar_policy.specs.Policies.{PolicyParts, IsPolicy, static_policy, filled_by, filled_rule_by, principal_of}
@@ -62,14 +62,14 @@ slots_in_turn b =
     ∙ sym (body_slots-parts b)
 
 -- A slot that is not in the body is not in the constraints.
-behind_clause : (s : SlotId) (b : BodyParts) → is_among (body_slots b) s ≡ false →
+behind_clause : (s : SlotId) (b : BodyParts) → is_listed_id (body_slots b) s ≡ false →
     list_any (same_slot s) (constraint_slots variables.Resource b.resource
     ++ (rule_slots b.action ++ constraint_slots variables.Principal b.principal)) ≡ false
 behind_clause s b h = not_after (same_slot s) (clause_slots b.clause) _
-    (ap (λ xs. is_among xs s) (sym (body_slots-parts b)) ∙ h)
+    (ap (λ xs. is_listed_id xs s) (sym (body_slots-parts b)) ∙ h)
 
 -- If the principal's slot is not in the body, the principal's constraint does not refer to it.
-principal_without_slot : (b : BodyParts) → is_among (body_slots b) Principal ≡ false → has_slot b.principal ≡ false
+principal_without_slot : (b : BodyParts) → is_listed_id (body_slots b) Principal ≡ false → has_slot b.principal ≡ false
 principal_without_slot b h =
     not_there Principal (has_slot b.principal)
     (not_after (same_slot Principal) (rule_slots b.action) _
@@ -77,14 +77,14 @@ principal_without_slot b h =
     (behind_clause Principal b h)))
 
 -- If the action's slot is not in the body, the action's constraint does not refer to it.
-action_without_slot : (b : BodyParts) → is_among (body_slots b) Action ≡ false → rule_has_slot b.action ≡ false
+action_without_slot : (b : BodyParts) → is_listed_id (body_slots b) Action ≡ false → rule_has_slot b.action ≡ false
 action_without_slot b h =
     not_there Action (rule_has_slot b.action)
     (not_before (same_slot Action) (rule_slots b.action) _
     (not_after (same_slot Action) (constraint_slots variables.Resource b.resource) _ (behind_clause Action b h)))
 
 -- If the resource's slot is not in the body, the resource's constraint does not refer to it.
-resource_without_slot : (b : BodyParts) → is_among (body_slots b) Resource ≡ false → has_slot b.resource ≡ false
+resource_without_slot : (b : BodyParts) → is_listed_id (body_slots b) Resource ≡ false → has_slot b.resource ≡ false
 resource_without_slot b h =
     not_there Resource (has_slot b.resource) (not_before (same_slot Resource)
     (constraint_slots variables.Resource b.resource) _ (behind_clause Resource b h))

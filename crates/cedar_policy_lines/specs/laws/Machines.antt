@@ -2,7 +2,7 @@
 use Rattle.std.specs.Prelude.{◌≡◌, ℕ, Bool, true, false, List, ◌++◌, Option, Some, None, Result, Ok, Err, codes}
 use Rattle.cedar_lines.specs.Lines.{written_line}
 use Rattle.cedar_policy_set_errors.specs.declared.err.PolicySetError.{PolicySetError}
-use Rattle.cedar_policy_set.specs.Refusals.{told_by_set}
+use Rattle.cedar_policy_set.specs.Refusals.{set_error_of}
 use Rattle.cedar_policy_set.specs.Steps.{Refusal}
 use Rattle.cedar_policy_lines.specs.PolicyCommand.{PolicyCommand}
 use Rattle.cedar_policy_lines.specs.PolicyOutput.{PolicyWrites, ok_line, merged_line, refused_line}
@@ -25,7 +25,7 @@ Said told (Err e) old new = SaidBy (told e) old new
 -- Whether the result of a merge appends its line: the renamed ids, or the error.
 abbrev pub SaidMerged : {A : Type 0} → (A → List (List ℕ × List ℕ)) → Result A PolicySetError → List ℕ → List ℕ → Type 0
 SaidMerged entries (Ok a) old new = new ≡ old ++ merged_line (entries a)
-SaidMerged entries (Err e) old new = SaidBy (told_by_set e) old new
+SaidMerged entries (Err e) old new = SaidBy (set_error_of e) old new
 
 -- Whether a command that was read is run. If no command was read, nothing changes.
 abbrev pub TakesAs : Option PolicyCommand → Bool → TwoSets → TwoSets → List ℕ → List ℕ → Type 0

@@ -17,8 +17,8 @@ use Rattle.cedar_body.specs.Bodies.{BodyParts}
 use Rattle.cedar_policy.specs.Policies.{PolicyParts, policy_id}
 use Rattle.cedar_policy_maps.specs.PolicySets.{AreOnce, is_body_at, is_policy_at}
 use Rattle.cedar_policy_maps.specs.Maps.{ids_by_body, templates_in}
-use Rattle.cedar_policy_maps.specs.TakenIn.{HaveIdsFreeOf}
-use Rattle.cedar_policy_maps.specs.laws.GrowLaws.{grown_by, HaveOwnKeys, changed_keys}
+use Rattle.cedar_policy_maps.specs.BulkInsert.{HaveIdsFreeOf}
+use Rattle.cedar_policy_maps.specs.laws.BulkInsertSteps.{grown_by, HaveOwnKeys, changed_keys}
 use Rattle.cedar_policy_maps.specs.laws.ListedLaws.{changed, with_listed, join_listed}
 use Rattle.cedar_policy_maps.specs.laws.MapLaws.{all_listed, templates_once}
 use Rattle.cedar_policy_maps.specs.laws.OnceLaws.{is_at, before_at, once-push, any-map}
@@ -304,9 +304,9 @@ own_by None p e n = ap (λ o. unwrap_or o p.template.id) (sym e)
 own_by (Some l) p e n = absurd (cc)
 
 -- A static policy whose id no body has uses none of the bodies.
-static_apart : (ts : List BodyParts) (p : PolicyParts) → list_any (is_body_at (policy_id p)) ts ≡ false
+deep_copy_static : (ts : List BodyParts) (p : PolicyParts) → list_any (is_body_at (policy_id p)) ts ≡ false
     → is_some p.link ≡ false → list_any (same_text p.template.id) (map body_id ts) ≡ false
-static_apart ts p n e =
+deep_copy_static ts p n e =
     any-map body_id (same_text p.template.id) ts
     ∙ ap (λ k. list_any (is_body_at k) ts) (sym (own_by p.link p refl e)) ∙ n
 
@@ -315,7 +315,7 @@ static_skipped : (ts : List BodyParts) (ps : List PolicyParts) → HaveIdsFreeOf
 static_skipped ts [] h = tt
 static_skipped ts (p ∷ ps) h =
     let r = free_one ts p ps h in
-    (static_apart ts p r.0, static_skipped ts ps r.1)
+    (deep_copy_static ts p r.0, static_skipped ts ps r.1)
 
 elsewhere_at : (v w : Bool) (ks us : List (List ℕ)) (p : PolicyParts) → is_some p.link ≡ v
     → list_any (same_text p.template.id) ks ≡ w → (v && not w) ≡ false
@@ -334,7 +334,7 @@ elsewhere_skipped ks ts [] h n = tt
 elsewhere_skipped ks ts (p ∷ ps) h n =
     let r = free_one ts p ps h in (
       (λ e. elsewhere_at (is_some p.link) (list_any (same_text p.template.id) ks) ks (map body_id ts) p refl refl e
-          (static_apart ts p r.0) (n p.template.id)),
+          (deep_copy_static ts p r.0) (n p.template.id)),
       elsewhere_skipped ks ts ps r.1 n,
     )
 

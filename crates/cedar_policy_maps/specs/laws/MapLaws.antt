@@ -14,14 +14,14 @@ use Rattle.cedar_body.specs.Bodies.{BodyParts, body_slots}
 use Rattle.cedar_policy.specs.Policies.{PolicyParts, policy_id}
 use Rattle.cedar_policy_maps.specs.PolicySets.{SetParts, AreOnce, is_bound, is_body_at, is_policy_at, links_to}
 use Rattle.cedar_policy_maps.specs.PolicySets.{has_links}
-use Rattle.cedar_policy_maps.specs.PolicySets.{with_template, with_policy, with_both, without_id, IsHeldBy, IsHeld}
+use Rattle.cedar_policy_maps.specs.PolicySets.{with_template, with_policy, with_body_and_policy, without_id, IsHeldBy, IsHeld}
 use Rattle.cedar_policy_maps.specs.PolicySets.{AreHeld}
 use Rattle.cedar_policy_maps.specs.PolicySets.{IsPolicySet}
 use Rattle.cedar_policy_maps.specs.Lists.{is_on, ids_in, is_slotless}
 use Rattle.cedar_policy_maps.specs.Maps.{Maps, set_in, ids_by_body, templates_in, DoAgree}
 use Rattle.cedar_policy_maps.specs.laws.SetLaws.{no_body_at, no_policy_at, ids_apart, template_joins, link_joins}
-use Rattle.cedar_policy_maps.specs.laws.SetLaws.{free_link, both_free, both_join, taken_out, policy_has_no_links}
-use Rattle.cedar_policy_maps.specs.Joins.{CanJoin, CanJoinBothBy, CanJoinBoth}
+use Rattle.cedar_policy_maps.specs.laws.SetLaws.{free_link, both_free, both_join, removed_all, policy_has_no_links}
+use Rattle.cedar_policy_maps.specs.Insertions.{CanInsert, CanInsertWithBodyBy, CanInsertWithBody}
 use Rattle.cedar_policy_maps.specs.laws.ListedLaws.{with_listed, without_listed, keyed_last, keyed_removed}
 use Rattle.cedar_policy_maps.specs.laws.ListedLaws.{values_removed, not_joined, join_listed, body_listed, both_listed}
 use Rattle.cedar_policy_maps.specs.laws.ListedLaws.{leave_listed, body_unlisted}
@@ -74,10 +74,10 @@ on_none : (i j : List ℕ) (ts : List BodyParts) (t : BodyParts) → list_any (i
     → find (is_body_at j) ts ≡ Some t → same_text i j ≡ false
 on_none i j ts t n f = same_text_equiv.symm i j ∙ ids_apart ts j i t f n
 
-held_apart : (o : Option (List ℕ)) (b : SetParts) (i : List ℕ) (p : PolicyParts)
+deep_copy_map : (o : Option (List ℕ)) (b : SetParts) (i : List ℕ) (p : PolicyParts)
     → list_any (is_body_at i) b.bodies ≡ false → IsHeldBy o b p → is_on i p ≡ false
-held_apart None b i p n h = on_none i p.template.id b.bodies p.template n h.2
-held_apart (Some l) b i p n h = on_none i p.template.id b.bodies p.template n h.1
+deep_copy_map None b i p n h = on_none i p.template.id b.bodies p.template n h.2
+deep_copy_map (Some l) b i p n h = on_none i p.template.id b.bodies p.template n h.1
 
 neither : (a c : Bool) → a ≡ false → c ≡ false → (a || c) ≡ false
 neither a c p q = cc
@@ -104,7 +104,7 @@ found_any t (y ∷ ys) x h = any_at (t y) h (found_any t ys x)
 pub none_on_it : (b : SetParts) (i : List ℕ) (ps : List PolicyParts) → list_any (is_body_at i) b.bodies ≡ false
     → AreHeld b ps → list_any (is_on i) ps ≡ false
 none_on_it b i [] n h = refl
-none_on_it b i (p ∷ ps) n h = neither _ _ (held_apart p.link b i p n h.0) (none_on_it b i ps n h.1)
+none_on_it b i (p ∷ ps) n h = neither _ _ (deep_copy_map p.link b i p n h.0) (none_on_it b i ps n h.1)
 
 link_on : (o : Option (List ℕ)) (i k : List ℕ) → same_text i (unwrap_or o k) ≡ false
     → (is_some o && same_text i k) ≡ same_text i k
@@ -327,7 +327,7 @@ pub template_kept : (m : Maps) (t : BodyParts) (bs : List (List ℕ × BodyParts
 template_kept m t bs ls h n p q = rw (p, q) (template_agrees m t h n)
 
 -- The maps agree after a link of an existing template is added.
-policy_agrees : (m : Maps) (p : PolicyParts) → DoAgree m → CanJoin (set_in m) p →
+policy_agrees : (m : Maps) (p : PolicyParts) → DoAgree m → CanInsert (set_in m) p →
     Becomes (record {
       bodies = m.bodies;
       policies = m.policies ++ (policy_id p, p) ∷ [];
@@ -361,19 +361,19 @@ policy_agrees m p h c =
     )
 
 pub policy_kept : (m : Maps) (p : PolicyParts) (qs : List (List ℕ × PolicyParts)) (ls : List (List ℕ × List (List ℕ)))
-    → DoAgree m → CanJoin (set_in m) p →
+    → DoAgree m → CanInsert (set_in m) p →
     qs ≡ m.policies ++ (policy_id p, p) ∷ [] → ls ≡ with_listed p.template.id (policy_id p) m.listed
     → Becomes (record { bodies = m.bodies; policies = qs; listed = ls }) (with_policy (set_in m) p)
 policy_kept m p qs ls h c f g = rw (f, g) (policy_agrees m p h c)
 
 -- The maps agree after a static policy and its body are added. The body gets no list.
-static_agrees : (m : Maps) (p : PolicyParts) → DoAgree m → CanJoinBoth (set_in m) p → p.link ≡ None →
+static_agrees : (m : Maps) (p : PolicyParts) → DoAgree m → CanInsertWithBody (set_in m) p → p.link ≡ None →
     Becomes (record {
       bodies = m.bodies ++ (p.template.id, p.template) ∷ [];
       policies =
           m.policies ++ (policy_id p, p) ∷ [];
       listed = m.listed;
-    }) (with_both (set_in m) p.template p)
+    }) (with_body_and_policy (set_in m) p.template p)
 static_agrees m p h c e =
     let b = set_in m in
     let t = p.template in
@@ -389,7 +389,7 @@ static_agrees m p h c e =
       bodies = m.bodies ++ (t.id, t) ∷ [];
       policies = m.policies ++ (policy_id p, p) ∷ [];
       listed = m.listed;
-    }) ≡ with_both b t p = λ j. record { bodies = ts j; policies = ps j } in (
+    }) ≡ with_body_and_policy b t p = λ j. record { bodies = ts j; policies = ps j } in (
       record {
         policy_set = subst IsPolicySet (sym now) (both_join b p h.policy_set c);
         bodies_by_id = keyed_last body_id m.bodies t.id t h.bodies_by_id refl;
@@ -407,26 +407,26 @@ static_agrees m p h c e =
     )
 
 pub static_kept : (m : Maps) (p : PolicyParts) (bs : List (List ℕ × BodyParts)) (qs : List (List ℕ × PolicyParts))
-    → DoAgree m → CanJoinBoth (set_in m) p → p.link ≡ None →
+    → DoAgree m → CanInsertWithBody (set_in m) p → p.link ≡ None →
     bs ≡ m.bodies ++ (p.template.id, p.template) ∷ [] → qs ≡ m.policies ++ (policy_id p, p) ∷ [] →
-    Becomes (record { bodies = bs; policies = qs; listed = m.listed }) (with_both (set_in m) p.template p)
+    Becomes (record { bodies = bs; policies = qs; listed = m.listed }) (with_body_and_policy (set_in m) p.template p)
 static_kept m p bs qs h c e f g = rw (f, g) (static_agrees m p h c e)
 
 -- The id of a link that is added with its template differs from the template's id.
-link_apart : (o : Option (List ℕ)) (b : SetParts) (p : PolicyParts) → o ≡ p.link → (o ≡ None → ⊥) → CanJoinBothBy o b p
+link_apart : (o : Option (List ℕ)) (b : SetParts) (p : PolicyParts) → o ≡ p.link → (o ≡ None → ⊥) → CanInsertWithBodyBy o b p
     → same_text p.template.id (policy_id p) ≡ false
 link_apart None b p e n c = absurd (n refl)
 link_apart (Some l) b p e n c = ap (λ o. same_text p.template.id (unwrap_or o p.template.id)) (sym e)
     ∙ same_text_equiv.symm p.template.id l ∙ c.1
 
-link_agrees : (m : Maps) (p : PolicyParts) → DoAgree m → CanJoinBoth (set_in m) p → (p.link ≡ None → ⊥) →
+link_agrees : (m : Maps) (p : PolicyParts) → DoAgree m → CanInsertWithBody (set_in m) p → (p.link ≡ None → ⊥) →
     Becomes (record {
       bodies = m.bodies ++ (p.template.id, p.template) ∷ [];
       policies =
           m.policies ++ (policy_id p, p) ∷ [];
       listed = m.listed
           ++ (p.template.id, policy_id p ∷ []) ∷ [];
-    }) (with_both (set_in m) p.template p)
+    }) (with_body_and_policy (set_in m) p.template p)
 link_agrees m p h c l =
     let b = set_in m in
     let t = p.template in
@@ -443,7 +443,7 @@ link_agrees m p h c l =
       policies = m.policies ++ (policy_id p, p) ∷ [];
       listed = m.listed ++ (t.id, policy_id p ∷ []) ∷ [];
     })
-    ≡ with_both b t p = λ j. record { bodies = ts j; policies = ps j } in (
+    ≡ with_body_and_policy b t p = λ j. record { bodies = ts j; policies = ps j } in (
       record {
         policy_set = subst IsPolicySet (sym now) (both_join b p h.policy_set c);
         bodies_by_id = keyed_last body_id m.bodies t.id t h.bodies_by_id refl;
@@ -462,11 +462,11 @@ link_agrees m p h c l =
     )
 
 pub link_kept : (m : Maps) (p : PolicyParts) (bs : List (List ℕ × BodyParts)) (qs : List (List ℕ
-    × PolicyParts)) (ls : List (List ℕ × List (List ℕ))) → DoAgree m → CanJoinBoth (set_in m) p
+    × PolicyParts)) (ls : List (List ℕ × List (List ℕ))) → DoAgree m → CanInsertWithBody (set_in m) p
     → (p.link ≡ None → ⊥) →
     bs ≡ m.bodies ++ (p.template.id, p.template) ∷ [] → qs ≡ m.policies ++ (policy_id p, p) ∷ []
     → ls ≡ m.listed ++ (p.template.id, policy_id p ∷ []) ∷ [] →
-    Becomes (record { bodies = bs; policies = qs; listed = ls }) (with_both (set_in m) p.template p)
+    Becomes (record { bodies = bs; policies = qs; listed = ls }) (with_body_and_policy (set_in m) p.template p)
 link_kept m p bs qs ls h c l f g k = rw (f, g, k) (link_agrees m p h c l)
 
 -- ---- Removals
@@ -500,7 +500,7 @@ taken_agrees m i o h n e =
     })
     ≡ without_id b i = λ j. record { bodies = ts j; policies = ps j } in (
       record {
-        policy_set = subst IsPolicySet (sym now) (taken_out b i h.policy_set n);
+        policy_set = subst IsPolicySet (sym now) (removed_all b i h.policy_set n);
         bodies_by_id = keyed_removed body_id (same_text i) m.bodies h.bodies_by_id;
         policies_by_id = keyed_removed policy_id (same_text i) m.policies h.policies_by_id;
         all_listed =

@@ -15,13 +15,13 @@ use Rattle.cedar_body.specs.BodyEquality.{same_body}
 use Rattle.cedar_body.specs.laws.BodyLaws.{same_body_decides}
 use Rattle.cedar_binding.specs.Bindings.{BindsExactly, FitsSlots, wrong_action}
 use Rattle.cedar_policy.specs.Policies.{PolicyParts, policy_id, static_policy}
-use Rattle.cedar_policy_maps.specs.PolicySets.{SetParts, Template, empty_set, HasOwnId, bound_at, bound_among, is_bound}
+use Rattle.cedar_policy_maps.specs.PolicySets.{SetParts, Template, empty_set, HasDistinctId, bound_at, binding_from, is_bound}
 use Rattle.cedar_policy_maps.specs.PolicySets.{is_body_at, is_policy_at, links_to, has_links, policy_binding}
 use Rattle.cedar_policy_maps.specs.PolicySets.{binding_by, template_bound}
-use Rattle.cedar_policy_maps.specs.PolicySets.{with_template, with_policy, with_both, without_id, IsHeldBy, IsHeld}
+use Rattle.cedar_policy_maps.specs.PolicySets.{with_template, with_policy, with_body_and_policy, without_id, IsHeldBy, IsHeld}
 use Rattle.cedar_policy_maps.specs.PolicySets.{AreHeld}
 use Rattle.cedar_policy_maps.specs.PolicySets.{IsPolicySet}
-use Rattle.cedar_policy_maps.specs.Joins.{CanJoin, CanJoinBy, CanJoinBoth, CanJoinBothBy}
+use Rattle.cedar_policy_maps.specs.Insertions.{CanInsert, CanInsertBy, CanInsertWithBody, CanInsertWithBodyBy}
 use Rattle.cedar_policy_maps.specs.laws.OnceLaws.{once_more, once-push, once-filter, filter_none, any-filter_none}
 use Rattle.cedar_policy_maps.specs.laws.OnceLaws.{none_is, find-unless, find-push, find-filter}
 
@@ -115,7 +115,7 @@ no_template_by : (o : Option (List ℕ)) (p : PolicyParts) (u : BodyParts) → S
 no_template_by None p u e = absurd (cc)
 no_template_by (Some l) p u e = absurd (cc)
 
-found_template : (p : Option PolicyParts) (t : Option BodyParts) (u : BodyParts) → bound_among p t ≡ Some (Template u)
+found_template : (p : Option PolicyParts) (t : Option BodyParts) (u : BodyParts) → binding_from p t ≡ Some (Template u)
     → (p ≡ None) × (t ≡ Some u)
 found_template (Some p) t u e = absurd (no_template_by p.link p u e)
 found_template None (Some t) u e = (refl, cc)
@@ -127,13 +127,13 @@ no_template_in (Some l) p = refl
 
 -- The template with an id is the body with the id, if no policy has the id.
 pub template_among : (p : Option PolicyParts) (t : Option BodyParts)
-    → template_bound (bound_among p t) ≡ cond (is_some p) None t
+    → template_bound (binding_from p t) ≡ cond (is_some p) None t
 template_among (Some p) t = no_template_in p.link p
 template_among None (Some t) = refl
 template_among None None = refl
 
 pub no_template_among : (p : Option PolicyParts) (t : Option BodyParts) → t ≡ None
-    → template_bound (bound_among p t) ≡ None
+    → template_bound (binding_from p t) ≡ None
 no_template_among (Some p) t e = no_template_in p.link p
 no_template_among None (Some u) e = absurd (cc)
 no_template_among None None e = refl
@@ -145,7 +145,7 @@ template_at b i u e =
     let f = found_template (find (is_policy_at i) b.policies) (find (is_body_at i) b.bodies) u e in
     (none_is (is_policy_at i) b.policies f.0, f.1)
 
-link_held : (o : Option (List ℕ)) (b : SetParts) (q : PolicyParts) → o ≡ q.link → CanJoinBy o b q
+link_held : (o : Option (List ℕ)) (b : SetParts) (q : PolicyParts) → o ≡ q.link → CanInsertBy o b q
     → IsHeldBy o (with_policy b q) q
 link_held None b q e h = absurd h
 link_held (Some l) b q e h =
@@ -159,13 +159,13 @@ link_held (Some l) b q e h =
       h.2,
     )
 
-pub free_link : (o : Option (List ℕ)) (b : SetParts) (q : PolicyParts) → o ≡ q.link → CanJoinBy o b q
+pub free_link : (o : Option (List ℕ)) (b : SetParts) (q : PolicyParts) → o ≡ q.link → CanInsertBy o b q
     → is_bound b (policy_id q) ≡ false
 free_link None b q e h = absurd h
 free_link (Some l) b q e h = ap (λ o. is_bound b (unwrap_or o q.template.id)) (sym e) ∙ h.0
 
 -- Adding a link of an existing template preserves the invariant.
-pub link_joins : (b : SetParts) (q : PolicyParts) → IsPolicySet b → CanJoin b q → IsPolicySet (with_policy b q)
+pub link_joins : (b : SetParts) (q : PolicyParts) → IsPolicySet b → CanInsert b q → IsPolicySet (with_policy b q)
 link_joins b q h c =
     let free = free_link q.link b q refl c in
     record {
@@ -185,12 +185,12 @@ found_last (u ∷ us) t n = ap (λ v. cond v (Some u) (find (is_body_at t.id) (u
     ∙ found_last us t (or_parts _ _ n).1
 
 pub both_free : (o : Option (List ℕ)) (b : SetParts) (q : PolicyParts) → o ≡ q.link → is_bound b q.template.id ≡ false
-    → CanJoinBothBy o b q → is_bound b (policy_id q) ≡ false
+    → CanInsertWithBodyBy o b q → is_bound b (policy_id q) ≡ false
 both_free None b q e n h = ap (λ o. is_bound b (unwrap_or o q.template.id)) (sym e) ∙ n
 both_free (Some l) b q e n h = ap (λ o. is_bound b (unwrap_or o q.template.id)) (sym e) ∙ h.0
 
 both_held : (o : Option (List ℕ)) (b : SetParts) (q : PolicyParts) → o ≡ q.link → is_bound b q.template.id ≡ false
-    → CanJoinBothBy o b q → IsHeldBy o (with_both b q.template q) q
+    → CanInsertWithBodyBy o b q → IsHeldBy o (with_body_and_policy b q.template q) q
 both_held None b q e n h = (h.0, h.1, found_last b.bodies q.template (no_body_at b q.template.id n))
 both_held (Some l) b q e n h =
     let own : policy_id q ≡ l = ap (λ o. unwrap_or o q.template.id) (sym e) in (
@@ -202,8 +202,8 @@ both_held (Some l) b q e n h =
     )
 
 -- Adding a policy together with its template preserves the invariant.
-pub both_join : (b : SetParts) (q : PolicyParts) → IsPolicySet b → CanJoinBoth b q
-    → IsPolicySet (with_both b q.template q)
+pub both_join : (b : SetParts) (q : PolicyParts) → IsPolicySet b → CanInsertWithBody b q
+    → IsPolicySet (with_body_and_policy b q.template q)
 both_join b q h c =
     let free = both_free q.link b q refl c.0 c.1 in
     let old = all_with_policy b q b.policies (no_body_at b (policy_id q) free) h.held in
@@ -211,7 +211,7 @@ both_join b q h c =
     record {
       bodies_once = once-push body_id b.bodies q.template h.bodies_once (no_body_at b q.template.id c.0);
       policies_once = once-push policy_id b.policies q h.policies_once (no_policy_at b (policy_id q) free);
-      held = held-push (with_both b q.template q) b.policies q all (both_held q.link b q refl c.0 c.1);
+      held = held-push (with_body_and_policy b q.template q) b.policies q all (both_held q.link b q refl c.0 c.1);
     }
 
 -- ---- Removals
@@ -251,8 +251,8 @@ all_without b i (p ∷ ps) n h =
     (all_without b i ps (or_parts _ _ n).1 h.1)
 
 -- Removing an id without links preserves the invariant.
-pub taken_out : (b : SetParts) (i : List ℕ) → IsPolicySet b → has_links b i ≡ false → IsPolicySet (without_id b i)
-taken_out b i h n = record {
+pub removed_all : (b : SetParts) (i : List ℕ) → IsPolicySet b → has_links b i ≡ false → IsPolicySet (without_id b i)
+removed_all b i h n = record {
   bodies_once = once-filter body_id (λ t. not (is_body_at i t)) b.bodies h.bodies_once;
   policies_once = once-filter policy_id (λ p. not (is_policy_at i p)) b.policies h.policies_once;
   held = all_without b i b.policies n h.held;
@@ -294,7 +294,7 @@ undone b p n =
     ∙ append-nil b.policies in
     λ i. record { bodies = ts i; policies = ps i }
 
-found_is : (o : Option PolicyParts) (t : Option BodyParts) (p : PolicyParts) → Some (policy_binding p) ≡ bound_among o t
+found_is : (o : Option PolicyParts) (t : Option BodyParts) (p : PolicyParts) → Some (policy_binding p) ≡ binding_from o t
     → is_some o ≡ true
 found_is (Some q) t p e = refl
 found_is None (Some u) p e = absurd (no_template_by p.link p u e)
@@ -314,12 +314,12 @@ bound_policy_unlinked b i p h e =
 
 -- An id that is bound to a policy is the id of a policy in the set.
 pub bound_policy : (o : Option PolicyParts) (t : Option BodyParts) (p : PolicyParts)
-    → Some (policy_binding p) ≡ bound_among o t → MatchOption o ⊥ (λ q. policy_binding q ≡ policy_binding p)
+    → Some (policy_binding p) ≡ binding_from o t → MatchOption o ⊥ (λ q. policy_binding q ≡ policy_binding p)
 bound_policy (Some q) t p e = cc
 bound_policy None (Some u) p e = absurd (no_template_by p.link p u e)
 bound_policy None None p e = absurd (cc)
 
-none_among : (o : Option PolicyParts) (t : Option BodyParts) → bound_among o t ≡ None → (o ≡ None) × (t ≡ None)
+none_among : (o : Option PolicyParts) (t : Option BodyParts) → binding_from o t ≡ None → (o ≡ None) × (t ≡ None)
 none_among (Some p) t e = absurd (cc)
 none_among None (Some u) e = absurd (cc)
 none_among None None e = (refl, refl)
@@ -336,7 +336,7 @@ none_bound b i e =
 -- A link whose template is missing can be added together with it.
 pub can_join_both : (o : Option (List ℕ)) (b : SetParts) (p : PolicyParts) → o ≡ p.link → (o ≡ None → ⊥)
     → is_bound b (policy_id p) ≡ false → same_text (policy_id p) p.template.id ≡ false →
-    FitsSlots (body_slots p.template) p.env → CanJoinBothBy o b p
+    FitsSlots (body_slots p.template) p.env → CanInsertWithBodyBy o b p
 can_join_both None b p e n f s t = absurd (n refl)
 can_join_both (Some l) b p e n f s t =
     let own : policy_id p ≡ l = ap (λ o. unwrap_or o p.template.id) (sym e) in
@@ -345,7 +345,7 @@ can_join_both (Some l) b p e n f s t =
 -- A link of an existing equal template can be added.
 pub can_join : (o : Option (List ℕ)) (b : SetParts) (p : PolicyParts) (u : BodyParts) → o ≡ p.link → (o ≡ None → ⊥)
     → is_bound b (policy_id p) ≡ false → bound_at b p.template.id ≡ Some (Template u) →
-    same_body u p.template ≡ true → FitsSlots (body_slots p.template) p.env → CanJoinBy o b p
+    same_body u p.template ≡ true → FitsSlots (body_slots p.template) p.env → CanInsertBy o b p
 can_join None b p u e n f t s x = absurd (n refl)
 can_join (Some l) b p u e n f t s x =
     let own : policy_id p ≡ l = ap (λ o. unwrap_or o p.template.id) (sym e) in
@@ -357,14 +357,14 @@ other_id i j false e n = refl
 
 alone_by : (o : Option (List ℕ)) (p : PolicyParts) → (o ≡ Some p.template.id → ⊥)
     → (o ≡ None → p ≡ static_policy p.template) → (o ≡ None → body_slots p.template ≡ []) →
-    FitsSlots (body_slots p.template) p.env → CanJoinBothBy o empty_set p
+    FitsSlots (body_slots p.template) p.env → CanInsertWithBodyBy o empty_set p
 alone_by None p own whole slots total = (whole refl, slots refl)
 alone_by (Some l) p own whole slots total = (refl, other_id l p.template.id (same_text l p.template.id) refl own, total)
 
 -- A policy that is not a link with its template's id can be added to the empty set.
-pub alone : (p : PolicyParts) → HasOwnId p → (p.link ≡ None → p ≡ static_policy p.template)
+pub alone : (p : PolicyParts) → HasDistinctId p → (p.link ≡ None → p ≡ static_policy p.template)
     → (p.link ≡ None → body_slots p.template ≡ []) → BindsExactly (body_slots p.template) p.env →
-    wrong_action p.env ≡ None → CanJoinBoth empty_set p
+    wrong_action p.env ≡ None → CanInsertWithBody empty_set p
 alone p own whole slots total action = (
   refl,
   alone_by p.link p own whole slots (record {

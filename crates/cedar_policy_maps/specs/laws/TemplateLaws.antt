@@ -13,7 +13,7 @@ use Rattle.cedar_body.specs.Bodies.{BodyParts}
 use Rattle.cedar_policy.specs.Policies.{PolicyParts, policy_id}
 use Rattle.cedar_policy_maps.specs.PolicySets.{is_body_at, is_policy_at}
 use Rattle.cedar_policy_maps.specs.Maps.{ids_by_body, templates_in}
-use Rattle.cedar_policy_maps.specs.TakenIn.{HaveIdsFreeOf}
+use Rattle.cedar_policy_maps.specs.BulkInsert.{HaveIdsFreeOf}
 use Rattle.cedar_policy_maps.specs.laws.OnceLaws.{find-filter, find-unless}
 
 neither : (a c : Bool) → a ≡ false → c ≡ false → (a || c) ≡ false

@@ -13,7 +13,7 @@ use Rattle.cedar_body.specs.BodyEquality.{same_body}
 use Rattle.cedar_binding.specs.Bindings.{EnvParts}
 use Rattle.cedar_policy.specs.Policies.{PolicyParts, policy_id, static_policy}
 use Rattle.cedar_policy.specs.PolicyEquality.{same_policy}
-use Rattle.cedar_policy_maps.specs.PolicySets.{SetParts, Binding, Static, Template, Link, bound_at, bound_among}
+use Rattle.cedar_policy_maps.specs.PolicySets.{SetParts, Binding, Static, Template, Link, bound_at, binding_from}
 use Rattle.cedar_policy_maps.specs.PolicySets.{binding_by}
 use Rattle.cedar_policy_maps.specs.PolicySets.{is_bound, is_body_at, is_policy_at, IsHeld, IsHeldBy, AreHeld}
 use Rattle.cedar_policy_maps.specs.PolicySets.{IsPolicySet}
@@ -69,7 +69,7 @@ shape_held (Some k) b i x p t l s r h e =
     ))
 
 pub shape_by : (b : SetParts) (i : List ℕ) (x : Binding) (p : Option PolicyParts) (t : Option BodyParts) → IsPolicySet b
-    → find (is_policy_at i) b.policies ≡ p → find (is_body_at i) b.bodies ≡ t → bound_among p t ≡ Some x → Shape p t x
+    → find (is_policy_at i) b.policies ≡ p → find (is_body_at i) b.bodies ≡ t → binding_from p t ≡ Some x → Shape p t x
 shape_by b i x (Some p) t h f r e =
     shape_held p.link b i x p t refl ((same_text_decides i (policy_id p)).0
     (found_passes (is_policy_at i) b.policies p f)) r (policy_held b i b.policies p f h.held) e
@@ -115,7 +115,7 @@ alike p q t u x y (inr (inr a)) (inr (inl b)) = at_ends a.1 b.3 a.2 b.4 a.3 b.5 
 alike p q t u x y (inr (inr a)) (inr (inr b)) = at_ends a.1 b.1 a.2 b.2 a.3 b.3 refl
 
 -- An id that is not in use has no policy and no body.
-none_among : (p : Option PolicyParts) (t : Option BodyParts) → bound_among p t ≡ None → (p ≡ None) × (t ≡ None)
+none_among : (p : Option PolicyParts) (t : Option BodyParts) → binding_from p t ≡ None → (p ≡ None) × (t ≡ None)
 none_among (Some p) t e = absurd (cc)
 none_among None (Some u) e = absurd (cc)
 none_among None None e = (refl, refl)

@@ -9,7 +9,7 @@ use Rattle.cedar_body.specs.Bodies.{BodyParts}
 use Rattle.cedar_body.specs.BodyEquality.{same_body}
 use Rattle.cedar_policy.specs.Policies.{PolicyParts, policy_id}
 use Rattle.cedar_policy.specs.PolicyEquality.{same_policy}
-use Rattle.cedar_policy_maps.specs.PolicySets.{SetParts, Binding, Template, bound_among, policy_binding, is_body_at}
+use Rattle.cedar_policy_maps.specs.PolicySets.{SetParts, Binding, Template, binding_from, policy_binding, is_body_at}
 use Rattle.cedar_policy_maps.specs.PolicySets.{is_policy_at, IsPolicySet}
 use Rattle.cedar_policy_merge.specs.Merge.{has_body, has_policy, is_same_at}
 use Rattle.cedar_policy_merge.specs.laws.ConflictLaws.{Shape, shape_by, twice, whole, same_in_orders}
@@ -76,7 +76,7 @@ binding_with : Option PolicyParts → BodyParts → Binding
 binding_with (Some p) t = policy_binding p
 binding_with None t = Template t
 
-bound_with : (p : Option PolicyParts) (t : BodyParts) → bound_among p (Some t) ≡ Some (binding_with p t)
+bound_with : (p : Option PolicyParts) (t : BodyParts) → binding_from p (Some t) ≡ Some (binding_with p t)
 unfolding binding_with
 bound_with (Some p) t = refl
 bound_with None t = refl

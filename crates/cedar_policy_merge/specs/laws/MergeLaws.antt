@@ -13,10 +13,10 @@ use Rattle.cedar_body.specs.Bodies.{BodyParts}
 use Rattle.cedar_body.specs.laws.BodyLaws.{same_body_decides}
 use Rattle.cedar_policy.specs.Policies.{PolicyParts, policy_id}
 use Rattle.cedar_policy_maps.specs.PolicySets.{SetParts, is_bound, is_body_at, is_policy_at, AreOnce, IsHeldBy, IsHeld}
-use Rattle.cedar_policy_maps.specs.PolicySets.{AreHeld, IsPolicySet, Binding, Static, Template, Link, bound_at, bound_among}
+use Rattle.cedar_policy_maps.specs.PolicySets.{AreHeld, IsPolicySet, Binding, Static, Template, Link, bound_at, binding_from}
 use Rattle.cedar_policy_merge.specs.Merge.{has_body, has_policy, same_binding, is_same_at, renamed_body, renamed_policy}
-use Rattle.cedar_policy_merge.specs.Merge.{joined_bodies}
-use Rattle.cedar_policy_merge.specs.Merge.{joined_policies, merged}
+use Rattle.cedar_policy_merge.specs.Merge.{merged_bodies}
+use Rattle.cedar_policy_merge.specs.Merge.{merged_policies, merged}
 use Rattle.cedar_policy_maps.specs.laws.SetLaws.{template_at}
 use Rattle.cedar_policy_maps.specs.laws.OnceLaws.{is_at, once-filter, none_is, find-unless}
 
@@ -214,7 +214,7 @@ apart_from h id ys (x ∷ xs) a = (none_bound_left h id (id x) a.0 ys, apart_fro
 pub bodies_once : (h o : SetParts) (c : List ℕ → List ℕ) → Renames h o c → IsPolicySet h → IsPolicySet o
     → AreOnce (λ (t : BodyParts). t.id) (merged h o c).bodies
 bodies_once h o c r x y =
-    once-append (λ (t : BodyParts). t.id) h.bodies (joined_bodies h c o.bodies) x.bodies_once
+    once-append (λ (t : BodyParts). t.id) h.bodies (merged_bodies h c o.bodies) x.bodies_once
     (once-filter (λ (t : BodyParts). t.id) (λ t. not (is_bound h t.id)) (map (renamed_body c) o.bodies)
     (once_renamed h o c (λ (t : BodyParts). t.id) (renamed_body c) r (body_new c) o.bodies
     (bodies_bound o) y.bodies_once))
@@ -223,7 +223,7 @@ bodies_once h o c r x y =
 pub policies_once : (h o : SetParts) (c : List ℕ → List ℕ) → Renames h o c → IsPolicySet h → IsPolicySet o
     → AreOnce policy_id (merged h o c).policies
 policies_once h o c r x y =
-    once-append policy_id h.policies (joined_policies h c o.policies) x.policies_once
+    once-append policy_id h.policies (merged_policies h c o.policies) x.policies_once
     (once-filter policy_id (λ p. not (is_bound h (policy_id p))) (map (renamed_policy c) o.policies)
     (once_renamed h o c policy_id (renamed_policy c) r (policy_new c) o.policies (policies_bound o) y.policies_once))
     (apart_from h policy_id (map (renamed_policy c) o.policies) h.policies (policies_bound h))
@@ -235,13 +235,13 @@ no_more a b p q = cc
 no_body_merged : (h o : SetParts) (c : List ℕ → List ℕ) (i : List ℕ) → is_bound h i ≡ true → has_body h i ≡ false
     → has_body (merged h o c) i ≡ false
 no_body_merged h o c i b n =
-    list_any-append (is_body_at i) h.bodies (joined_bodies h c o.bodies)
+    list_any-append (is_body_at i) h.bodies (merged_bodies h c o.bodies)
     ∙ no_more _ _ n (none_bound_left h (λ (t : BodyParts). t.id) i b (map (renamed_body c) o.bodies))
 
 no_policy_merged : (h o : SetParts) (c : List ℕ → List ℕ) (i : List ℕ) → is_bound h i ≡ true → has_policy h i ≡ false
     → has_policy (merged h o c) i ≡ false
 no_policy_merged h o c i b n =
-    list_any-append (is_policy_at i) h.policies (joined_policies h c o.policies)
+    list_any-append (is_policy_at i) h.policies (merged_policies h c o.policies)
     ∙ no_more _ _ n (none_bound_left h policy_id i b (map (renamed_policy c) o.policies))
 
 find_here : {X : Type 0} (t : X → Bool) (xs ys : List X) (x : X) → find t xs ≡ Some x → find t (xs ++ ys) ≡ Some x
@@ -259,11 +259,11 @@ held_here None h o c p b k = (
   k.0,
   k.1,
   find_here (is_body_at p.template.id) h.bodies
-      (joined_bodies h c o.bodies) p.template k.2,
+      (merged_bodies h c o.bodies) p.template k.2,
 )
 held_here (Some l) h o c p b k = (
   no_body_merged h o c l b k.0,
-  find_here (is_body_at p.template.id) h.bodies (joined_bodies h c o.bodies) p.template k.1,
+  find_here (is_body_at p.template.id) h.bodies (merged_bodies h c o.bodies) p.template k.1,
   no_policy_merged h o c p.template.id (body_bound h p.template.id p.template k.1) k.2,
   k.3,
 )
@@ -281,7 +281,7 @@ not_bound h i n = or_parts _ _ n
 no_policy_joined : (h o : SetParts) (c : List ℕ → List ℕ) (i : List ℕ) → Renames h o c → is_bound o i ≡ true
     → is_bound h (c i) ≡ false → has_policy o i ≡ false → has_policy (merged h o c) (c i) ≡ false
 no_policy_joined h o c i r b n k =
-    list_any-append (is_policy_at (c i)) h.policies (joined_policies h c o.policies)
+    list_any-append (is_policy_at (c i)) h.policies (merged_policies h c o.policies)
     ∙ no_more _ _ (not_bound h (c i) n).0
     (any_kept (λ p. not (is_bound h (policy_id p))) (is_policy_at (c i)) (map (renamed_policy c) o.policies)
     (any_renamed h o c policy_id (renamed_policy c) r (policy_new c) i b o.policies (policies_bound o) ∙ k))
@@ -289,7 +289,7 @@ no_policy_joined h o c i r b n k =
 no_body_joined : (h o : SetParts) (c : List ℕ → List ℕ) (i : List ℕ) → Renames h o c → is_bound o i ≡ true
     → is_bound h (c i) ≡ false → has_body o i ≡ false → has_body (merged h o c) (c i) ≡ false
 no_body_joined h o c i r b n k =
-    list_any-append (is_body_at (c i)) h.bodies (joined_bodies h c o.bodies)
+    list_any-append (is_body_at (c i)) h.bodies (merged_bodies h c o.bodies)
     ∙ no_more _ _ (not_bound h (c i) n).1
     (any_kept (λ t. not (is_bound h t.id)) (is_body_at (c i)) (map (renamed_body c) o.bodies)
     (any_renamed h o c (λ (t : BodyParts). t.id) (renamed_body c) r (body_new c) i b o.bodies (bodies_bound o) ∙ k))
@@ -299,7 +299,7 @@ body_joined : (h o : SetParts) (c : List ℕ → List ℕ) (i : List ℕ) (t : B
     → is_bound h (c i) ≡ false → find (is_body_at i) o.bodies ≡ Some t →
     find (is_body_at (c i)) (merged h o c).bodies ≡ Some (renamed_body c t)
 body_joined h o c i t r e n f =
-    find_after (is_body_at (c i)) h.bodies (joined_bodies h c o.bodies) (not_bound h (c i) n).1
+    find_after (is_body_at (c i)) h.bodies (merged_bodies h c o.bodies) (not_bound h (c i) n).1
     ∙ find_renamed h o c (λ (t : BodyParts). t.id) (renamed_body c) (λ t. not (is_bound h t.id)) r (body_new c) i
     (body_bound o i t f) t
     (ap (λ j. not (is_bound h (c j))) (sym e) ∙ ap not n) o.bodies (bodies_bound o) f
@@ -317,7 +317,7 @@ template_here : (h o : SetParts) (i : List ℕ) (t : BodyParts) → is_same_at h
     → (find (is_body_at i) h.bodies ≡ Some t) × (has_policy h i ≡ false)
 template_here h o i t s f n =
     let there : bound_at o i ≡ Some (Template t) =
-    λ j. bound_among (find-unless (is_policy_at i) o.policies n j) (f j) in
+    λ j. binding_from (find-unless (is_policy_at i) o.policies n j) (f j) in
     let here = template_at h i t (same_template (bound_at h i) t (ap (option_eq same_binding (bound_at h i)) (sym there)
     ∙ s)) in
     (here.1, here.0)
@@ -340,7 +340,7 @@ template_joins_by true h o c t r f n e =
     let b : is_bound h t.id ≡ true = ap (is_bound h) (sym k.0) ∙ e in
     let alike = template_here h o t.id t k.1 f n in
     let here : find (is_body_at t.id) (merged h o c).bodies ≡ Some t =
-    find_here (is_body_at t.id) h.bodies (joined_bodies h c o.bodies) t alike.0 in (
+    find_here (is_body_at t.id) h.bodies (merged_bodies h c o.bodies) t alike.0 in (
       ap (λ i. find (is_body_at i) (merged h o c).bodies) k.0 ∙ here
           ∙ ap (λ i. Some (record {
             id = i;
@@ -406,7 +406,7 @@ pub merged_is_set : (h o : SetParts) (c : List ℕ → List ℕ) → Renames h o
 merged_is_set h o c r x y = record {
   bodies_once = bodies_once h o c r x y;
   policies_once = policies_once h o c r x y;
-  held = held-append (merged h o c) h.policies (joined_policies h c o.policies)
+  held = held-append (merged h o c) h.policies (merged_policies h c o.policies)
       (all_held_here h o c h.policies (policies_bound h) x.held)
       (all_held_joined h o c o.policies r (policies_bound o) y.held);
 }

@@ -14,7 +14,7 @@ use Rattle.cedar_body.specs.Bodies.{BodyParts, with_id}
 use Rattle.cedar_policy.specs.Policies.{PolicyParts, policy_id, renamed, with_policy_id}
 use Rattle.cedar_policy_maps.specs.PolicySets.{SetParts, AreOnce, is_bound}
 use Rattle.cedar_policy_merge.specs.Merge.{has_body, has_policy, body_ids, policy_ids, conflicting, conflicts}
-use Rattle.cedar_policy_merge.specs.Merge.{renamed_body, renamed_policy, joined_bodies, joined_policies}
+use Rattle.cedar_policy_merge.specs.Merge.{renamed_body, renamed_policy, merged_bodies, merged_policies}
 use Rattle.cedar_policy_maps.specs.Views.{bodies_of}
 use Rattle.cedar_policy_maps.specs.laws.OnceLaws.{once-push}
 use Rattle.cedar_policy_maps.specs.laws.Walks.{bodies_more, policies_more}
@@ -52,13 +52,13 @@ once_gathered seen (x ∷ xs) h =
 
 -- The new bodies and policies of a list with one more element.
 pub joined_body_more : (h : SetParts) (c : List ℕ → List ℕ) (xs : List BodyParts) (x : BodyParts)
-    → joined_bodies h c (xs ++ x ∷ []) ≡ joined_bodies h c xs ++ joined_bodies h c (x ∷ [])
+    → merged_bodies h c (xs ++ x ∷ []) ≡ merged_bodies h c xs ++ merged_bodies h c (x ∷ [])
 joined_body_more h c xs x =
     ap (filter (λ (t : BodyParts). not (is_bound h t.id))) (map-append (renamed_body c) xs (x ∷ []))
     ∙ filter-append (λ (t : BodyParts). not (is_bound h t.id)) (map (renamed_body c) xs) (map (renamed_body c) (x ∷ []))
 
 pub joined_policy_more : (h : SetParts) (c : List ℕ → List ℕ) (xs : List PolicyParts) (x : PolicyParts)
-    → joined_policies h c (xs ++ x ∷ []) ≡ joined_policies h c xs ++ joined_policies h c (x ∷ [])
+    → merged_policies h c (xs ++ x ∷ []) ≡ merged_policies h c xs ++ merged_policies h c (x ∷ [])
 joined_policy_more h c xs x =
     ap (filter (λ p. not (is_bound h (policy_id p)))) (map-append (renamed_policy c) xs (x ∷ []))
     ∙ filter-append (λ p. not (is_bound h (policy_id p))) (map (renamed_policy c) xs) (map (renamed_policy c) (x ∷ []))
@@ -113,23 +113,23 @@ same_id_kept p = own_id p.link p refl
 -- The step of one body in the list of new bodies.
 pub joined_body_step : (h : SetParts) (c : List ℕ → List ℕ) (ts : List (Rc BodyParts Global)) (k : ℕ)
     (t : Rc BodyParts Global) (old now new : List BodyParts) → k < length ts → t ≡ get_or ts k t →
-    now ≡ old ++ joined_bodies h c (bodies_of (take k ts)) → new ≡ now ++ joined_bodies h c (t.value ∷ [])
-    → new ≡ old ++ joined_bodies h c (bodies_of (take (k + 1) ts))
+    now ≡ old ++ merged_bodies h c (bodies_of (take k ts)) → new ≡ now ++ merged_bodies h c (t.value ∷ [])
+    → new ≡ old ++ merged_bodies h c (bodies_of (take (k + 1) ts))
 joined_body_step h c ts k t old now new l e n m =
-    m ∙ ap (λ x. x ++ joined_bodies h c (t.value ∷ [])) n
-    ∙ append_assoc old (joined_bodies h c (bodies_of (take k ts))) (joined_bodies h c (t.value ∷ []))
+    m ∙ ap (λ x. x ++ merged_bodies h c (t.value ∷ [])) n
+    ∙ append_assoc old (merged_bodies h c (bodies_of (take k ts))) (merged_bodies h c (t.value ∷ []))
     ∙ ap (λ x. old ++ x) (sym (joined_body_more h c (bodies_of (take k ts)) t.value))
-    ∙ ap (λ x. old ++ joined_bodies h c x) (sym (bodies_more ts k t l e))
+    ∙ ap (λ x. old ++ merged_bodies h c x) (sym (bodies_more ts k t l e))
 
 pub joined_policy_step : (h : SetParts) (c : List ℕ → List ℕ) (ps : List PolicyParts) (k : ℕ) (p : PolicyParts)
     (old now new : List PolicyParts) → k < length ps → p ≡ get_or ps k p →
-    now ≡ old ++ joined_policies h c (take k ps) → new ≡ now ++ joined_policies h c (p ∷ [])
-    → new ≡ old ++ joined_policies h c (take (k + 1) ps)
+    now ≡ old ++ merged_policies h c (take k ps) → new ≡ now ++ merged_policies h c (p ∷ [])
+    → new ≡ old ++ merged_policies h c (take (k + 1) ps)
 joined_policy_step h c ps k p old now new l e n m =
-    m ∙ ap (λ x. x ++ joined_policies h c (p ∷ [])) n ∙ append_assoc old (joined_policies h c (take k ps))
-    (joined_policies h c (p ∷ []))
+    m ∙ ap (λ x. x ++ merged_policies h c (p ∷ [])) n ∙ append_assoc old (merged_policies h c (take k ps))
+    (merged_policies h c (p ∷ []))
     ∙ ap (λ x. old ++ x) (sym (joined_policy_more h c (take k ps) p))
-    ∙ ap (λ x. old ++ joined_policies h c x) (sym (policies_more ps k p l e))
+    ∙ ap (λ x. old ++ merged_policies h c x) (sym (policies_more ps k p l e))
 
 -- The ids in conflict are different.
 pub once_conflicts : (h o : SetParts) → AreOnce (λ (i : List ℕ). i) (conflicts h o)

@@ -15,7 +15,7 @@ use Rattle.cedar_policy_maps.specs.Views.{bodies_of}
 use Rattle.cedar_policy_merge.specs.laws.GatherSteps.{body_found}
 use Rattle.cedar_policy_maps.specs.laws.OnceLaws.{once-filter}
 use Rattle.cedar_policy_maps.specs.laws.TemplateLaws.{none-filter}
-use Rattle.cedar_policy_merge.specs.Merge.{renamed_body, renamed_policy, joined_bodies}
+use Rattle.cedar_policy_merge.specs.Merge.{renamed_body, renamed_policy, merged_bodies}
 use Rattle.cedar_policy_merge.specs.laws.MergeLaws.{Renames, AreAll, bodies_bound, body_bound, body_new, find_renamed}
 use Rattle.cedar_policy_merge.specs.laws.MergeLaws.{found_there, once_renamed}
 
@@ -49,19 +49,19 @@ made_on (Some q) i js p t l f e = (no_link p.link l, t, f, e)
 
 -- No new body has an id that this set uses.
 none_joined : (h o : SetParts) (c : List ℕ → List ℕ) (i : List ℕ) (t : BodyParts) → is_bound h i ≡ true
-    → find (is_body_at i) (joined_bodies h c o.bodies) ≡ Some t → ⊥
+    → find (is_body_at i) (merged_bodies h c o.bodies) ≡ Some t → ⊥
 none_joined h o c i t b f =
     false≢true
     (sym (none-filter (λ (t : BodyParts). not (is_bound h t.id)) (is_body_at i) (map (renamed_body c) o.bodies)
     (λ t e. ap (λ k. not (is_bound h k)) (sym ((same_text_decides i t.id).0 e)) ∙ ap not b))
-    ∙ found_there (is_body_at i) (joined_bodies h c o.bodies) t f)
+    ∙ found_there (is_body_at i) (merged_bodies h c o.bodies) t f)
 
 this : {t u : BodyParts} → Some t ≡ Some u → t ≡ u
 this e = cc
 
 on_joined_by : (l : Option (List ℕ)) (v : Bool) (h o : SetParts) (c : List ℕ → List ℕ) (p : PolicyParts) (t : BodyParts)
     → Renames h o c → IsHeldBy l o p → l ≡ None → is_bound h (c p.template.id) ≡ v
-    → find (is_body_at (c p.template.id)) (joined_bodies h c o.bodies) ≡ Some t → static_policy t ≡ renamed_policy c p
+    → find (is_body_at (c p.template.id)) (merged_bodies h c o.bodies) ≡ Some t → static_policy t ≡ renamed_policy c p
 on_joined_by (Some l) v h o c p t r k n b f = absurd (cc)
 on_joined_by None true h o c p t r k n b f = absurd (none_joined h o c (c p.template.id) t b f)
 on_joined_by None false h o c p t r k n b f =
@@ -70,19 +70,19 @@ on_joined_by None false h o c p t r k n b f =
     p.template.id (body_bound o p.template.id p.template k.2) p.template (ap not b) o.bodies (bodies_bound o) k.2))
     ∙ ap (renamed_policy c) (sym k.0)
 
-on_joined : (h o : SetParts) (c : List ℕ → List ℕ) (p : PolicyParts) → Renames h o c → IsHeldBy p.link o p
-    → IsOnJoined (joined_bodies h c o.bodies) c p
-on_joined h o c p r k n t f = on_joined_by p.link (is_bound h (c p.template.id)) h o c p t r k n refl f
+on_new_body : (h o : SetParts) (c : List ℕ → List ℕ) (p : PolicyParts) → Renames h o c → IsHeldBy p.link o p
+    → IsOnJoined (merged_bodies h c o.bodies) c p
+on_new_body h o c p r k n t f = on_joined_by p.link (is_bound h (c p.template.id)) h o c p t r k n refl f
 
 -- Each policy of the other set satisfies `IsOnJoined`.
 pub all_on_joined : (h o : SetParts) (c : List ℕ → List ℕ) (ps : List PolicyParts) → Renames h o c → AreHeld o ps
-    → AreAll (IsOnJoined (joined_bodies h c o.bodies) c) ps
+    → AreAll (IsOnJoined (merged_bodies h c o.bodies) c) ps
 all_on_joined h o c [] r k = tt
-all_on_joined h o c (p ∷ ps) r k = (on_joined h o c p r k.0, all_on_joined h o c ps r k.1)
+all_on_joined h o c (p ∷ ps) r k = (on_new_body h o c p r k.0, all_on_joined h o c ps r k.1)
 
 -- The new bodies have different ids.
 pub once_joined : (h o : SetParts) (c : List ℕ → List ℕ) → Renames h o c → IsPolicySet o
-    → AreOnce (λ (t : BodyParts). t.id) (joined_bodies h c o.bodies)
+    → AreOnce (λ (t : BodyParts). t.id) (merged_bodies h c o.bodies)
 once_joined h o c r y =
     once-filter (λ (t : BodyParts). t.id) (λ t. not (is_bound h t.id)) (map (renamed_body c) o.bodies)
     (once_renamed h o c (λ (t : BodyParts). t.id) (renamed_body c) r (body_new c) o.bodies (bodies_bound o)

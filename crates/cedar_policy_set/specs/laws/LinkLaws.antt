@@ -10,13 +10,13 @@ use Rattle.cedar_terms.specs.declared.slot.SlotId.{SlotId}
 use Rattle.cedar_body.specs.Bodies.{BodyParts, body_slots}
 use Rattle.cedar_binding.specs.Bindings.{EnvParts, unbound, extra, wrong_action}
 use Rattle.cedar_policy.specs.Policies.{PolicyParts}
-use Rattle.cedar_policy_maps.specs.PolicySets.{SetParts, Binding, Static, Template, Link, bound_at, bound_among}
+use Rattle.cedar_policy_maps.specs.PolicySets.{SetParts, Binding, Static, Template, Link, bound_at, binding_from}
 use Rattle.cedar_policy_maps.specs.PolicySets.{is_bound}
 use Rattle.cedar_policy_maps.specs.PolicySets.{is_body_at, is_policy_at, with_policy, without_id}
 use Rattle.cedar_policy_set.specs.Steps.{Refusal, id_conflict, fitting, link_onto, link_at, link_step, unlinked_at}
 use Rattle.cedar_policy_set.specs.Steps.{unlink_step, UnlinksTo}
 use Rattle.cedar_binding.specs.declared.err.LinkingError.{LinkingError}
-use Rattle.cedar_policy_set.specs.Refusals.{Steps, told_by_linking}
+use Rattle.cedar_policy_set.specs.Refusals.{Steps, linking_error_of}
 use Rattle.cedar_policy_maps.specs.laws.SetLaws.{undone}
 
 abbrev link_of : BodyParts → List ℕ → EnvParts → PolicyParts
@@ -68,7 +68,7 @@ unlinked b t l e n =
     let f = found_last (is_policy_at l) b.policies (link_of t l e)
     (or_parts (list_any (is_policy_at l) b.policies) (list_any (is_body_at l) b.bodies) n).0
     (same_text_equiv.refl l) in
-    ap (λ o. unlinked_at (bound_among o (find (is_body_at l) b.bodies)) l) f
+    ap (λ o. unlinked_at (binding_from o (find (is_body_at l) b.bodies)) l) f
 
 -- Unlinking a new link restores the former policy set.
 pub link_undone : (b c : SetParts) (i l : List ℕ) (e : EnvParts) → link_step b i l e ≡ Ok c → UnlinksTo b i l e c
@@ -92,7 +92,7 @@ link_there b c i l e h =
 
 -- After linking a template of the set there is a policy.
 pub link_of_there : {A : Type 0} (r : Result A LinkingError) (b c : SetParts) (i l : List ℕ) (e : EnvParts) (t :
-    BodyParts) → bound_at b i ≡ Some (Template t) → Steps told_by_linking r b c (link_onto t b l e) →
+    BodyParts) → bound_at b i ≡ Some (Template t) → Steps linking_error_of r b c (link_onto t b l e) →
     OnOk r (0 < length c.policies)
 link_of_there (Ok a) b c i l e t q h = link_there b c i l e (ap (λ x. link_at x b i l e) q ∙ h)
 link_of_there (Err d) b c i l e t q h = tt

@@ -6,7 +6,7 @@ use Rattle.cedar_policy_set_errors.specs.declared.err.PolicySetError.{PolicySetE
 use Rattle.cedar_policy.specs.Policies.{PolicyParts, policy_id}
 use Rattle.cedar_policy_maps.specs.PolicySets.{SetParts, Binding, Static, Template, Link, bound_at, is_bound}
 use Rattle.cedar_policy_maps.specs.PolicySets.{template_bound, with_policy}
-use Rattle.cedar_policy_set.specs.Refusals.{IsRefusal, told_by_set}
+use Rattle.cedar_policy_set.specs.Refusals.{IsRefusal, set_error_of}
 use Rattle.cedar_policy_set.specs.Steps.{Refusal, occupied, id_conflict}
 
 -- Whether the id belongs to a template, and `v` states whether that template is equal to `t`.
@@ -33,7 +33,7 @@ no_template_told (Some (Link l t v)) e = tt
 -- Whether an error reports that an id is in use. It then fits every step that fails for ids in use.
 abbrev pub TellsBound : SetParts → List ℕ → PolicySetError → Type 0
 TellsBound b i e =
-    (free : Result SetParts Refusal) → IsRefusal (told_by_set e) (if is_bound b i then Err (occupied i) else free)
+    (free : Result SetParts Refusal) → IsRefusal (set_error_of e) (if is_bound b i then Err (occupied i) else free)
 
 -- The step of appending a link whose template is in the set. The link's id has to be free.
 abbrev pub link_put : SetParts → PolicyParts → Result SetParts Refusal

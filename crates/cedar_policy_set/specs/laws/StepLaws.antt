@@ -15,7 +15,7 @@ use Rattle.cedar_binding.specs.laws.Fits.{fits, nothing_left_over}
 use Rattle.cedar_terms.specs.declared.slot.SlotId.{SlotId}
 use Rattle.cedar_policy.specs.Policies.{PolicyParts, policy_id}
 use Rattle.cedar_policy_maps.specs.PolicySets.{SetParts, Binding, Static, Template, Link, bound_at, is_body_at}
-use Rattle.cedar_policy_set.specs.Refusals.{IsRefusal, told_by_linking}
+use Rattle.cedar_policy_set.specs.Refusals.{IsRefusal, linking_error_of}
 use Rattle.cedar_policy_set.specs.Steps.{Refusal, arity, no_such_template, add_by, add_link_at, fitting, link_at}
 use Rattle.cedar_policy_set.specs.Steps.{linked_at, get_linked_step}
 use Rattle.cedar_policy_maps.specs.Lists.{ids_in}
@@ -59,7 +59,7 @@ unfit (u ∷ us) (x ∷ xs) o r h = refl
 
 -- If the bindings do not fit, the step fails as the error of the check reports.
 pub unfit_is_refused : (d : LinkingError) (slots : List SlotId) (e : EnvParts) (r : Result SetParts Refusal)
-    → IsUnfit d slots e → IsRefusal (told_by_linking d) (fitting (unbound slots e) (extra slots e) (wrong_action e) r)
+    → IsUnfit d slots e → IsRefusal (linking_error_of d) (fitting (unbound slots e) (extra slots e) (wrong_action e) r)
 unfit_is_refused (links.ArityError u x) slots e r h =
     unfit (unbound slots e) (extra slots e) (wrong_action e) r (λ p q. h.0 (fits slots e p q))
     ∙ (λ i. Err (arity (sym h.1 i) (sym h.2 i)))
@@ -74,7 +74,7 @@ none_wrong u o p q = cc
 
 -- If the bindings fit, the check can only fail because of an allocation failure.
 pub fit_is_not_refused : (d : LinkingError) (slots : List SlotId) (e : EnvParts) (step : Result SetParts Refusal)
-    → FitsSlots slots e → IsUnfit d slots e → IsRefusal (told_by_linking d) step
+    → FitsSlots slots e → IsUnfit d slots e → IsRefusal (linking_error_of d) step
 fit_is_not_refused (links.ArityError u x) slots e step f h = absurd (h.0 f.exactly)
 fit_is_not_refused (links.NotAnAction u) slots e step f h =
     absurd (none_wrong (uid_parts u) (wrong_action e) f.action h.1)

@@ -9,11 +9,11 @@ use Rattle.cedar_graph.specs.Graph.{Reach}
 use Rattle.cedar_ids.specs.UidOf.{same_uid}
 use Rattle.cedar_ids.specs.laws.UidOfLaws.{same_uid_decides, same_uid_equiv}
 use Rattle.cedar_ids.specs.declared.entity.EntityUID.{EntityUID}
-use Rattle.cedar_entity_maps.specs.World.{World, Parts, graph, is_parent_in}
+use Rattle.cedar_entity_maps.specs.InputStore.{InputStore, Parts, graph, is_parent_in}
 use Rattle.cedar_uid_sets.specs.laws.Sets.{one_equal}
 use Rattle.cedar_entity_maps.specs.Modes.{ancestry}
-use Rattle.cedar_entity_maps.specs.Plain.{Held}
-use Rattle.cedar_entities.specs.laws.Settled.{reached_list, reached_members}
+use Rattle.cedar_entity_maps.specs.Plain.{EntityMap}
+use Rattle.cedar_entities.specs.laws.Finalized.{reached_list, reached_members}
 use Rattle.cedar_slice.specs.Slices.{is_wanted, part_of, IsWanted, IsSliceOf}
 
 any_in : (test : EntityUID → Bool) (U : List EntityUID) (u : EntityUID) → is_member same_uid U u ≡ true → test u ≡ true
@@ -43,13 +43,13 @@ found_in test (x ∷ xs) h = elim (or_cases (test x) (list_any test xs) h) [
 ]
 
 -- A requested uid is selected.
-pub asked_is_wanted : (D : Held) (U : List EntityUID) (q : EntityUID) → is_member same_uid U q ≡ true
+pub asked_is_wanted : (D : EntityMap) (U : List EntityUID) (q : EntityUID) → is_member same_uid U q ≡ true
     → is_wanted D U q ≡ true
 asked_is_wanted D U q m = any_in (λ u. same_uid u q || ancestry D u q) U q m
     (or_left (same_uid q q) (ancestry D q q) (same_uid_equiv.refl q))
 
 -- A test that decides reachability decides the selection of uids.
-pub wanted_by : (W : World) (G : EntityUID → EntityUID → Bool)
+pub wanted_by : (W : InputStore) (G : EntityUID → EntityUID → Bool)
     → ((a b : EntityUID) → (G a b ≡ true) ↔ Reach (graph W) a b)
     → (U : List EntityUID) (q : EntityUID) → (list_any (λ u. same_uid u q || G u q) U ≡ true) ↔ IsWanted W U q
 wanted_by W G says U q = (
@@ -71,7 +71,7 @@ same_bool false true f g = g refl
 same_bool false false f g = refl
 
 -- Two slices of an input store at the same uids are equal.
-pub one_slice : (W : World) (U : List EntityUID) (V X : World) → IsSliceOf W U V → IsSliceOf W U X → V ≡ X
+pub one_slice : (W : InputStore) (U : List EntityUID) (V X : InputStore) → IsSliceOf W U V → IsSliceOf W U X → V ≡ X
 one_slice W U V X v x =
     v.entries
     ∙ ap (part_of W) (λ i q. same_bool (v.test q) (x.test q) (λ h. (x.passes q).1 ((v.passes q).0 h))
@@ -84,7 +84,7 @@ kept_parent true o b h = h
 kept_parent false o b h = absurd (false≢true h)
 
 -- The edges of a part of an input store are edges of the input store.
-pub part_edges : (W : World) (test : EntityUID → Bool) (a b : EntityUID) → graph (part_of W test) a b ≡ true
+pub part_edges : (W : InputStore) (test : EntityUID → Bool) (a b : EntityUID) → graph (part_of W test) a b ≡ true
     → graph W a b ≡ true
 part_edges W test a b h =
     kept_parent (test a) (finmap.get W.entities a) b
@@ -92,16 +92,16 @@ part_edges W test a b h =
     (λ x t. ap test (sym (one_equal a x t))))) ∙ h)
 
 -- The edges of a slice are edges of the input store.
-pub slice_edges : (W : World) (U : List EntityUID) (V : World) → IsSliceOf W U V → (a b : EntityUID)
+pub slice_edges : (W : InputStore) (U : List EntityUID) (V : InputStore) → IsSliceOf W U V → (a b : EntityUID)
     → graph V a b ≡ true → graph W a b ≡ true
 slice_edges W U V v a b h = part_edges W v.test a b (subst (λ X. graph X a b ≡ true) v.entries h)
 
 -- Whether q is one of the uids or is reached from one of them.
-reached_test : World → List EntityUID → EntityUID → Bool
+reached_test : InputStore → List EntityUID → EntityUID → Bool
 reached_test W U q = list_any (λ u. same_uid u q || is_member same_uid (reached_list W u) q) U
 
 -- Every input store has a slice.
-pub slice_there : (W : World) (U : List EntityUID) → (V : World) × IsSliceOf W U V
+pub slice_there : (W : InputStore) (U : List EntityUID) → (V : InputStore) × IsSliceOf W U V
 unfolding reached_test
 slice_there W U = (
   part_of W (reached_test W U),

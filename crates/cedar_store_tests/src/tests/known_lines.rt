@@ -2,7 +2,7 @@
 // earlier fields.
 use super::{are_answered, is_answered_by, ways};
 use cedar_store::{RunError, run};
-use cedar_test_helpers::tried::{beside, kept};
+use cedar_test_helpers::results::{beside, kept};
 use std::alloc::Global;
 use std::fmt::Write;
 use std::test::Fail;

@@ -28,7 +28,7 @@ fn is_taken<S: BuildHasher + Copy>(alloc: Global, session: &mut Session<S>, row:
     let (line, told) = row.split_once(" => ").unwrap_or((row, ""));
     let (known, due) = told.split_once(' ').unwrap_or((told, ""));
     let mut out = Vec::new(alloc);
-    let taken = session.take_line(alloc, line.as_bytes(), &mut out);
+    let taken = session.apply_line(alloc, line.as_bytes(), &mut out);
     let well = word_of(taken) == known && are_spelled(out.as_slice(), due);
     drop(out);
     well
@@ -75,7 +75,7 @@ fn a_session_takes_lines_one_by_one(rt: HostRuntime) {
 fn is_added<S: BuildHasher + Copy>(alloc: Global, session: Session<S>) -> bool {
     let mut session = session;
     let mut out = Vec::new(alloc);
-    let told = session.take_line(alloc, b"build", &mut out).is_ok()
+    let told = session.apply_line(alloc, b"build", &mut out).is_ok()
         && push_not_command(alloc, &mut out, 7).is_ok();
     let well = told && are_spelled(out.as_slice(), "ok 0;line 7: not a command;");
     drop(session);

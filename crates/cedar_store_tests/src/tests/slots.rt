@@ -4,8 +4,8 @@
 use super::are_answered;
 use super::known_lines::status_of;
 use cedar_store::run;
+use cedar_test_helpers::results::{kept, owned};
 use cedar_test_helpers::rows::all_hold;
-use cedar_test_helpers::tried::{kept, owned};
 use std::alloc::Global;
 use std::fmt::Write;
 use std::test::Fail;

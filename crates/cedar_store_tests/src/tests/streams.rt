@@ -1,6 +1,6 @@
 // Readers and writers with several buffers, and a writer that sends its bytes only at the flush.
 use super::{Way, ran, ways};
-use cedar_test_helpers::tried::{beside, kept};
+use cedar_test_helpers::results::{beside, kept};
 use std::alloc::Global;
 use std::io;
 use std::io::{Read, Write};

@@ -6,5 +6,5 @@ pub returns : goal.returns
 returns c =
     changed_and_told (AnswersAnnotation c.args.id.now c.args.key.now) c.args.handle.now.held.value
     c.opened.result.held.value c.in-Some.inner.value c.deref_mut.result.now c.annotation-answer.new.self
-    c.annotation-answer.result c.tell.result c.args.has.now c.tell.new.out
-    c.in-Some.ensures.value c.deref_mut.ensures.value c.opened.ensures c.tell.ensures c.annotation-answer.ensures
+    c.annotation-answer.result c.write_bool.result c.args.has.now c.write_bool.new.out
+    c.in-Some.ensures.value c.deref_mut.ensures.value c.opened.ensures c.write_bool.ensures c.annotation-answer.ensures

@@ -1,10 +1,10 @@
-use Rattle.cedar_c_stores.specs.Contents.{AddsLaid}
+use Rattle.cedar_c_stores.specs.Contents.{AddsFromLists}
 use Rattle.cedar_c.proofs.StoreChanges.{changed}
 use Rattle.cedar_c.proofs.store_values.cedar_store_add_with.Goals as goal
 
 pub returns : goal.returns
 returns c =
-    changed (AddsLaid (record {
+    changed (AddsFromLists (record {
       text = c.args.text.now;
       uids = c.args.uids.now;
       count = c.args.count;

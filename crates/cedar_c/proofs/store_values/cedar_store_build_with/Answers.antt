@@ -1,10 +1,10 @@
-use Rattle.cedar_c_stores.specs.Contents.{BuildsLaid}
+use Rattle.cedar_c_stores.specs.Contents.{BuildsFromLists}
 use Rattle.cedar_c.proofs.StoreChanges.{changed}
 use Rattle.cedar_c.proofs.store_values.cedar_store_build_with.Goals as goal
 
 pub returns : goal.returns
 returns c =
-    changed (BuildsLaid (record {
+    changed (BuildsFromLists (record {
       text = c.args.text.now;
       uids = c.args.uids.now;
       count = c.args.count;

@@ -7,5 +7,5 @@ pub returns : goal.returns
 returns c =
     changed_telling (GetsAt tags_of c.args.uid.now c.args.key.now) c.args.handle.now.held.value
     c.opened.result.held.value c.in-Some.inner.value c.deref_mut.result.now c.get_tag-told.new.self
-    c.get_tag-told.result c.tell.result c.args.has.now c.tell.new.out
-    c.in-Some.ensures.value c.deref_mut.ensures.value c.opened.ensures c.tell.ensures c.get_tag-told.ensures
+    c.get_tag-told.result c.write_bool.result c.args.has.now c.write_bool.new.out
+    c.in-Some.ensures.value c.deref_mut.ensures.value c.opened.ensures c.write_bool.ensures c.get_tag-told.ensures

@@ -1,10 +1,10 @@
-use Rattle.cedar_c_stores.specs.Contents.{UpsertsLaid}
+use Rattle.cedar_c_stores.specs.Contents.{UpsertsFromLists}
 use Rattle.cedar_c.proofs.StoreChanges.{changed}
 use Rattle.cedar_c.proofs.store_values.cedar_store_upsert_with.Goals as goal
 
 pub returns : goal.returns
 returns c =
-    changed (UpsertsLaid (record {
+    changed (UpsertsFromLists (record {
       text = c.args.text.now;
       uids = c.args.uids.now;
       count = c.args.count;

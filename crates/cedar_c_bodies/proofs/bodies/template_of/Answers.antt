@@ -1,6 +1,6 @@
 use Rattle.std.proofs.Common.{sym, subst}
 use Rattle.std.proofs.lemmas.Result.{err_from_is_err_and}
-use Rattle.cedar_c_bodies.specs.Bodies.{IsGiven, given_by, no_memory, no_effect, no_id, no_annotations}
+use Rattle.cedar_c_bodies.specs.Bodies.{IsBodyOfInput, input_of_lists, no_memory, no_effect, no_id, no_annotations}
 use Rattle.cedar_c_bodies.specs.Scopes.{IsConstraintAt}
 use Rattle.cedar_c_bodies.specs.Bodies.{no_principal, no_action, no_resource, no_clause}
 use Rattle.cedar_c_bodies.proofs.bodies.template_of.Goals as goal
@@ -47,7 +47,7 @@ returns-in_err-template c =
 
 pub returns : goal.returns
 returns c =
-    subst (IsGiven c.args.id.now (given_by c.args.lists)) (sym c.in_ok-template.ensures)
+    subst (IsBodyOfInput c.args.id.now (input_of_lists c.args.lists)) (sym c.in_ok-template.ensures)
     (record {
       utf8 = c.in_ok-id.ensures.0;
       named = c.in_ok-id.ensures.1;

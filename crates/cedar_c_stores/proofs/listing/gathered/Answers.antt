@@ -10,5 +10,5 @@ returns-in-Err c =
 pub returns-in_ok-entities_with-in-Ok : goal.returns-in_ok-entities_with-in-Ok
 returns-in_ok-entities_with-in-Ok c =
     gathered_by c.args.uids.now c.args.edges.now c.args.count c.in_ok-first.first.now c.in_ok-listed.listed.items
-    c.put_edges.new.listed.items _ c.in_ok-first.ensures.0 c.in_ok-first.ensures.1
+    c.push_parents.new.listed.items _ c.in_ok-first.ensures.0 c.in_ok-first.ensures.1
     c.in_ok-listed.ensures c.in-Ok.ensures.ok c.in-Ok.ensures.range c.in_ok-entities_with-in-Ok.ensures

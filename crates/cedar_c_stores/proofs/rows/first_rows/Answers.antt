@@ -11,5 +11,5 @@ returns-in-Err c =
 pub returns-in_ok-rows_of-in-Ok : goal.returns-in_ok-rows_of-in-Ok
 returns-in_ok-rows_of-in-Ok c =
     first_by c.args.uids.now c.args.edges.now c.args.count c.in_ok-first.first.now c.in_ok-listed.listed.items
-    c.put_edges.new.listed.items _ c.in_ok-first.ensures.0 c.in_ok-first.ensures.1
+    c.push_parents.new.listed.items _ c.in_ok-first.ensures.0 c.in_ok-first.ensures.1
     c.in_ok-listed.ensures c.in-Ok.ensures.ok c.in-Ok.ensures.range c.in_ok-rows_of-in-Ok.ensures

@@ -5,7 +5,7 @@ use Rattle.std.proofs.lemmas.Result.{err_from_is_err_and}
 use Rattle.std.proofs.Common.{arith, rules, refl, sym, [], map, inl}
 use mathlib.Core.List.{append-nil}
 use Rattle.cedar_c_trees.specs.Items.{set_item, call_item, var_item, slot_item}
-use Rattle.cedar_c_trees.specs.Shapes.{StandsInExpr}
+use Rattle.cedar_c_trees.specs.Shapes.{IsAllowedInExpr}
 use Rattle.cedar_c_trees.specs.laws.Stacks.{is_text_expr}
 use Rattle.cedar_c_trees.proofs.Misfits.{literal_unmade}
 use Rattle.cedar_c_trees.proofs.expr_reading.joined.Goals as goal
@@ -15,7 +15,7 @@ returns-in_err-literal-in-0-to-3 c =
     let p = err_from_is_err_and c.from_residual-in_err-literal-in-0-to-3.result
     c.from_residual-in_err-literal-in-0-to-3.ensures.1 in
     rw (p.1, p.2)
-    (inl (literal_unmade StandsInExpr c.args.text.now c.args.node.now (map is_text_expr c.args.stack.now.items) _
+    (inl (literal_unmade IsAllowedInExpr c.args.text.now c.args.node.now (map is_text_expr c.args.stack.now.items) _
     (omega arith) c.in_err-literal-in-0-to-3.ensures))
 
 pub returns-in_ok-set-in-4 : goal.returns-in_ok-set-in-4

@@ -5,7 +5,7 @@ use Rattle.cedar_c_trees.proofs.leaf_writing.write_call.Goals as goal
 
 pub returns : goal.returns
 returns c =
-    on_ok_weaker c.put_text.result
-    (call_added c.args.func.now c.args.len (string_bytes c.in_ok-text.text) c.args.draft.now c.put_text.new.self
+    on_ok_weaker c.push_text.result
+    (call_added c.args.func.now c.args.len (string_bytes c.in_ok-text.text) c.args.draft.now c.push_text.new.self
     c.in_ok-text.ensures)
-    (rw c.as_str.ensures.value at c.put_text.ensures)
+    (rw c.as_str.ensures.value at c.push_text.ensures)

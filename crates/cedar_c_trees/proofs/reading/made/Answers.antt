@@ -4,7 +4,7 @@ use Rattle.cedar_terms.specs.LiteralTree.{string_literal}
 use Rattle.cedar_terms.specs.ValueTree.{literal_value}
 use Rattle.cedar_terms.specs.ValueViews.{named_pairs}
 use Rattle.cedar_c_trees.specs.Items.{set_item, record_item, call_item, pairs_listed}
-use Rattle.cedar_c_trees.specs.Shapes.{StandsInValue}
+use Rattle.cedar_c_trees.specs.Shapes.{IsAllowedInValue}
 use Rattle.cedar_c_trees.specs.laws.Stacks.{is_text_value}
 use Rattle.cedar_c_trees.proofs.Misfits.{literal_unmade}
 use Rattle.cedar_c_trees.proofs.Stacks.{length_named}
@@ -15,7 +15,7 @@ pub returns-in_err-literal-in-0-to-3 : goal.returns-in_err-literal-in-0-to-3
 returns-in_err-literal-in-0-to-3 c =
     let p = err_from_is_err_and c.from_residual-in_err-literal-in-0-to-3.result c.from_residual-in_err-literal-in-0-to-3.ensures.1 in
     rw (p.1, p.2)
-    (literal_unmade StandsInValue c.args.text.now c.args.node.now (map is_text_value c.args.stack.now.items) _
+    (literal_unmade IsAllowedInValue c.args.text.now c.args.node.now (map is_text_value c.args.stack.now.items) _
     (omega arith) c.in_err-literal-in-0-to-3.ensures)
 
 pub returns-in_ok-set-in-4 : goal.returns-in_ok-set-in-4

@@ -8,7 +8,7 @@ use Rattle.cedar_ids.specs.laws.UidOfLaws.{same_uid_equiv}
 use Rattle.cedar_ids.specs.declared.entity.EntityUID.{EntityUID}
 use Rattle.cedar_entity.specs.declared.node.SharedEntity.{SharedEntity}
 use Rattle.cedar_entities.specs.Answers.{HasDeepEqual}
-use Rattle.cedar_entity_maps.specs.laws.Held.{held, shared}
+use Rattle.cedar_entity_maps.specs.laws.EntityMap.{entity_at, shared}
 use Rattle.cedar_entities.proofs.Alike.{found_alike}
 use Rattle.cedar_entities.proofs.store_same.have_deep_equals.Goals as goal
 
@@ -26,9 +26,9 @@ returns-then-not-has_deep_equal_at g c =
       λ e. absurd (false≢true e),
       λ h. sym c.if-not-has_deep_equal_at.true
           ∙ c.has_deep_equal_at.ensures.1 (subst
-          (λ x. HasDeepEqual (Some x) (held c.args.other.now c.in-Some.uid.now)) (sym c.deref.ensures)
+          (λ x. HasDeepEqual (Some x) (entity_at c.args.other.now c.in-Some.uid.now)) (sym c.deref.ensures)
           (subst (λ o. IfSome (option_map shared o)
-          (λ e. HasDeepEqual (Some e) (held c.args.other.now c.in-Some.uid.now))) found (h c.in-Some.uid.now))),
+          (λ e. HasDeepEqual (Some e) (entity_at c.args.other.now c.in-Some.uid.now))) found (h c.in-Some.uid.now))),
     )
 
 pub returns : goal.returns
@@ -38,8 +38,8 @@ returns g c =
     let whole =
     (iter_end deref_pair m.entries c.loop-uid.yielded c.into_iter-uid-iterator.result c.loop-uid.uid-iterator
     c.next.new.self c.next.result gives.0 c.loop-uid.yielded_by c.in-None.is c.next.ensures.steps).0 in
-    let P : (EntityUID × SharedEntity) → Type 0 = λ e. HasDeepEqual (Some (shared e.1)) (held c.args.other.now e.0) in (
-      λ _ q. found_alike (held c.args.other.now) q m.entries
+    let P : (EntityUID × SharedEntity) → Type 0 = λ e. HasDeepEqual (Some (shared e.1)) (entity_at c.args.other.now e.0) in (
+      λ _ q. found_alike (entity_at c.args.other.now) q m.entries
           (recursion_from_All P m.entries (All-same P m.entries (map deref_pair c.loop-uid.yielded) (sym whole)
           (All-map P deref_pair c.loop-uid.yielded c.loop-uid.invariant))),
       λ _. refl,

@@ -3,7 +3,7 @@ use Rattle.std.specs.Map.Iter.{deref_pair}
 use Rattle.std.proofs.Common.{subst}
 use Rattle.std.proofs.lemmas.Map.Iter.{iter_end, hash_map_turn}
 use Rattle.cedar_ids.specs.laws.UidOfLaws.{same_uid_equiv}
-use Rattle.cedar_entity_maps.specs.laws.Held.{held, shared}
+use Rattle.cedar_entity_maps.specs.laws.EntityMap.{entity_at, shared}
 use Rattle.cedar_entities.specs.laws.StoreFaults.{TakesFaulty}
 use Rattle.cedar_entities.proofs.FirstFaults.{at_own_uid, first_step, first_of_all}
 use Rattle.cedar_entities.proofs.store_valid.first_faulty.Goals as goal
@@ -19,11 +19,11 @@ loop-uid-preserved g c =
       c.in-Some.node,
     ) c.loop-uid.yielded_by c.in-Some.is c.next.ensures.steps same_uid_equiv m gives.0
     gives.4).1 in
-    first_step (held m) (λ p. shared p.1.now) c.loop-uid.yielded (c.in-Some._uid, c.in-Some.node)
-    (option_copied c.loop-uid.least) (option_copied c.lesser_faulty-least.result)
+    first_step (entity_at m) (λ p. shared p.1.now) c.loop-uid.yielded (c.in-Some._uid, c.in-Some.node)
+    (option_copied c.loop-uid.least) (option_copied c.min_faulty-least.result)
     (at_own_uid m c.requires c.in-Some._uid.now c.in-Some.node.now found)
-    (subst (λ e. TakesFaulty e (option_copied c.loop-uid.least) (option_copied c.lesser_faulty-least.result))
-    c.deref.ensures c.lesser_faulty-least.ensures)
+    (subst (λ e. TakesFaulty e (option_copied c.loop-uid.least) (option_copied c.min_faulty-least.result))
+    c.deref.ensures c.min_faulty-least.ensures)
     c.loop-uid.invariant
 
 pub returns : goal.returns

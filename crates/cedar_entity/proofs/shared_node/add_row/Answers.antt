@@ -4,7 +4,7 @@ use Rattle.std.specs.Set.{is_member}
 use Rattle.cedar_ids.specs.UidOf.{same_uid}
 use Rattle.cedar_ids.specs.declared.entity.EntityUID.{EntityUID}
 use Rattle.cedar_graph.specs.Graph.{Grows}
-use Rattle.cedar_entity.specs.View.{EntityView, has_ancestor, rest, kept}
+use Rattle.cedar_entity.specs.View.{EntityView, has_ancestor, rest, unchanged_parts}
 use Rattle.cedar_entity.proofs.AncestorSets.{ancestors_with_row, overlap_with_row, grows_by_row, same_after_row}
 use Rattle.cedar_entity.proofs.shared_node.add_row.Goals as goal
 
@@ -22,8 +22,8 @@ returns-clause-grows c =
     (grows_by_row c.add_shared_ancestors.result c.args.entity.now c.add_shared_ancestors.new.self
     c.taken-keys.result.items c.add_shared_ancestors.ensures.ok c.add_shared_ancestors.ensures.err)
 
-pub returns-clause-kept : goal.returns-clause-kept
-returns-clause-kept c =
-    same_after_row kept (λ e ks. ap (λ s. (e.uid, (rest e, s))) (overlap_with_row e ks)) c.add_shared_ancestors.result
+pub returns-clause-unchanged_parts : goal.returns-clause-unchanged_parts
+returns-clause-unchanged_parts c =
+    same_after_row unchanged_parts (λ e ks. ap (λ s. (e.uid, (rest e, s))) (overlap_with_row e ks)) c.add_shared_ancestors.result
     c.args.entity.now c.add_shared_ancestors.new.self c.taken-keys.result.items c.add_shared_ancestors.ensures.ok
     c.add_shared_ancestors.ensures.err

@@ -10,7 +10,7 @@ use Rattle.cedar_uid_sets.specs.UidSets.{UidValues}
 use Rattle.cedar_uid_sets.specs.laws.Sets.{contains_listed}
 use Rattle.cedar_entity_maps.specs.laws.Lists.{member_push, map_append_one}
 use Rattle.cedar_entity_maps.specs.laws.Seen.{some_shared}
-use Rattle.cedar_entity_maps.proofs.Touched.{seen_key}
+use Rattle.cedar_entity_maps.proofs.AffectedLists.{seen_key}
 use Rattle.cedar_entity_maps.proofs.index.keys_in_order.Goals as goal
 
 pub loop-key-preserved : goal.loop-key-preserved

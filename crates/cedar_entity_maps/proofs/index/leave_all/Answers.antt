@@ -3,7 +3,7 @@ use Rattle.std.specs.Set.{is_member}
 use Rattle.cedar_ids.specs.UidOf.{same_uid}
 use Rattle.cedar_ids.specs.declared.entity.EntityUID.{EntityUID}
 use Rattle.cedar_children.specs.Children.{is_child}
-use Rattle.cedar_entity_maps.specs.laws.Held.{held}
+use Rattle.cedar_entity_maps.specs.laws.EntityMap.{entity_at}
 use Rattle.cedar_entity_maps.specs.laws.Indexes.{is_parent_at}
 use Rattle.cedar_entity_maps.specs.laws.Lists.{member_more}
 use Rattle.cedar_entity_maps.proofs.Indexes.{left_more}
@@ -16,7 +16,7 @@ loop-uid-preserved g c p q =
     let more =
     λ (u : EntityUID). member_more c.args.uids.now c.loop-uid.uid-index c.uid-item.result u within c.uid-item.is in
     let old = is_child c.args.children.now p q in
-    let x = is_parent_at (held c.args.entities.now q) p in
+    let x = is_parent_at (entity_at c.args.entities.now q) p in
     c.leave_at.ensures p q
     ∙ ap (λ b. b && not (same_uid c.uid-item.result q && x)) (c.loop-uid.invariant p q)
     ∙ left_more old (before q) (same_uid c.uid-item.result q) x

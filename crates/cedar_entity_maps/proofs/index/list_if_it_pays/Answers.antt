@@ -1,7 +1,7 @@
 use Rattle.std.proofs.Common.{IfOk, refl, subst, sym}
 use Rattle.std.specs.FinMap as finmap
 use Rattle.std.specs.Option.{IfSome}
-use Rattle.cedar_entity_maps.specs.laws.Held.{held_map}
+use Rattle.cedar_entity_maps.specs.laws.EntityMap.{held_map}
 use Rattle.cedar_entity_maps.specs.laws.Indexes.{HasChildren, parentage}
 use Rattle.cedar_entity_maps.specs.laws.Seen.{stored}
 use Rattle.cedar_entity_maps.proofs.Indexes.{if_ok}

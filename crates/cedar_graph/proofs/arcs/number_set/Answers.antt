@@ -10,19 +10,19 @@ pub loop-key-preserved : goal.loop-key-preserved
 loop-key-preserved g c =
     let eq = g.K.PartialEq.eq in
     let laws = g.met.K.Eq.laws in
-    let e = c.in_ok-put_key.ensures in
+    let e = c.in_ok-insert_key_copy.ensures in
     let i = c.loop-key.invariant in
     let refs = c.deref-key-items.result.now in
     let key = c.key-item.result in
     let now = c.loop-key.keys.keys in
-    let after = c.put_key.new.keys.keys in
+    let after = c.insert_key_copy.new.keys.keys in
     let more : IsPrefix now after = e.more in
-    let f = some_and (slice_get after c.in_ok-put_key.field-0) (λ k. eq key.now k ≡ true) e.found in
+    let f = some_and (slice_get after c.in_ok-insert_key_copy.field-0) (λ k. eq key.now k ≡ true) e.found in
     record {
       unique = e.unique;
       done = λ q m. elim (refs_more eq refs c.loop-key.key-index key q (omega arith) c.key-item.is m) [
         | inl p ↦ prefix_number now after more eq q (i.done q p)
-        | inr h ↦ (c.in_ok-put_key.field-0, f.0, f.1, laws.congr q key.now f.0 h ∙ f.2)
+        | inr h ↦ (c.in_ok-insert_key_copy.field-0, f.0, f.1, laws.congr q key.now f.0 h ∙ f.2)
       ];
       all = i.all;
       len = omega (arith, i.len, e.one);

@@ -148,7 +148,7 @@ loop-x-preserved g c =
       loops = elim c.if-has_loop.branch [
         | then-has_loop w ↦ λ no. absurd (false≢true (sym no ∙ w.has_loop-is ∙ w.if-has_loop.true))
         | else-has_loop+then-index-ne0 w ↦ λ no. none_further E x marks (i.loops w.if-has_loop.false)
-            (λ _ goes. w.goes_back.ensures.none (sym w.has_loop-is ∙ no) goes) led
+            (λ _ goes. w.reaches_itself.ensures.none (sym w.has_loop-is ∙ no) goes) led
         | else-has_loop+else-index-ne0 w ↦ λ no. none_further E x marks (i.loops w.if-has_loop.false)
             (λ above goes. absurd (grind (arith, common_steps))) led
       ];

@@ -3,9 +3,9 @@ use Rattle.std.proofs.lemmas.Bool.{cases_eq, false≢true}
 use Rattle.std.proofs.lemmas.Option.{get_or_from_slice_get}
 use Rattle.std.specs.Prelude.{slice_get, Some}
 use Rattle.cedar_graph.specs.laws.Readings.{IsArc}
-use Rattle.cedar_components.specs.Reach.{Goes}
+use Rattle.cedar_components.specs.Reach.{HasPath}
 use Rattle.cedar_graph.proofs.dag.first_loop.Goals as goal
-use Rattle.cedar_graph.proofs.dag.first_loop.Goals.{else-led-x-via-then-led-x+else-goes_back, else-led-x-via-else-led-x}
+use Rattle.cedar_graph.proofs.dag.first_loop.Goals.{else-led-x-via-then-led-x+else-reaches_itself, else-led-x-via-else-led-x}
 
 pub loop-x-preserved : goal.loop-x-preserved
 loop-x-preserved g c =
@@ -15,8 +15,8 @@ loop-x-preserved g c =
     record {
       none = λ w v h e goes. elim (cases_eq v x) [
         | inl same ↦ elim c.else-led-x.branch [
-          | else-led-x-via-then-led-x+else-goes_back b ↦
-              b.goes_back.ensures.none b.if-goes_back.false (subst (λ n. Goes E n n) same goes)
+          | else-led-x-via-then-led-x+else-reaches_itself b ↦
+              b.reaches_itself.ensures.none b.if-reaches_itself.false (subst (λ n. HasPath E n n) same goes)
           | else-led-x-via-else-led-x b ↦
               let to_in : e.0 < length c.args.read.now.reading.to.items = omega (arith, e.1, c.requires.same) in
               let at = subst (λ n. slice_get marks n ≡ Some true) (e.3 ∙ same) (c.requires.led.led e.0 to_in) in

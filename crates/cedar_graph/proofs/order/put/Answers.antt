@@ -1,6 +1,6 @@
 use Rattle.std.proofs.Common.{◌∷◌, ◌++◌, [], sym, subst}
 use Rattle.std.specs.List.Sorted.{IsPermutation}
-use Rattle.cedar_graph.proofs.Orders.{put_first}
+use Rattle.cedar_graph.proofs.Orders.{insert_first_child}
 use Rattle.cedar_graph.proofs.order.put.Goals as goal
 
 pub returns-in_ok-push-2-clause-all : goal.returns-in_ok-push-2-clause-all
@@ -8,4 +8,4 @@ returns-in_ok-push-2-clause-all g c =
     let led = c.args.parts.now.led.items in
     let others = c.args.parts.now.others.items in
     subst (λ v. IsPermutation (led ++ others ++ c.args.number ∷ []) (v ++ others)) (sym c.in_ok-push-2.ensures.items)
-    (put_first led others c.args.number)
+    (insert_first_child led others c.args.number)

@@ -5,8 +5,8 @@ use Rattle.cedar_terms.specs.SlotTree.{same_slot}
 use Rattle.cedar_binding.specs.Bindings.{binds}
 use Rattle.cedar_binding.specs.Views.{env_of}
 use Rattle.cedar_policy_lines.specs.PolicyCommand.{bound_more}
-use Rattle.cedar_policy_lines.specs.laws.NamedSlots.{is_named, named_alone, named_is_bound, named_more, still_bound}
-use Rattle.cedar_policy_lines.specs.laws.NamedSlots.{unnamed_is_unbound}
+use Rattle.cedar_policy_lines.specs.laws.SlotFlagLaws.{is_named, named_alone, named_is_bound, named_more, still_bound}
+use Rattle.cedar_policy_lines.specs.laws.SlotFlagLaws.{unnamed_is_unbound}
 use Rattle.cedar_policy_lines.specs.laws.PolicyReading.{with_binding}
 use Rattle.cedar_policy_lines.proofs.Fields.{none_read, unread, bound_again, one_more_read}
 use Rattle.cedar_policy_lines.proofs.command.read_bindings.Goals as goal

@@ -2,7 +2,7 @@ use Rattle.std.proofs.Common.{◌≡◌, Some, map, drop, true}
 use Rattle.cedar_terms.specs.declared.slot.SlotId.{SlotId}
 use Rattle.cedar_binding.specs.Bindings.{binds}
 use Rattle.cedar_binding.specs.Views.{env_of}
-use Rattle.cedar_policy_lines.specs.laws.NamedSlots.{is_named, named_alone}
+use Rattle.cedar_policy_lines.specs.laws.SlotFlagLaws.{is_named, named_alone}
 use Rattle.cedar_policy_lines.specs.laws.PolicyReading.{bindings_from, bindings_of}
 use Rattle.cedar_policy_lines.proofs.command.read_bindings.Given as goal
 

@@ -8,17 +8,17 @@ use Rattle.cedar_policy_maps.specs.Maps.{lists_of}
 use Rattle.cedar_policy_maps.proofs.Entries.{written, gathered_in, gathered_new}
 use Rattle.cedar_policy_maps.proofs.maps.gather_id.Goals as goal
 
-pub put_list-requires : goal.put_list-requires
-put_list-requires g c = ap (λ m. get same_text m c.args.body.now) c.get_mut.follows.holds-at-none
+pub push_list-requires : goal.push_list-requires
+push_list-requires g c = ap (λ m. get same_text m c.args.body.now) c.get_mut.follows.holds-at-none
     ∙ sym c.in-None.ensures.value
 
 pub returns-in-None : goal.returns-in-None
 returns-in-None g c =
-    on_ok_weaker c.put_list.result
+    on_ok_weaker c.push_list.result
     (λ k. k ∙ ap (λ m. lists_of m.entries ++ (c.args.body.now, c.args.id.now ∷ []) ∷ [])
     c.get_mut.follows.holds-at-none
     ∙ gathered_new c.args.body.now c.args.id.now c.args.map.now.entries (sym c.in-None.ensures.value))
-    c.put_list.ensures
+    c.push_list.ensures
 
 pub returns-in-Some : goal.returns-in-Some
 returns-in-Some g c =

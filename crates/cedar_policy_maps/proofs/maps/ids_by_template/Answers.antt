@@ -4,7 +4,7 @@ use Rattle.std.specs.Map.{keys_of, values_of}
 use Rattle.cedar_policy_maps.specs.Maps.{lists_of}
 use Rattle.cedar_policy_maps.specs.Views.{bodies_of}
 use Rattle.cedar_policy_maps.specs.laws.GatherLaws.{gathered, elsewhere_in, links_in, links_listed, all_listed_keys}
-use Rattle.cedar_policy_maps.specs.laws.GrowLaws.{listed_keys}
+use Rattle.cedar_policy_maps.specs.laws.BulkInsertSteps.{listed_keys}
 use Rattle.cedar_policy_maps.specs.laws.MapLaws.{all_listed}
 use Rattle.cedar_policy_maps.proofs.maps.ids_by_template.Goals as goal
 

@@ -2,7 +2,7 @@ use Rattle.std.proofs.Common.{◌∙◌, sym, ap, arith}
 use Rattle.std.specs.Map.{keys_of}
 use Rattle.cedar_policy_maps.specs.Maps.{lists_of}
 use Rattle.cedar_policy_maps.specs.laws.GatherLaws.{links_in, all_listed_keys}
-use Rattle.cedar_policy_maps.specs.laws.GrowLaws.{listed_keys}
+use Rattle.cedar_policy_maps.specs.laws.BulkInsertSteps.{listed_keys}
 use Rattle.cedar_policy_maps.proofs.Entries.{links_more, gathered_more}
 use Rattle.std.proofs.Common.{take}
 use Rattle.cedar_policy_maps.proofs.maps.list_links.Goals as goal

@@ -43,8 +43,8 @@ returns-in-Some-clause-ids g c =
     let s = c.in-Some.stands.now in
     let stands : find (is_body_at t.id) h.bodies ≡ Some s = sym (c.in-Some.ensures
     ∙ ap (λ j. find (is_body_at j) h.bodies) c.id-own.ensures) in
-    let clashes : c.is_other_body-clashes.result ≡ (looked_at Bodies h o t.id && not (is_same_at h o t.id)) =
-    c.is_other_body-clashes.ensures
+    let clashes : c.is_different_body-clashes.result ≡ (looked_at Bodies h o t.id && not (is_same_at h o t.id)) =
+    c.is_different_body-clashes.ensures
     ∙ sym (bodies_differ h o t.id s t c.is_empty.ensures.policy_set c.is_empty-2.ensures.policy_set stands c.requires) in
     on_ok_weaker c.gather_id.result
     (λ e. e ∙ (λ j. insert_all same_text c.args.ids.now.keys (cond (clashes j) (c.id-own.ensures j ∷ []) [])))

@@ -11,16 +11,16 @@ use Rattle.cedar_policy_merge.specs.laws.LookedAtLaws.{clashes_with, clashes, li
 use Rattle.cedar_policy_merge.specs.laws.TemplatesAlike.{one_id, templates_same}
 use Rattle.cedar_policy_merge.proofs.merge.gather_policy.Goals as goal
 
-pub is_other_policy-clashes-requires-clause-id : goal.is_other_policy-clashes-requires-clause-id
-is_other_policy-clashes-requires-clause-id g c =
+pub is_different_policy-clashes-requires-clause-id : goal.is_different_policy-clashes-requires-clause-id
+is_different_policy-clashes-requires-clause-id g c =
     let h = c.args.here.now in
     let q = c.args.policy.now in
     let stands : Some c.in-Some.stands.now ≡ find (is_policy_at (policy_id q)) h.policies = c.in-Some.ensures
     ∙ ap (λ j. find (is_policy_at j) h.policies) c.id-own.ensures in
     one_id h c.in-Some.stands.now q stands
 
-pub is_other_policy-clashes-requires-clause-alike : goal.is_other_policy-clashes-requires-clause-alike
-is_other_policy-clashes-requires-clause-alike g c =
+pub is_different_policy-clashes-requires-clause-alike : goal.is_different_policy-clashes-requires-clause-alike
+is_different_policy-clashes-requires-clause-alike g c =
     let h = c.args.here.now in
     let q = c.args.policy.now in
     let stands : Some c.in-Some.stands.now ≡ find (is_policy_at (policy_id q)) h.policies = c.in-Some.ensures
@@ -56,7 +56,7 @@ returns-in-Some-clause-ids g c =
     let q = c.args.policy.now in
     let stands : Some c.in-Some.stands.now ≡ find (is_policy_at (policy_id q)) h.policies = c.in-Some.ensures
     ∙ ap (λ j. find (is_policy_at j) h.policies) c.id-own.ensures in
-    let told : c.is_other_policy-clashes.result ≡ clashes h q = c.is_other_policy-clashes.ensures
+    let told : c.is_different_policy-clashes.result ≡ clashes h q = c.is_different_policy-clashes.ensures
     ∙ ap (λ r. clashes_with r q) stands in
     on_ok_weaker c.gather_id.result
     (λ e. e ∙ (λ j. insert_all same_text c.args.ids.now.keys (cond (told j) (c.id-own.ensures j ∷ []) [])))

@@ -17,5 +17,5 @@ returns g c =
     told (same_text t.id u.id) (sym (c.ne.ensures
     ∙ (λ j. not (same_text (c.id.ensures j) (c.id-2.ensures j)))) ∙ c.if-ne.false) in
     let new : is_in u.id c.args.ids.now.keys ≡ false =
-    sym (c.is_among.ensures ∙ ap (λ i. is_in i c.args.ids.now.keys) c.id-3.ensures) ∙ c.if-is_among.false in
+    sym (c.is_listed_id.ensures ∙ ap (λ i. is_in i c.args.ids.now.keys) c.id-3.ensures) ∙ c.if-is_listed_id.false in
     bodies_same t u c.args.ids.now.keys c.requires one new

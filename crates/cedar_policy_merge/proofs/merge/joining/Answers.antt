@@ -13,4 +13,4 @@ returns-in-Some g c =
     shared_is new (new_id c.args.renaming.now.entries) js c.args.policy.now c.in-Some.shared c.requires.new
     c.requires.on
     (subst (λ (o : Option PolicyParts). IfSome o (IsOnBody new js c.args.policy.now)) c.in-Some.is
-    c.in_ok-on_joined.ensures)
+    c.in_ok-on_new_body.ensures)

@@ -9,8 +9,8 @@ pub fresh_ids-requires : goal.fresh_ids-requires
 fresh_ids-requires g c =
     subst (AreOnce (λ (i : List ℕ). i)) (sym c.in_ok-ids.ensures) (once_conflicts c.args.here.now c.args.other.now)
 
-pub put_merged-requires : goal.put_merged-requires
-put_merged-requires g c = (c.in_ok-renaming.ensures.keys ∙ c.in_ok-ids.ensures, c.in_ok-renaming.ensures.free)
+pub store_merged-requires : goal.store_merged-requires
+store_merged-requires g c = (c.in_ok-renaming.ensures.keys ∙ c.in_ok-ids.ensures, c.in_ok-renaming.ensures.free)
 
 pub returns : goal.returns
 returns g c = record {
@@ -62,8 +62,8 @@ returns-in_err-renaming g c = record {
   below = search rules;
 }
 
-pub returns-in_err-put_merged : goal.returns-in_err-put_merged
-returns-in_err-put_merged g c = record {
+pub returns-in_err-store_merged : goal.returns-in_err-store_merged
+returns-in_err-store_merged g c = record {
   merges = search rules;
   differ =
       conflicts_differ c.args.here.now c.args.other.now;

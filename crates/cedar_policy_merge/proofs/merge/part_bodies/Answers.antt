@@ -2,7 +2,7 @@ use Rattle.std.proofs.Common.{arith}
 use Rattle.cedar_policy_merge.specs.Merge.{new_id}
 use Rattle.cedar_policy_maps.specs.Views.{bodies_of}
 use Rattle.cedar_policy_merge.specs.laws.MergeSteps.{joined_body_step}
-use Rattle.cedar_policy_merge.specs.laws.MergeTakesIn.{standing_body_step}
+use Rattle.cedar_policy_merge.specs.laws.MergeInserts.{standing_body_step}
 use Rattle.cedar_policy_merge.proofs.merge.part_bodies.Goals as goal
 
 pub loop-template-preserved : goal.loop-template-preserved

@@ -1,7 +1,7 @@
 use Rattle.std.proofs.Common.{◌≡◌, ◌++◌, take}
-use Rattle.cedar_policy_merge.specs.Merge.{joined_bodies, new_id}
+use Rattle.cedar_policy_merge.specs.Merge.{merged_bodies, new_id}
 use Rattle.cedar_policy_maps.specs.Views.{bodies_of}
-use Rattle.cedar_policy_merge.specs.laws.MergeTakesIn.{standing_bodies}
+use Rattle.cedar_policy_merge.specs.laws.MergeInserts.{standing_bodies}
 use Rattle.cedar_policy_merge.proofs.merge.part_bodies.Given as goal
 
 abbrev pub invariant-loop-template : goal.invariant-loop-template
@@ -9,5 +9,5 @@ invariant-loop-template g l = record {
   stand : bodies_of l.parted.stand.items ≡ bodies_of l.initial.parted.stand.items
       ++ standing_bodies l.here (new_id l.renaming.entries) (bodies_of (take l.template-index l.theirs));
   join : bodies_of l.parted.join.items ≡ bodies_of l.initial.parted.join.items
-      ++ joined_bodies l.here (new_id l.renaming.entries) (bodies_of (take l.template-index l.theirs));
+      ++ merged_bodies l.here (new_id l.renaming.entries) (bodies_of (take l.template-index l.theirs));
 }

@@ -23,13 +23,13 @@ got r p i j o e k l =
     ap (unwrap_or o) k ∙ ap (λ o. unwrap_or o (policy_id p)) (l ∙ ap (λ i. lookup (same_text i) r) e)
     ∙ sym (policy_new (new_id r) p)
 
-pub place_here-requires : goal.place_here-requires
-place_here-requires g c =
+pub position_of-requires : goal.position_of-requires
+position_of-requires g c =
     free_here c.args.here.now c.args.renaming.now.entries c.args.policy.now c.id.result.now
     (option_copied c.new_of-new.result) c.requires.free c.id.ensures c.new_of-new.ensures
 
-pub has_body_here-requires : goal.has_body_here-requires
-has_body_here-requires g c =
+pub contains_body-requires : goal.contains_body-requires
+contains_body-requires g c =
     free_here c.args.here.now c.args.renaming.now.entries c.args.policy.now c.id.result.now
     (option_copied c.new_of-new.result) c.requires.free c.id.ensures c.new_of-new.ensures
 
@@ -49,17 +49,17 @@ returns-in-Some g c =
     (option_copied c.new_of-new.result) c.id.ensures c.id-2.ensures c.new_of-new.ensures)) in
     let bound : is_bound h (policy_id q) ≡ true = first_of (has_policy h (policy_id q)) (has_body h (policy_id q)) stands in
     let old = c.args.parted.now.policies.join.items in
-    c.in_ok-keep_at.ensures ∙ sym (append-nil old) ∙ (λ j. old ++ cond (not (sym bound j)) (q ∷ []) [])
+    c.in_ok-push_shared.ensures ∙ sym (append-nil old) ∙ (λ j. old ++ cond (not (sym bound j)) (q ∷ []) [])
 
-pub returns-then-has_body_here : goal.returns-then-has_body_here
-returns-then-has_body_here g c =
+pub returns-then-contains_body : goal.returns-then-contains_body
+returns-then-contains_body g c =
     let h = c.args.here.now in
     let p = c.args.policy.now in
     let r = c.args.renaming.now.entries in
     let q = renamed_policy (new_id r) p in
     let stands : has_body h (policy_id q) ≡ true =
-    sym (c.has_body_here.ensures ∙ ap (has_body h) (got r p c.id.result.now c.id-3.result.now
-    (option_copied c.new_of-new.result) c.id.ensures c.id-3.ensures c.new_of-new.ensures)) ∙ c.if-has_body_here.true in
+    sym (c.contains_body.ensures ∙ ap (has_body h) (got r p c.id.result.now c.id-3.result.now
+    (option_copied c.new_of-new.result) c.id.ensures c.id-3.ensures c.new_of-new.ensures)) ∙ c.if-contains_body.true in
     let bound : is_bound h (policy_id q) ≡ true = second_of (has_policy h (policy_id q)) (has_body h (policy_id q)) stands in
     let old = c.args.parted.now.policies.join.items in
     sym (append-nil old) ∙ (λ j. old ++ cond (not (sym bound j)) (q ∷ []) [])
@@ -74,8 +74,8 @@ returns g c =
     sym (c.in_default.ensures.found ∙ ap (has_policy h) (got r p c.id.result.now c.id-2.result.now
     (option_copied c.new_of-new.result) c.id.ensures c.id-2.ensures c.new_of-new.ensures)) in
     let no_body : has_body h (policy_id q) ≡ false =
-    sym (c.has_body_here.ensures ∙ ap (has_body h) (got r p c.id.result.now c.id-3.result.now
-    (option_copied c.new_of-new.result) c.id.ensures c.id-3.ensures c.new_of-new.ensures)) ∙ c.if-has_body_here.false in
+    sym (c.contains_body.ensures ∙ ap (has_body h) (got r p c.id.result.now c.id-3.result.now
+    (option_copied c.new_of-new.result) c.id.ensures c.id-3.ensures c.new_of-new.ensures)) ∙ c.if-contains_body.false in
     let bound : is_bound h (policy_id q) ≡ false = λ j. no_policy j || no_body j in
     let old = c.args.parted.now.policies.join.items in
     c.in_ok-push.ensures.items

@@ -1,7 +1,7 @@
 use Rattle.std.proofs.Common.{[], ◌∷◌, ◌+◌, ap, sym, subst, ◌∙◌, ◌++◌, map}
 use Rattle.cedar_entity_maps.specs.Plain.{IsPlainStore}
-use Rattle.cedar_entity_maps.specs.World.{World, empty_world}
-use Rattle.cedar_entities.specs.Calls.{all_made, AllPass}
+use Rattle.cedar_entity_maps.specs.InputStore.{InputStore, empty_input}
+use Rattle.cedar_entities.specs.Calls.{apply_calls, AllPass}
 use Rattle.cedar_replay.specs.CallsOf.{call_of}
 use Rattle.cedar_replay.proofs.EntityReplays.{made_push, pass_push, longer, stops}
 use Rattle.cedar_replay.proofs.entities.replay_entities_with_hasher.Goals as goal
@@ -24,12 +24,12 @@ loop-call-preserved g c =
     let more = map-append call_of done (call ∷ []) in
     record {
       plain =
-          subst (λ (W : World). IsPlainStore W c.in-Ok.next)
-          (sym (ap (all_made empty_world) more ∙ made_push empty_world (map call_of done) (call_of call)))
+          subst (λ (W : InputStore). IsPlainStore W c.in-Ok.next)
+          (sym (ap (apply_calls empty_input) more ∙ made_push empty_input (map call_of done) (call_of call)))
           (c.in-Ok.ensures.ok _ i.plain);
       passed =
-          subst (AllPass empty_world) (sym more)
-          (pass_push empty_world (map call_of done) (call_of call) i.passed (c.in-Ok.ensures.passes _ i.plain));
+          subst (AllPass empty_input) (sym more)
+          (pass_push empty_input (map call_of done) (call_of call) i.passed (c.in-Ok.ensures.passes _ i.plain));
       count = longer done call ∙ ap (λ n. n + 1) i.count;
       place = place ∙ sym (append_assoc done (call ∷ []) _);
     }

@@ -8,14 +8,14 @@ use Rattle.cedar_slice.proofs.slicing.copies_of.Goals as goal
 
 pub loop-uid-preserved : goal.loop-uid-preserved
 loop-uid-preserved g c =
-    let held = finmap.get c.args.store.now.held in
+    let entity_at = finmap.get c.args.store.now.entities in
     let done = map (λ x. x.now) c.loop-uid.yielded in
     let more = sym (map_append_one (λ x. x.now) c.loop-uid.yielded c.in-Some.uid) in (
       c.in_ok-copy_held.ensures.copies
-          ∙ ap (λ l. l ++ option_to_list (held c.in-Some.uid.now)) c.loop-uid.invariant.0
-          ∙ sym (found_push held done c.in-Some.uid.now)
-          ∙ ap (filter_map held) more,
-      subst (AreKeyed c.args.store.now.held) more
-          (all_push (λ k. IfSome (held k) (λ e. e.uid ≡ k)) done c.in-Some.uid.now c.loop-uid.invariant.1
+          ∙ ap (λ l. l ++ option_to_list (entity_at c.in-Some.uid.now)) c.loop-uid.invariant.0
+          ∙ sym (found_push entity_at done c.in-Some.uid.now)
+          ∙ ap (filter_map entity_at) more,
+      subst (AreKeyed c.args.store.now.entities) more
+          (all_push (λ k. IfSome (entity_at k) (λ e. e.uid ≡ k)) done c.in-Some.uid.now c.loop-uid.invariant.1
           (c.in_ok-copy_held.ensures.keyed c.in-Some.uid.now)),
     )

@@ -5,5 +5,5 @@ use Rattle.cedar_slice.proofs.Copies.{AreKeyed}
 use Rattle.cedar_slice.proofs.slicing.copies_of.Given as goal
 
 abbrev pub invariant-loop-uid : goal.invariant-loop-uid
-invariant-loop-uid g l = (l.list.items ≡ filter_map (finmap.get l.store.held) (map (λ x. x.now) l.yielded))
-    × AreKeyed l.store.held (map (λ x. x.now) l.yielded)
+invariant-loop-uid g l = (l.list.items ≡ filter_map (finmap.get l.store.entities) (map (λ x. x.now) l.yielded))
+    × AreKeyed l.store.entities (map (λ x. x.now) l.yielded)

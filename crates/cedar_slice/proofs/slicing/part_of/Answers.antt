@@ -7,29 +7,29 @@ use Rattle.cedar_slice.proofs.PlainSlices.{plain_slice, least_part}
 use Rattle.cedar_slice.proofs.Sliced.{asked_stays, holds_slice, only_memory}
 use Rattle.cedar_slice.proofs.slicing.part_of.Goals as goal
 
-pub returns-clause-held : goal.returns-clause-held
-returns-clause-held g c =
-    holds_slice c.args.store.now.held c.in_ok-wanted.wanted.keys c.in_ok-list.ensures.keyed c.in_ok-list.list.items
+pub returns-clause-entities : goal.returns-clause-entities
+returns-clause-entities g c =
+    holds_slice c.args.store.now.entities c.in_ok-wanted.wanted.keys c.in_ok-list.ensures.keyed c.in_ok-list.list.items
     c.in_ok-list.ensures.copies c.args.uids.now c.in_ok-wanted.ensures c.from_entities_with_hasher.result
     c.from_entities_with_hasher.ensures.partial c.from_entities_with_hasher.ensures.adds.ok
 
 pub returns-clause-asked : goal.returns-clause-asked
 returns-clause-asked g c = IfOk-weaker c.from_entities_with_hasher.result _ _
-    (λ s h q m. ap (λ (x : StoreView). finmap.get x.held q) h ∙ asked_stays c.args.store.now.held c.args.uids.now q m)
-    (returns-clause-held g c)
+    (λ s h q m. ap (λ (x : StoreView). finmap.get x.entities q) h ∙ asked_stays c.args.store.now.entities c.args.uids.now q m)
+    (returns-clause-entities g c)
 
 pub returns-clause-plain : goal.returns-clause-plain
 returns-clause-plain g c = IfOk-weaker c.from_entities_with_hasher.result _ _
     (λ s h W p. subst (IsPlainSlice W c.args.uids.now) (sym h) (plain_slice W c.args.store.now p c.args.uids.now))
-    (returns-clause-held g c)
+    (returns-clause-entities g c)
 
 pub returns-clause-least : goal.returns-clause-least
 returns-clause-least g c = IfOk-weaker c.from_entities_with_hasher.result _ _
     (λ s h W p V has q k. least_part W c.args.store.now p c.args.uids.now V has q
-    (sym (ap (λ (x : StoreView). finmap.contains_key x.held q) h) ∙ k))
-    (returns-clause-held g c)
+    (sym (ap (λ (x : StoreView). finmap.contains_key x.entities q) h) ∙ k))
+    (returns-clause-entities g c)
 
 pub returns-clause-err : goal.returns-clause-err
 returns-clause-err g c =
-    only_memory c.args.store.now.held c.in_ok-wanted.wanted.keys c.in_ok-list.ensures.keyed c.in_ok-list.list.items
+    only_memory c.args.store.now.entities c.in_ok-wanted.wanted.keys c.in_ok-list.ensures.keyed c.in_ok-list.list.items
     c.in_ok-list.ensures.copies c.from_entities_with_hasher.result c.from_entities_with_hasher.ensures.adds.err

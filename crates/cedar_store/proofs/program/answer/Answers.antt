@@ -14,12 +14,12 @@ returns-then-not-branch g c =
     let Q = IsOutput c.args.input.now in
     let n = c.loop-left.number + 1 in
     let old = c.loop-left.out.items in
-    let new = c.take_fields_of.new.out.items in
+    let new = c.apply_fields_of.new.out.items in
     let line = c.first_line.result.0.now in
     let behind = lines_left (option_copied c.first_line.result.1) in
-    let known = rw c.if-not-branch.true at c.in_ok-take_fields_of.ensures in
+    let known = rw c.if-not-branch.true at c.in_ok-apply_fields_of.ensures in
     subst (λ o. Q (record { bytes = o; status = 2 })) (sym c.in_ok-push_not_command.ensures)
-    (line_refused Q n i.0 c.take_fields_of.new.self old new line behind (known i.0 i.1)
+    (line_refused Q n i.0 c.apply_fields_of.new.self old new line behind (known i.0 i.1)
     (subst (λ ls. Continues Q n i.0 ls old)
     (ap (λ o. lines_left (option_copied o)) c.in-Some.is ∙ c.first_line.ensures.lines) i.2))
 
@@ -29,11 +29,11 @@ loop-left-preserved g c =
     let Q = IsOutput c.args.input.now in
     let n = c.loop-left.number + 1 in
     let old = c.loop-left.out.items in
-    let new = c.take_fields_of.new.out.items in
+    let new = c.apply_fields_of.new.out.items in
     let line = c.first_line.result.0.now in
     let behind = lines_left (option_copied c.first_line.result.1) in
-    let known = rw c.if-not-branch.false at c.in_ok-take_fields_of.ensures in
-    let taken = line_taken Q n i.0 c.take_fields_of.new.self old new line behind (known i.0 i.1)
+    let known = rw c.if-not-branch.false at c.in_ok-apply_fields_of.ensures in
+    let taken = line_taken Q n i.0 c.apply_fields_of.new.self old new line behind (known i.0 i.1)
     (subst (λ ls. Continues Q n i.0 ls old)
     (ap (λ o. lines_left (option_copied o)) c.in-Some.is ∙ c.first_line.ensures.lines) i.2) in
     let left : bytes_left (option_copied c.first_line.result.1) ≤ length c.in-Some.rest.now =

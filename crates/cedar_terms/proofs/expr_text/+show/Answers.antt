@@ -4,8 +4,8 @@ use Rattle.cedar_terms.specs.ExprTexts.{expr_text, exprs_text, is_ascii_expr, ar
 use Rattle.cedar_terms.proofs.TextsJoined.{exprs-push, joined_step, left_at, done_at}
 use Rattle.cedar_terms.proofs.expr_text.+show.Goals as goal
 
-pub show_all-loop-expr-preserved : goal.show_all-loop-expr-preserved
-show_all-loop-expr-preserved g t c =
+pub write_all_exprs-loop-expr-preserved : goal.write_all_exprs-loop-expr-preserved
+write_all_exprs-loop-expr-preserved g t c =
     let xs = c.deref-expr-items.result.now in
     let i = c.loop-expr.expr-index in
     let x = c.expr-item.result in

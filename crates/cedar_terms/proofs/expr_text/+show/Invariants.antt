@@ -8,14 +8,14 @@ use Rattle.cedar_terms.proofs.expr_text.+show.Given as goal
 abbrev pub decreases-show : goal.decreases-show
 decreases-show g l = 3 * expr_size l.expr.now + 1
 
-abbrev pub decreases-show_operand : goal.decreases-show_operand
-decreases-show_operand g l = 3 * expr_size l.expr.now + 2
+abbrev pub decreases-write_operand : goal.decreases-write_operand
+decreases-write_operand g l = 3 * expr_size l.expr.now + 2
 
-abbrev pub decreases-show_all : goal.decreases-show_all
-decreases-show_all g l = 3 * exprs_size (expr_trees l.exprs.now.items) + 2
+abbrev pub decreases-write_all_exprs : goal.decreases-write_all_exprs
+decreases-write_all_exprs g l = 3 * exprs_size (expr_trees l.exprs.now.items) + 2
 
-abbrev pub invariant-show_all-loop-expr : goal.invariant-show_all-loop-expr
-invariant-show_all-loop-expr g l =
+abbrev pub invariant-write_all_exprs-loop-expr : goal.invariant-write_all_exprs-loop-expr
+invariant-write_all_exprs-loop-expr g l =
     (exprs_size (expr_trees (drop l.expr-index l.expr-items)) ≤ exprs_size (expr_trees l.exprs.items)) ×
     (l.before ≡ mark_after (take l.expr-index l.expr-items)) ×
     (are_ascii_exprs (expr_trees l.exprs.items) ≡ true

@@ -8,8 +8,8 @@ use Rattle.cedar_terms.proofs.TextsJoined.{field, is_ascii_field, Entry, values-
 use Rattle.cedar_terms.proofs.TextsJoined.{done_at, field_written}
 use Rattle.cedar_terms.proofs.value_text.+show.Goals as goal
 
-pub show_elements-loop-element-preserved : goal.show_elements-loop-element-preserved
-show_elements-loop-element-preserved g t c =
+pub write_elements-loop-element-preserved : goal.write_elements-loop-element-preserved
+write_elements-loop-element-preserved g t c =
     let xs = c.deref-element-items.result.now in
     let i = c.loop-element.element-index in
     let x = c.element-item.result in
@@ -24,11 +24,11 @@ show_elements-loop-element-preserved g t c =
     (λ p. c.in_ok-write_str.ensures.writes p (refl {a = true})) (λ a p. c.in_ok-show.ensures a p (refl {a = true})) in
     (omega (arith, ap (λ vs. values_size (value_trees vs)) left, c.loop-element.invariant.0), step.0, step.1, step.2)
 
-pub show_fields-loop-key-init : goal.show_fields-loop-key-init
-show_fields-loop-key-init g t c = ([], search rules, search rules, search rules, search rules, search rules)
+pub write_fields-loop-key-init : goal.write_fields-loop-key-init
+write_fields-loop-key-init g t c = ([], search rules, search rules, search rules, search rules, search rules)
 
-pub show_fields-loop-key-preserved : goal.show_fields-loop-key-preserved
-show_fields-loop-key-preserved g t c =
+pub write_fields-loop-key-preserved : goal.write_fields-loop-key-preserved
+write_fields-loop-key-preserved g t c =
     let done = c.loop-key.invariant.0 in
     let e : Entry = (c.in-Some.key.now, c.in-Some.value.now) in
     let left : c.loop-key.key-iterator ≡ e ∷ c.next.new.self = c.in-Some.ensures.steps in
@@ -39,8 +39,8 @@ show_fields-loop-key-preserved g t c =
     c.write_str.new.self c.show.new.f
     left refl c.loop-key.invariant.3 c.loop-key.invariant.4 c.loop-key.invariant.5
     (λ p. c.in_ok-write_str.ensures.writes p (refl {a = true}))
-    (field_written g.W.Write.write_str_gives (string_bytes e.0) e.1 c.write_str.new.self c.show_key.new.f c.show.new.f
-    (λ a p. (rw c.as_str.ensures.value at c.in_ok-show_key.ensures) a p refl)
+    (field_written g.W.Write.write_str_gives (string_bytes e.0) e.1 c.write_str.new.self c.write_key.new.f c.show.new.f
+    (λ a p. (rw c.as_str.ensures.value at c.in_ok-write_key.ensures) a p refl)
     (λ a p. c.in_ok-show.ensures a p (refl {a = true}))) in (
       done ++ e ∷ [],
       c.loop-key.invariant.1 ∙ ap (λ fs. done ++ fs) left ∙ sym (append_assoc done (e ∷ []) c.next.new.self),

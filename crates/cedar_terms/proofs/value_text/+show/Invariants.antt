@@ -10,14 +10,14 @@ use Rattle.cedar_terms.proofs.value_text.+show.Given as goal
 abbrev pub decreases-show : goal.decreases-show
 decreases-show g l = 3 * value_size l.value.now + 1
 
-abbrev pub decreases-show_elements : goal.decreases-show_elements
-decreases-show_elements g l = 3 * values_size (value_trees l.elements.now.items) + 2
+abbrev pub decreases-write_elements : goal.decreases-write_elements
+decreases-write_elements g l = 3 * values_size (value_trees l.elements.now.items) + 2
 
-abbrev pub decreases-show_fields : goal.decreases-show_fields
-decreases-show_fields g l = 3 * fields_size (field_trees l.fields.now.entries) + 2
+abbrev pub decreases-write_fields : goal.decreases-write_fields
+decreases-write_fields g l = 3 * fields_size (field_trees l.fields.now.entries) + 2
 
-abbrev pub invariant-show_elements-loop-element : goal.invariant-show_elements-loop-element
-invariant-show_elements-loop-element g l =
+abbrev pub invariant-write_elements-loop-element : goal.invariant-write_elements-loop-element
+invariant-write_elements-loop-element g l =
     (values_size (value_trees (drop l.element-index l.element-items)) ≤ values_size (value_trees l.elements.items)) ×
     (l.before ≡ mark_after (take l.element-index l.element-items)) ×
     (are_ascii_values (value_trees l.elements.items) ≡ true
@@ -26,8 +26,8 @@ invariant-show_elements-loop-element g l =
     → HasWritten g.W.Write.write_str_gives l.initial.f
     (values_text (value_trees (take l.element-index l.element-items))) l.f)
 
-abbrev pub invariant-show_fields-loop-key : goal.invariant-show_fields-loop-key
-invariant-show_fields-loop-key g l =
+abbrev pub invariant-write_fields-loop-key : goal.invariant-write_fields-loop-key
+invariant-write_fields-loop-key g l =
     (done : List (String Global × ValueTree)) ×
     (l.fields.entries ≡ done ++ l.key-iterator) ×
     (fields_size (field_trees l.key-iterator) ≤ fields_size (field_trees l.fields.entries)) ×

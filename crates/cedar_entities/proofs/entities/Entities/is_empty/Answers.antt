@@ -7,6 +7,6 @@ use Rattle.cedar_entities.proofs.entities.Entities.is_empty.Goals as goal
 
 pub returns : goal.returns
 returns g c = (
-  λ e. finmap.empty_of_len c.args.self.now.held (sym c.len.ensures.value ∙ eqb-true c.len.result 0 e),
+  λ e. finmap.empty_of_len c.args.self.now.entities (sym c.len.ensures.value ∙ eqb-true c.len.result 0 e),
   λ h. eq-eqb c.len.result 0 (c.len.ensures.value ∙ ap finmap.len h ∙ finmap.len-empty uid_order EntityView),
 )

@@ -5,4 +5,4 @@ use Rattle.cedar_entities.proofs.entities.Entities.iter.Goals as goal
 
 pub returns-clause-keyed : goal.returns-clause-keyed
 returns-clause-keyed g c =
-    subst IsKeyed (ap (λ (s : StoreView). s.held) c.self.view_is) (seen_keyed c.self.inside.entities c.self.invariant.0)
+    subst IsKeyed (ap (λ (s : StoreView). s.entities) c.self.view_is) (seen_keyed c.self.inside.entities c.self.invariant.0)

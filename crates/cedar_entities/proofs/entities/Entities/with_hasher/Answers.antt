@@ -1,7 +1,7 @@
 use Rattle.std.proofs.Common.{rules, sym, subst, false}
-use Rattle.cedar_entity_maps.specs.Plain.{Held, IsPlainStore}
-use Rattle.cedar_entity_maps.specs.World.{empty_world}
-use Rattle.cedar_entity_maps.specs.laws.Held.{held_map}
+use Rattle.cedar_entity_maps.specs.Plain.{EntityMap, IsPlainStore}
+use Rattle.cedar_entity_maps.specs.InputStore.{empty_input}
+use Rattle.cedar_entity_maps.specs.laws.EntityMap.{held_map}
 use Rattle.cedar_entity_maps.specs.laws.Indexes.{IsIndexOf}
 use Rattle.cedar_entities.proofs.Indexes.{plain_held}
 use Rattle.cedar_entities.proofs.StoreMaps.{seen_empty}
@@ -10,11 +10,11 @@ use Rattle.cedar_entities.proofs.entities.Entities.with_hasher.Goals as goal
 
 pub returns-clause-value : goal.returns-clause-value
 returns-clause-value g c =
-    λ i. record { held = seen_empty c.with_hasher.result c.with_hasher.ensures.empty i; partial = false }
+    λ i. record { entities = seen_empty c.with_hasher.result c.with_hasher.ensures.empty i; partial = false }
 
 pub returns-clause-plain : goal.returns-clause-plain
 returns-clause-plain g c =
-    subst (λ (h : Held). IsPlainStore empty_world (record { held = h; partial = false }))
+    subst (λ (h : EntityMap). IsPlainStore empty_input (record { entities = h; partial = false }))
     (sym (seen_empty c.with_hasher.result c.with_hasher.ensures.empty)) plain_empty
 
 pub invariant_of-result : goal.invariant_of-result
@@ -22,7 +22,7 @@ invariant_of-result g c = (
   search rules,
   subst (λ x. IsIndexOf x (held_map c.with_hasher.result)) (sym c.unlisted.ensures)
       (record {
-        plain = λ _. plain_held empty_world (record { held = held_map c.with_hasher.result; partial = false })
+        plain = λ _. plain_held empty_input (record { entities = held_map c.with_hasher.result; partial = false })
             (returns-clause-plain g c);
         children = tt;
       }),

@@ -1,6 +1,6 @@
 use Rattle.std.proofs.Common.{ap, sym, ◌∙◌, map, inl, inr}
 use Rattle.std.proofs.lemmas.Result.{IfOk-weaker}
-use Rattle.cedar_entity_maps.specs.laws.Held.{shared}
+use Rattle.cedar_entity_maps.specs.laws.EntityMap.{shared}
 use Rattle.cedar_entities.proofs.store_iters.IntoIterIterator.next.Goals as goal
 
 pub returns-clause-steps : goal.returns-clause-steps

@@ -11,8 +11,8 @@ use Rattle.cedar_entity_lines.proofs.machine.LineStore.anc.Goals as goal
 pub returns-in-None : goal.returns-in-None
 returns-in-None g c = on_ok_weaker c.push_line.result
     (λ text s h.
-    let held = subst (λ m. Holds m s) (sym c.self.view_is) h in
-    (written_line (codes "no entity"), shows_none s.world _ c.args.uid.now held.plain c.in-None.ensures.value, text))
+    let entity_at = subst (λ m. Holds m s) (sym c.self.view_is) h in
+    (written_line (codes "no entity"), shows_none s.input_store _ c.args.uid.now entity_at.plain c.in-None.ensures.value, text))
     c.push_line.ensures
 
 pub returns-in-Some : goal.returns-in-Some
@@ -24,10 +24,10 @@ returns-in-Some g c =
     let members = c.ancestors_in_order.ensures.members in
     on_ok_weaker c.push_ancestors.result
     (λ text s h.
-    let held = subst (λ m. Holds m s) (sym c.self.view_is) h in
-    let found = found_reach s.world _ c.args.uid.now e held.plain at in (
+    let entity_at = subst (λ m. Holds m s) (sym c.self.view_is) h in
+    let found = found_reach s.input_store _ c.args.uid.now e entity_at.plain at in (
       written_line (codes "anc" ++ flat_map field_of us),
-      shows_some s.world _ c.args.uid.now e us held.plain at ascend members,
-      text (found_ascii s.world c.args.uid.now e us found h.ascii_world members),
+      shows_some s.input_store _ c.args.uid.now e us entity_at.plain at ascend members,
+      text (found_ascii s.input_store c.args.uid.now e us found h.ascii_input members),
     ))
     c.push_ancestors.ensures

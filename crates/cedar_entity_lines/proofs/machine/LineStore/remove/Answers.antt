@@ -11,11 +11,11 @@ returns g c =
       waiting = entities_in c.self.inside.waiting.items;
       store = c.self.inside.store;
     } in
-    on_ok_weaker c.keep_and_tell.result
-    (λ k s h. remove_takes old c.keep_and_tell.new.self s c.args.uids.items c.replace-store.result
-    c.remove_entities-given.result c.args.out.now.items c.keep_and_tell.new.out.items
+    on_ok_weaker c.store_and_report.result
+    (λ k s h. remove_takes old c.store_and_report.new.self s c.args.uids.items c.replace-store.result
+    c.remove_entities-given.result c.args.out.now.items c.store_and_report.new.out.items
     (subst (λ m. Holds m s) (sym c.self.view_is) h)
     c.replace-store.ensures.value
-    c.keep_and_tell.ensures.waiting
+    c.store_and_report.ensures.waiting
     c.remove_entities-given.ensures.plain k)
-    c.keep_and_tell.ensures.tells
+    c.store_and_report.ensures.tells

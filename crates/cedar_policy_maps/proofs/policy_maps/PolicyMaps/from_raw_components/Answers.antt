@@ -9,9 +9,9 @@ use Rattle.cedar_policy_maps.proofs.policy_maps.PolicyMaps.from_raw_components.G
 pub invariant_of-result : goal.invariant_of-result
 invariant_of-result g c =
     raw_agree (maps_of c.args.templates.entries c.args.links.entries c.args.template_to_links_map.entries)
-    (lists_of c.keep_templates.new.map.entries)
+    (lists_of c.filter_templates.new.map.entries)
     (subst (IsDistinct same_text) (shared_keys c.args.templates.entries) c.len-bodies.ensures.unique)
     c.len-policies.ensures.unique
     (subst (All IsWhole) (c.as_slice.ensures ∙ c.values.ensures.rest) c.read_policies.ensures) c.requires
-    (lists_kept c.args.template_to_links_map.entries c.keep_templates.new.map.entries c.args.links.entries
-    c.requires.policies_by_id c.keep_templates.ensures)
+    (lists_kept c.args.template_to_links_map.entries c.filter_templates.new.map.entries c.args.links.entries
+    c.requires.policies_by_id c.filter_templates.ensures)

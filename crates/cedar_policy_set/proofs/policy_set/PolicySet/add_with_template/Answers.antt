@@ -5,16 +5,16 @@ use Rattle.cedar_ids.specs.Texts.{same_text}
 use Rattle.cedar_body.specs.Bodies.{BodyParts}
 use Rattle.cedar_policy.specs.Policies.{policy_id}
 use Rattle.cedar_policy_maps.specs.PolicySets.{SetParts, is_bound}
-use Rattle.cedar_policy_maps.specs.Joins.{CanJoinBoth}
+use Rattle.cedar_policy_maps.specs.Insertions.{CanInsertWithBody}
 use Rattle.cedar_policy_maps.specs.laws.SetLaws.{none_bound, can_join_both}
 use Rattle.cedar_policy_set.proofs.policy_set.PolicySet.add_with_template.Goals as goal
 use Rattle.cedar_policy_set.proofs.policy_set.PolicySet.add_with_template.Goals.{then-eq, else-eq}
 
-pub put_both-requires : goal.put_both-requires
-put_both-requires g c =
+pub insert_with_body-requires : goal.insert_with_body-requires
+insert_with_body-requires g c =
     let theirs : c.id-2.result.now ≡ c.args.policy.template.id = c.id-2.ensures
     ∙ ap (λ (t : BodyParts). t.id) c.template.ensures in
-    let can : CanJoinBoth c.args.self.now c.args.policy = elim c.if-eq.branch [
+    let can : CanInsertWithBody c.args.self.now c.args.policy = elim c.if-eq.branch [
       | then-eq w ↦ absurd (false≢true (sym c.if-is_taken.false ∙ w.is_taken-is ∙ w.if-eq.true))
       | else-eq w ↦
           let other : same_text (policy_id c.args.policy) c.args.policy.template.id ≡ false =
@@ -28,4 +28,4 @@ put_both-requires g c =
                 (record { exactly = c.env-total.ensures.total; action = c.env-total.ensures.action }),
           )
     ] in
-    subst (λ b. CanJoinBoth b c.args.policy) (sym c.self.view_is) can
+    subst (λ b. CanInsertWithBody b c.args.policy) (sym c.self.view_is) can

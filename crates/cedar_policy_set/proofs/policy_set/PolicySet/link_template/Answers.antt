@@ -2,7 +2,7 @@ use Rattle.std.proofs.Common.{refl, ap, sym, subst, ◌∙◌}
 use Rattle.std.proofs.lemmas.Result.{err_from_is_err_and}
 use Rattle.cedar_body.specs.Bodies.{body_slots}
 use Rattle.cedar_binding.specs.Views.{env_of}
-use Rattle.cedar_policy_set.specs.Refusals.{Steps, told_by_linking}
+use Rattle.cedar_policy_set.specs.Refusals.{Steps, linking_error_of}
 use Rattle.cedar_policy_set.specs.laws.Standing.{link_put}
 use Rattle.cedar_policy_set.specs.laws.StepLaws.{unfit_is_refused, fit_goes_on}
 use Rattle.cedar_policy_set.proofs.policy_set.PolicySet.link_template.Goals as goal
@@ -18,7 +18,7 @@ returns-in_err-policy g c =
 
 pub returns : goal.returns
 returns g c =
-    subst (λ s. Steps told_by_linking c.put_link.result c.args.self.now c.put_link.new.self s)
+    subst (λ s. Steps linking_error_of c.insert_link.result c.args.self.now c.insert_link.new.self s)
     (ap (link_put c.args.self.now) c.in_ok-policy.ensures.1
     ∙ sym (fit_goes_on (body_slots c.args.template.value) (env_of c.args.values) _ c.in_ok-policy.ensures.0))
-    c.put_link.ensures
+    c.insert_link.ensures

@@ -1,4 +1,0 @@
-use Rattle.cedar_apart.proofs.own_uids.known_type.Given as goal
-
-abbrev pub invariant-loop-known : goal.invariant-loop-known
-invariant-loop-known l = Unit {0}

@@ -1,6 +1,0 @@
-use Rattle.std.proofs.Common.{sym}
-use Rattle.cedar_terms.specs.laws.ExprLaws.{same_expr_decides}
-use Rattle.cedar_apart.proofs.values.expr_apart.Goals as goal
-
-pub returns-then-eq : goal.returns-then-eq
-returns-then-eq c = (same_expr_decides c.in-Ok.copy c.args.expr.now).0 (sym c.if-eq.ensures)

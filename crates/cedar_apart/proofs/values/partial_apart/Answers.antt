@@ -1,6 +1,0 @@
-use Rattle.std.proofs.Common.{sym}
-use Rattle.cedar_terms.specs.laws.PartialLaws.{same_partial_decides}
-use Rattle.cedar_apart.proofs.values.partial_apart.Goals as goal
-
-pub returns-then-eq : goal.returns-then-eq
-returns-then-eq c = (same_partial_decides c.in-Ok.copy c.args.partial.now).0 (sym c.if-eq.ensures)

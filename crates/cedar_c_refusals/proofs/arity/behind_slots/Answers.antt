@@ -1,8 +1,0 @@
-use Rattle.std.proofs.Common.{arith}
-use Rattle.cedar_c_refusals.proofs.Slots.{empty_further}
-use Rattle.cedar_c_refusals.proofs.arity.behind_slots.Goals as goal
-
-pub returns-then-is_empty-clause-behind : goal.returns-then-is_empty-clause-behind
-returns-then-is_empty-clause-behind c =
-    empty_further c.args.count c.loop.counter c.args.text.now c.loop.rest.now (omega arith) c.loop.invariant.0
-    c.if-is_empty.ensures

@@ -1,6 +1,0 @@
-use Rattle.std.proofs.Common.{◌≡◌, ◌≤◌, length}
-use Rattle.cedar_c_refusals.specs.laws.Scans.{after_uids}
-use Rattle.cedar_c_refusals.proofs.naming.behind_uids.Given as goal
-
-abbrev pub invariant-loop : goal.invariant-loop
-invariant-loop l = (l.rest ≡ after_uids l.counter l.text) × (length l.rest ≤ length l.text)

@@ -1,0 +1,22 @@
+use Rattle.std.proofs.Common.{◌∙◌}
+use Rattle.cedar_policy_set.specs.Refusals.{unlinking_error_of}
+use Rattle.cedar_policy_set.specs.Steps.{unlink_step}
+use Rattle.cedar_c_sets.proofs.Refusing.{kept_before, told_taking}
+use Rattle.cedar_c_sets.proofs.set_state.SetState.remove_link_by_id.Goals as goal
+
+pub returns-in-Err-clause-makes : goal.returns-in-Err-clause-makes
+returns-in-Err-clause-makes g c = (
+  c.refuse.ensures.set ∙ c.in-Err.ensures.taken.0,
+  told_taking (unlinking_error_of c.in-Err.error)
+      (unlink_step c.args.self.now.set c.args.id.now) c.args.self.now.set c.args.id.now c.by_unlinking.result
+      c.refuse.result c.args.self.now.refusal.items c.refuse.new.self.refusal.items
+      c.in-Err.ensures.taken.1 c.by_unlinking.ensures c.refuse.ensures.told,
+)
+
+pub returns-in-Err-clause-texts : goal.returns-in-Err-clause-texts
+returns-in-Err-clause-texts g c = (
+  c.refuse.ensures.answer,
+  c.refuse.ensures.nodes,
+  kept_before (unlinking_error_of c.in-Err.error) c.by_unlinking.result c.refuse.result c.args.self.now.refusal.items
+      c.refuse.new.self.refusal.items c.by_unlinking.ensures c.refuse.ensures.told,
+)

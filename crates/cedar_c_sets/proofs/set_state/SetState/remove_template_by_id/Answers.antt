@@ -1,0 +1,22 @@
+use Rattle.std.proofs.Common.{◌∙◌}
+use Rattle.cedar_policy_set.specs.Refusals.{template_removal_error_of}
+use Rattle.cedar_policy_set.specs.Steps.{remove_template_step}
+use Rattle.cedar_c_sets.proofs.Refusing.{kept_before, told_taking}
+use Rattle.cedar_c_sets.proofs.set_state.SetState.remove_template_by_id.Goals as goal
+
+pub returns-in-Err-clause-makes : goal.returns-in-Err-clause-makes
+returns-in-Err-clause-makes g c = (
+  c.refuse.ensures.set ∙ c.in-Err.ensures.0,
+  told_taking (template_removal_error_of c.in-Err.error)
+      (remove_template_step c.args.self.now.set c.args.id.now) c.args.self.now.set c.args.id.now
+      c.by_template_removal.result c.refuse.result c.args.self.now.refusal.items c.refuse.new.self.refusal.items
+      c.in-Err.ensures.1 c.by_template_removal.ensures c.refuse.ensures.told,
+)
+
+pub returns-in-Err-clause-texts : goal.returns-in-Err-clause-texts
+returns-in-Err-clause-texts g c = (
+  c.refuse.ensures.answer,
+  c.refuse.ensures.nodes,
+  kept_before (template_removal_error_of c.in-Err.error) c.by_template_removal.result c.refuse.result
+      c.args.self.now.refusal.items c.refuse.new.self.refusal.items c.by_template_removal.ensures c.refuse.ensures.told,
+)

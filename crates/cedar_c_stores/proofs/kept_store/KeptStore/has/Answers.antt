@@ -1,5 +1,0 @@
-use Rattle.std.proofs.Common.{ap, ◌∙◌, rules}
-use Rattle.cedar_c_stores.proofs.kept_store.KeptStore.has.Goals as goal
-
-pub returns-clause-asks : goal.returns-clause-asks
-returns-clause-asks g c = (c.in_ok-uid.uid, c.in_ok-uid.ensures, search rules)

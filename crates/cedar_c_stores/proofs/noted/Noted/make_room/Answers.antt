@@ -1,4 +1,0 @@
-use Rattle.cedar_c_stores.proofs.noted.Noted.make_room.Goals as goal
-
-pub returns-then-is_full : goal.returns-then-is_full
-returns-then-is_full g c S a = c.new.ensures S

@@ -1,0 +1,9 @@
+use Rattle.std.proofs.Common.{sym}
+use Rattle.cedar_c_stores.proofs.store_state.StoreState.tags_len.Goals as goal
+
+pub returns-clause-tells : goal.returns-clause-tells
+returns-clause-tells g c = (
+  c.in-Some.entity.now,
+  (c.in_ok-uid.uid, c.in_ok-uid.ensures, sym c.in-Some.ensures.value),
+  c.tags_len.ensures,
+)

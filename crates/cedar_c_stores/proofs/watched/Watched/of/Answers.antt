@@ -1,4 +1,0 @@
-use Rattle.cedar_c_stores.proofs.watched.Watched.of.Goals as goal
-
-pub invariant_of-result : goal.invariant_of-result
-invariant_of-result g c = (c.requires, c.new.ensures c.args.entities)

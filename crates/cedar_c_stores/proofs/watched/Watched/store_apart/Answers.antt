@@ -1,5 +1,0 @@
-use Rattle.cedar_c_stores.proofs.watched.Watched.store_apart.Goals as goal
-
-pub of-requires : goal.of-requires
-of-requires g c = λ h.
-    let p = c.self.invariant.0 h in (p.0, c.in_ok-entities.ensures.plain p.0 p.1)

@@ -1,5 +1,0 @@
-use Rattle.cedar_c_trees.proofs.Planned.{value_planned, expr_planned}
-use Rattle.cedar_c_trees.proofs.laws.what_is_read_is_planned.Goals as goal
-
-pub returns : goal.returns
-returns c = record { value = value_planned; expr = expr_planned }

@@ -1,5 +1,0 @@
-use Rattle.cedar_c_trees.proofs.SameItem.{notes_said}
-use Rattle.cedar_c_trees.proofs.write_laws.written_nodes_say.Goals as goal
-
-pub returns : goal.returns
-returns c = λ is w a h. notes_said w.bytes w.nodes is a h

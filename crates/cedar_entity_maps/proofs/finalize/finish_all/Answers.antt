@@ -1,0 +1,23 @@
+use Rattle.std.proofs.lemmas.Bool.{not-false, not-true}
+use Rattle.cedar_entity_maps.specs.laws.EntityMap.{held_map}
+use Rattle.cedar_entity_maps.proofs.EditEnds.{ends_refused, ends_repaired, ends_taken}
+use Rattle.cedar_entity_maps.proofs.finalize.finish_all.Goals as goal
+
+pub returns-then-not-row-clause-ends : goal.returns-then-not-row-clause-ends
+returns-then-not-row-clause-ends g c affected all =
+    ends_taken c.args.row affected (held_map c.args.entities.now)
+    c.check_if.result (not-true c.args.row.repairs c.if-not-row.true) c.check_if.ensures.ok c.check_if.ensures.err
+
+pub returns-in_err-repair_all-clause-ends : goal.returns-in_err-repair_all-clause-ends
+returns-in_err-repair_all-clause-ends g c affected all =
+    ends_refused c.args.row affected (held_map c.args.entities.now) _
+    (held_map c.repair_all.new.entities) _ c.in_err-repair_all.field-0.0
+    (not-false c.args.row.repairs c.if-not-row.false) c.from_residual.ensures.1
+    (c.in_err-repair_all.ensures.ends affected all)
+
+pub returns-clause-ends : goal.returns-clause-ends
+returns-clause-ends g c affected all =
+    ends_repaired c.args.row affected (held_map c.args.entities.now)
+    (held_map c.repair_all.new.entities) c.check_if-2.result _ (not-false c.args.row.repairs c.if-not-row.false)
+    (c.in_ok-repair_all.ensures.ends affected all)
+    c.check_if-2.ensures.ok c.check_if-2.ensures.err

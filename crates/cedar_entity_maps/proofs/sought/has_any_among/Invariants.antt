@@ -1,8 +1,0 @@
-use Rattle.std.proofs.Common.{◌≡◌, false, map}
-use Rattle.std.specs.HashSet.{contains}
-use Rattle.std.specs.List.{list_any}
-use Rattle.cedar_ids.specs.UidOf.{same_uid}
-use Rattle.cedar_entity_maps.proofs.sought.has_any_among.Given as goal
-
-abbrev pub invariant-loop-uid : goal.invariant-loop-uid
-invariant-loop-uid g l = list_any (contains same_uid l.uids) (map (λ x. x.now) l.yielded) ≡ false

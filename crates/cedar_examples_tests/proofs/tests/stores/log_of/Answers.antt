@@ -1,0 +1,7 @@
+use Rattle.std.proofs.Common.{sym, subst}
+use Rattle.std.specs.List.{AllByRecursion}
+use Rattle.cedar_replay.specs.CallsOf.{EntitiesHaveNoIndirect}
+use Rattle.cedar_examples_tests.proofs.tests.stores.log_of.Goals as goal
+
+pub loop-text-init : goal.loop-text-init
+loop-text-init c = subst (AllByRecursion EntitiesHaveNoIndirect) (sym c.new-list.ensures.items) tt

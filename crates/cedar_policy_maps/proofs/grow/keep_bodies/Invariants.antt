@@ -1,6 +1,0 @@
-use Rattle.std.proofs.Common.{◌≡◌}
-use Rattle.cedar_policy_maps.specs.Maps.{shared_of}
-use Rattle.cedar_policy_maps.proofs.grow.keep_bodies.Given as goal
-
-abbrev pub invariant-loop-template : goal.invariant-loop-template
-invariant-loop-template g l = shared_of l.templates.entries ≡ shared_of l.initial.templates.entries

@@ -1,0 +1,140 @@
+//! Lookups of bodies and policies in order. A lookup first tries the place after the last one found, because two sets
+//! mostly have the same order.
+ghost use Rattle.std.specs.Prelude.{◌≡◌, ◌<◌, IfSome, Some, length, is_some, slice_get};
+ghost use Rattle.std.specs.List.{find, list_any};
+ghost use Rattle.std.specs.Option.{option_copied};
+ghost use Rattle.cedar_body.specs.Bodies.{BodyParts};
+ghost use Rattle.cedar_policy_maps.specs.PolicySets.{AreOnce, is_body_at, is_policy_at};
+ghost use Rattle.cedar_policy_maps.specs.Views.{bodies_of};
+
+use cedar_ids::policy_id::PolicyID;
+use cedar_policy::{Policy, Template};
+use cedar_policy_maps::PolicyMaps;
+use std::hash::BuildHasher;
+use std::rc::Rc;
+
+// The places to try first: for a body and a policy of this set, and for a policy of the other set.
+#[derive(Drop)]
+pub(crate) struct Places {
+    pub(crate) body: usize,
+    pub(crate) policy: usize,
+    pub(crate) other: usize,
+}
+
+// Returns the body with this id, and advances the place by one if a body is found.
+pub(crate) fn body_at<'a, S: BuildHasher + Copy>(
+    maps: &'a PolicyMaps<S>,
+    id: &PolicyID,
+    next: &mut usize,
+) -> Option<&'a Template>
+    ensures { option_copied result ≡ find (is_body_at id.now) maps.now.bodies }
+{
+    // No effect at run time: this call shows the prover that the maps satisfy the invariant of a policy set.
+    let _policy_set = maps.is_empty();
+    let bodies = maps.shared_bodies();
+    let place = *next;
+    if place < bodies.len() {
+        let template = &bodies[place];
+        if template.id() == id {
+            *next = place + 1;
+            return Some(&**template);
+        }
+    }
+    match maps.template_at(id) {
+        None => None,
+        Some(template) => {
+            if place < bodies.len() {
+                *next = place + 1;
+            }
+            Some(template)
+        }
+    }
+}
+
+// Returns whether a body has this id, and advances the place by one if so.
+#[tactic(auto, using(crate::specs::laws::LookedAtLaws::found_any))]
+pub(crate) fn has_body<S: BuildHasher + Copy>(
+    maps: &PolicyMaps<S>,
+    id: &PolicyID,
+    next: &mut usize,
+) -> bool
+    ensures { result ≡ list_any (is_body_at id.now) maps.now.bodies }
+{
+    body_at(maps, id, next).is_some()
+}
+
+// Returns the policy with this id, and moves the place behind it.
+pub(crate) fn policy_at<'a, S: BuildHasher + Copy>(
+    maps: &'a PolicyMaps<S>,
+    id: &PolicyID,
+    next: &mut usize,
+) -> Option<&'a Policy>
+    ensures { option_copied result ≡ find (is_policy_at id.now) maps.now.policies }
+{
+    match place_of_policy(maps, id, next) {
+        None => None,
+        Some(place) => Some(&maps.all_policies()[place]),
+    }
+}
+
+// Returns whether a policy has this id, and moves the place behind it.
+#[tactic(auto, using(crate::specs::laws::LookedAtLaws::found_any))]
+pub(crate) fn has_policy<S: BuildHasher + Copy>(
+    maps: &PolicyMaps<S>,
+    id: &PolicyID,
+    next: &mut usize,
+) -> bool
+    ensures { result ≡ list_any (is_policy_at id.now) maps.now.policies }
+{
+    place_of_policy(maps, id, next).is_some()
+}
+
+// Returns the place of the policy with this id, and moves the place to try behind it.
+pub(crate) fn place_of_policy<S: BuildHasher + Copy>(
+    maps: &PolicyMaps<S>,
+    id: &PolicyID,
+    next: &mut usize,
+) -> Option<usize>
+    ensures within { IfSome result (λ k. k < length maps.now.policies) }
+    ensures found { is_some result ≡ is_some (find (is_policy_at id.now) maps.now.policies) }
+    ensures policy { IfSome result (λ k. slice_get maps.now.policies k
+        ≡ find (is_policy_at id.now) maps.now.policies) }
+{
+    // No effect at run time: this call shows the prover that the maps satisfy the invariant of a policy set.
+    let _policy_set = maps.is_empty();
+    let policies = maps.all_policies();
+    let place = *next;
+    if place < policies.len() {
+        let policy = &policies[place];
+        if policy.id() == id {
+            *next = place + 1;
+            return Some(place);
+        }
+    }
+    match maps.place_of_policy(id) {
+        None => None,
+        Some(place) => {
+            *next = place + 1;
+            Some(place)
+        }
+    }
+}
+
+// Returns the new body with this id, if it is at the place to try or after it. Moves the place behind it.
+pub(crate) fn new_body_at<'a>(
+    joined: &'a [Rc<Template>],
+    id: &PolicyID,
+    next: &mut usize,
+) -> Option<&'a Rc<Template>>
+    requires { AreOnce (λ (t : BodyParts). t.id) (bodies_of joined.now) }
+    ensures { IfSome result (λ t. find (is_body_at id.now) (bodies_of joined.now) ≡ Some t.now.value) }
+{
+    while *next < joined.len() {
+        let template = &joined[*next];
+        *next += 1;
+        if template.id() == id {
+            return Some(template);
+        }
+    }
+    None
+}

@@ -1,7 +1,0 @@
-use Rattle.std.proofs.Common.{sym, subst}
-use Rattle.std.specs.List.{AllByRecursion}
-use Rattle.cedar_replay.specs.CallsOf.{HasBareEntities}
-use Rattle.cedar_refused_store_tests.proofs.tests.replays.calls_of.Goals as goal
-
-pub loop-text-init : goal.loop-text-init
-loop-text-init c = subst (AllByRecursion HasBareEntities) (sym c.new-list.ensures.items) tt

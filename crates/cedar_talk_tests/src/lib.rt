@@ -1,5 +1,0 @@
-//! The tests of `cedar_talk`: conversations over readers and writers that fail at each of their calls.
-#![tactic(auto)]
-
-#[cfg(test)]
-mod tests;

@@ -1,5 +1,0 @@
-use Rattle.std.proofs.Common.{◌≡◌, ◌++◌, map}
-use Rattle.cedar_trial_edits.proofs.asked.push_parents.Given as goal
-
-abbrev pub invariant-loop-parent : goal.invariant-loop-parent
-invariant-loop-parent l = l.uids.items ≡ l.initial.uids.items ++ map (λ x. x.now) l.yielded

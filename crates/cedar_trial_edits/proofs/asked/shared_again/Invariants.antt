@@ -1,6 +1,0 @@
-use Rattle.std.proofs.Common.{◌≡◌, take}
-use Rattle.cedar_entity_maps.specs.Plain.{entities_in}
-use Rattle.cedar_trial_edits.proofs.asked.shared_again.Given as goal
-
-abbrev pub invariant-loop-entity : goal.invariant-loop-entity
-invariant-loop-entity l = entities_in l.copies.items ≡ entities_in (take l.entity-index l.list)
