@@ -1,9 +1,9 @@
 //! Tests with injected allocation failures, one failure after another.
 //!
 //! A test controls a failure injector in front of the C library's heap, if there is one: `tools/fail_alloc.c`, which
-//! `./alloc-failures` loads. A request for a block of an impossible size is a command to the injector. Without an injector such
-//! requests just fail, so each call runs once, with enough memory. The injector counts the allocated blocks. After each
-//! run of a call the count must be the same as before.
+//! `tools/alloc-failures` loads. A request for a block of an impossible size is a command to the injector. Without an
+//! injector such requests just fail, so each call runs once, with enough memory. The injector counts the allocated
+//! blocks. After each run of a call the count must be the same as before.
 //!
 //! Test cases are lines with three parts, separated by ` | `: the call, its arguments, and its result with enough
 //! memory.

@@ -89,11 +89,11 @@ IsErrorTextBy e w text = (w ≡ reasons.NoMemory) ⊎ ((w ≡ reason_of e) × Is
 
 -- The empty store.
 abbrev pub empty_store : StoreView
-empty_store = record { entities = no_entities; partial = false }
+empty_store = record { entities = no_entities; partial = false; known_plain = true }
 
 -- The empty store that is partial exactly if S is.
 abbrev pub emptied : StoreView → StoreView
-emptied S = record { entities = no_entities; partial = S.partial }
+emptied S = record { entities = no_entities; partial = S.partial; known_plain = true }
 
 -- Holds if `answer`, the nodes and the numbers are unchanged. The text of the last error may change only if the call
 -- returned an error other than `NoMemory`.
@@ -273,7 +273,7 @@ IsUntold k = (k.answer ≡ []) × (k.refusal.items ≡ []) × (k.nodes.items ≡
 
 -- Holds if N is the slice of the store S at the uids U. The slice of a plain store is plain.
 pub record IsSlice (U : List EntityUID) (S N : StoreView) : Type 0 where
-  pub entities : N ≡ record { entities = sliced S.entities U; partial = false }
+  pub entities : N ≡ record { entities = sliced S.entities U; partial = false; known_plain = S.known_plain }
   pub plain : (W : InputStore) → IsPlainStore W S → IsPlainSlice W U N
 
 -- Holds for a call that returns the slice of the store S at the uids in parts of a text, with an empty state. It returns

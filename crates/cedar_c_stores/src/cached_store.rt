@@ -82,7 +82,7 @@ impl<S: BuildHasher + Copy> CachedStore<S> {
 
     // Returns the store with the same entities, now partial. A plain store stays plain.
     pub(crate) fn partial(self) -> CachedStore<S>
-        ensures value { result ≡ record { entities = self.entities; partial = true } }
+        ensures value { result ≡ record self { partial = true } }
         ensures plain { (W : InputStore) → IsPlainStore W self →
             IsPlainStore (record W { partial = true }) result }
     {
@@ -170,6 +170,7 @@ impl<S: BuildHasher + Copy> CachedStore<S> {
         ensures entities { IfOk result (λ s. s ≡ record {
           entities = sliced self.now.entities uids.now;
           partial = false;
+          known_plain = self.now.known_plain;
         }) }
         ensures plain { IfOk result (λ s. (W : InputStore) → IsPlainStore W self.now →
             IsPlainSlice W uids.now s) }

@@ -23,13 +23,18 @@ first_alone L =
 
 -- A store made from all entities of an entity map has that entity map.
 pub holds_all : (D : EntityMap) (es copies : List EntityView) (s : StoreView) → ListsEntityMap D es → copies ≡ es
-    → s.partial ≡ false → s.entities ≡ with_first no_entities copies → s ≡ record { entities = D; partial = false }
-holds_all D es copies s lists same flag entity_at =
-    let is : s.entities ≡ D = entity_at ∙ ap (with_first no_entities) same ∙ first_alone es ∙ lists.entities in
-    λ i. record { entities = is i; partial = flag i }
+    → s.entities ≡ with_first no_entities copies → s.entities ≡ D
+holds_all D es copies s lists same is = is ∙ ap (with_first no_entities) same ∙ first_alone es ∙ lists.entities
 
--- With the same partial flag, it is equal to the other store.
-pub as_partial : (whole entity_at copy : StoreView) → entity_at ≡ record { entities = whole.entities; partial = false }
-    → copy ≡ record { entities = entity_at.entities; partial = whole.partial } → copy ≡ whole
-as_partial whole entity_at copy is flagged =
-    flagged ∙ ap (λ (s : StoreView). record { entities = s.entities; partial = whole.partial }) is
+-- With the same partial flag, it differs from the other store only in what it knows.
+pub as_partial : (whole copied copy : StoreView) → copied.entities ≡ whole.entities
+    → copy ≡ record copied { partial = whole.partial } → copy ≡ record whole { known_plain = copied.known_plain }
+as_partial whole copied copy is flagged =
+    flagged ∙ λ i. record { entities = is i; partial = whole.partial; known_plain = copied.known_plain }
+
+-- If it knows the same, it is equal to the other store.
+pub as_known : (whole copied copy known : StoreView) → copied.entities ≡ whole.entities
+    → copy ≡ record copied { partial = whole.partial } → known ≡ record copy { known_plain = whole.known_plain }
+    → known ≡ whole
+as_known whole copied copy known is flagged knows =
+    knows ∙ ap (λ (s : StoreView). record s { known_plain = whole.known_plain }) (as_partial whole copied copy is flagged)

@@ -1,8 +1,7 @@
 //! Deep copies of entities and stores. A copy shares nothing with its source, so it can be sent to another thread.
 //!
-//! Each copy is equal to its source, and the copy of a plain store of an input store is a plain store of that input
-//! store. Both facts are proved. No contract describes whether the copy knows that it is plain. That fact affects only
-//! the cost of edits of the copy.
+//! Each copy is equal to its source. The copy of the plain store of an input store is the plain store of that input
+//! store, and the copy of a store that is known to be plain is known to be plain. These facts are proved.
 #![tactic(auto, using(cedar_ids::specs::laws::UidOfLaws::same_uid_decides))]
 
 pub mod entity;

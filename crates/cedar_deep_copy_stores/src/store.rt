@@ -31,7 +31,8 @@ fn deep_copy_map<S: BuildHasher + Clone>(
     alloc: Global,
     store: &Entities<S>,
 ) -> Result<Entities<S>, AllocError>
-    ensures { IfOk result (λ s. s ≡ record { entities = store.now.entities; partial = false }) }
+    ensures entities { IfOk result (λ s. s.entities ≡ store.now.entities) }
+    ensures partial { IfOk result (λ s. s.partial ≡ false) }
 {
     let mut own = CopiedUids::new(alloc, store.hasher().clone()?);
     let list = deep_copy_all(alloc, &mut own, store.iter())?;
@@ -46,7 +47,7 @@ fn deep_copy_map<S: BuildHasher + Clone>(
 // Returns the store with the same entities, partial exactly if `other` is.
 fn partial_as<S: BuildHasher + Clone>(store: Entities<S>, other: &Entities<S>) -> Entities<S>
     requires { store.partial ≡ false }
-    ensures { result ≡ record { entities = store.entities; partial = other.now.partial } }
+    ensures { result ≡ record store { partial = other.now.partial } }
 {
     if other.is_partial() {
         store.partial()

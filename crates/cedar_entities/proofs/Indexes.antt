@@ -115,10 +115,10 @@ pub plain_over : (D : EntityMap) → IsPlainHeld D → (L : List EntityView) →
     → (N : EntityMap) → IsEnded row (is_affected D (uids_of L)) (overwrite D L) N → IsPlainHeld N
 plain_over D entity_at L bare row now N s =
     let W = entity_at.0 in
-    let S : StoreView = record { entities = N; partial = W.partial } in (
+    let S : StoreView = record { entities = N; partial = W.partial; known_plain = true } in (
       overwritten W (map input_of L),
       where_asked (computes row) (IsPlainStore (overwritten W (map input_of L)) S) now
-          (over_plain W (record { entities = D; partial = W.partial }) L entity_at.1 bare row S refl s),
+          (over_plain W (record { entities = D; partial = W.partial; known_plain = true }) L entity_at.1 bare row S refl s),
     )
 
 -- The same for an addition.
@@ -126,10 +126,10 @@ pub plain_in : (D : EntityMap) → IsPlainHeld D → (L : List EntityView) → H
     → (N : EntityMap) → IsEnded row (is_affected D (inserted_in D L)) (with_first D L) N → IsPlainHeld N
 plain_in D entity_at L bare row now N s =
     let W = entity_at.0 in
-    let S : StoreView = record { entities = N; partial = W.partial } in (
+    let S : StoreView = record { entities = N; partial = W.partial; known_plain = true } in (
       added W (map input_of L),
       where_asked (computes row) (IsPlainStore (added W (map input_of L)) S) now
-          (settled_plain W (record { entities = D; partial = W.partial }) L entity_at.1 bare row S refl s),
+          (settled_plain W (record { entities = D; partial = W.partial; known_plain = true }) L entity_at.1 bare row S refl s),
     )
 
 -- The same for a removal, in every mode.
@@ -138,8 +138,8 @@ pub plain_out : (D : EntityMap) → IsPlainHeld D → (U : List EntityUID) (row 
 plain_out D entity_at U row N s =
     let W = entity_at.0 in (
       deleted W U,
-      mended_plain W (record { entities = D; partial = W.partial }) U entity_at.1 row
-          (record { entities = N; partial = W.partial }) refl s,
+      mended_plain W (record { entities = D; partial = W.partial; known_plain = true }) U entity_at.1 row
+          (record { entities = N; partial = W.partial; known_plain = true }) refl s,
     )
 
 -- A store is plain whether it is partial or not.

@@ -115,8 +115,8 @@ no_path : (xs : List EntityUID) (a b : EntityUID) → Path (graph empty_input) a
 no_path xs a b p =
     false≢true (sym (ap is_some (finmap.get-empty {X = Parts} uid_order a)) ∙ first_key empty_input a b xs p)
 
-pub plain_empty : IsPlainStore empty_input (record { entities = finmap.empty; partial = false })
-plain_empty =
+pub plain_empty : (k : Bool) → IsPlainStore empty_input (record { entities = finmap.empty; partial = false; known_plain = k })
+plain_empty k =
     let none = λ (q : EntityUID). finmap.get-empty {X = EntityView} uid_order q in
     record {
       partial = refl;

@@ -130,8 +130,8 @@ module _ (W : InputStore) (S : StoreView) (U : List EntityUID) (plain : IsPlainS
   not_refused : (row : EditRules) (t : TcError EntityUID)
       → IsEndError (with_repair row) (is_affected S.entities (removed_from S.entities U)) (removed_all S.entities U) t → ⊥
   not_refused row t = never_refused row (is_affected S.entities (removed_from S.entities U)) (removed_all S.entities U) t (no_cycle t)
-      (λ N r h. sound_passes N (plain_sound (deleted W U) (record { entities = N; partial = S.partial })
-      (left_plain (record { entities = N; partial = S.partial }) refl r)) t h)
+      (λ N r h. sound_passes N (plain_sound (deleted W U) (record { entities = N; partial = S.partial; known_plain = true })
+      (left_plain (record { entities = N; partial = S.partial; known_plain = true }) refl r)) t h)
 
   pub left_refused : (row : EditRules) (e : EntitiesError)
       → MatchError e (λ _. ⊥)

@@ -1,5 +1,5 @@
 //! Constructors of stores with the default hasher builder.
-ghost use Rattle.std.specs.Prelude.{◌≡◌, false, map, IfOk};
+ghost use Rattle.std.specs.Prelude.{◌≡◌, false, true, map, IfOk};
 ghost use Rattle.std.specs.FinMap as finmap;
 ghost use Rattle.cedar_entities.specs.Changes.{AddsEntities, AddsPlain};
 ghost use Rattle.cedar_entity_maps.specs.Plain.{IsPlainStore, HaveNoIndirect, input_of, no_entities};
@@ -15,7 +15,7 @@ use std::hash::BuildHasherDefault;
 impl Entities {
     /// Creates a store without entities, not partial. Does not allocate.
     pub fn new(alloc: Global) -> Entities
-        ensures value { result ≡ record { entities = finmap.empty; partial = false } }
+        ensures value { result ≡ record { entities = finmap.empty; partial = false; known_plain = true } }
         ensures plain { IsPlainStore empty_input result }
     {
         Entities::with_hasher(alloc, BuildHasherDefault::new())

@@ -84,7 +84,11 @@ impl<S: BuildHasher> Model for Entities<S> {
 
     ghost coded = { store_code };
 
-    ghost view = { λ s. record { entities = held_map s.entities; partial = s.partial } };
+    ghost view = { λ s. record {
+      entities = held_map s.entities;
+      partial = s.partial;
+      known_plain = s.index.plain;
+    } };
 
     ghost invariant = { λ s. UidsMatch s.entities × IsIndexOf s.index (held_map s.entities) };
 }
@@ -243,7 +247,7 @@ impl<S: BuildHasher + Clone> Entities<S> {
     ///
     /// The original has a fixed hasher.
     pub fn with_hasher(alloc: Global, hasher: S) -> Entities<S>
-        ensures value { result ≡ record { entities = finmap.empty; partial = false } }
+        ensures value { result ≡ record { entities = finmap.empty; partial = false; known_plain = true } }
         ensures plain { IsPlainStore empty_input result }
     {
         Entities {
@@ -260,7 +264,7 @@ impl<S: BuildHasher + Clone> Entities<S> {
 
     /// Returns the store with the same entities, now partial. Does not allocate.
     pub fn partial(self) -> Entities<S>
-        ensures value { result ≡ record { entities = self.entities; partial = true } }
+        ensures value { result ≡ record self { partial = true } }
         ensures plain { (W : InputStore) → IsPlainStore W self →
             IsPlainStore (record W { partial = true }) result }
     {
@@ -280,7 +284,7 @@ impl<S: BuildHasher + Clone> Entities<S> {
     /// The original has no such function.
     pub fn known_plain_with(self, other: &Entities<S>) -> Entities<S>
         requires { (W : InputStore) → IsPlainStore W other.now → (V : InputStore) × IsPlainStore V self }
-        ensures { result ≡ self }
+        ensures { result ≡ record self { known_plain = other.now.known_plain } }
     {
         Entities {
             entities: self.entities,

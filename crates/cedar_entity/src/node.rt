@@ -36,7 +36,7 @@ impl TCNode<EntityUID> for Entity {
 
     ghost Rest = { Rest };
 
-    ghost UnchangedParts = { UnchangedParts };
+    ghost Kept = { UnchangedParts };
 
     ghost key = { λ e. e.uid };
 
@@ -46,7 +46,7 @@ impl TCNode<EntityUID> for Entity {
 
     ghost rest = { rest };
 
-    ghost unchanged_parts = { unchanged_parts };
+    ghost kept = { unchanged_parts };
 
     /// Returns a copy of the uid.
     ///
@@ -126,7 +126,7 @@ impl TCNode<EntityUID> for SharedEntity {
 
     ghost Rest = { Rest };
 
-    ghost UnchangedParts = { UnchangedParts };
+    ghost Kept = { UnchangedParts };
 
     ghost key = { λ n. n.0.value.uid };
 
@@ -136,7 +136,7 @@ impl TCNode<EntityUID> for SharedEntity {
 
     ghost rest = { λ n. rest n.0.value };
 
-    ghost unchanged_parts = { λ n. unchanged_parts n.0.value };
+    ghost kept = { λ n. unchanged_parts n.0.value };
 
     /// Returns a copy of the uid.
     ///

@@ -107,7 +107,7 @@ impl TCNode<SharedUid> for SharedEntity {
 
     ghost Rest = { Rest };
 
-    ghost UnchangedParts = { UnchangedParts };
+    ghost Kept = { UnchangedParts };
 
     ghost key = { λ n. n.0.value.uid };
 
@@ -117,7 +117,7 @@ impl TCNode<SharedUid> for SharedEntity {
 
     ghost rest = { λ n. rest n.0.value };
 
-    ghost unchanged_parts = { λ n. unchanged_parts n.0.value };
+    ghost kept = { λ n. unchanged_parts n.0.value };
 
     /// Returns a copy of the uid, as a shared uid.
     ///

@@ -67,7 +67,7 @@ below_touched D entity_at child is A seen all q = same_bool (seen q) (is_affecte
     W = entity_at.0
 
     plain : (a b : EntityUID) → (ancestry D a b ≡ true) ↔ Reach (graph W) a b
-    plain = ancestry_plain W (record { entities = D; partial = W.partial }) entity_at.1
+    plain = ancestry_plain W (record { entities = D; partial = W.partial; known_plain = true }) entity_at.1
 
     same : (λ a b. child b a) ≡ graph W
     same = λ i a b. (is b a ∙ sym (parent_held (finmap.get D a) b) ∙ ap (λ o. is_parent_in o b) (entity_at.1.holds a)) i

@@ -20,10 +20,16 @@ EntityMap = finmap.FinMap uid_order EntityView
 abbrev pub no_entities : EntityMap
 no_entities = finmap.empty
 
--- A store as contracts describe it: its entity map, and whether it is partial.
+-- A store as contracts describe it.
+--
+-- - `entities`: its entity map.
+-- - `partial`: whether it is partial.
+-- - `known_plain`: whether it knows that it is the plain store of some input store. Its edits then cost less. This field
+--   does not affect any result.
 pub record StoreView : Type 0 where
   pub entities : EntityMap
   pub partial : Bool
+  pub known_plain : Bool
 
 -- The entities of a list of shared entities.
 abbrev pub entities_in : List (Rc EntityView Global) → List EntityView

@@ -6,7 +6,7 @@
 //! - merge another policy set
 //! - replay a list of calls
 //!
-//! Each has a clause that states the fact that its caller needs. They are examples, quoted in `docs/CALLING.md`, and
+//! Each has a clause that states the fact that its caller needs. They are examples, quoted in `docs/GUIDE.md`, and
 //! not part of the layer.
 #![tactic(auto, using(cedar_ids::specs::laws::UidOfLaws::same_uid_decides))]
 

@@ -13,7 +13,7 @@ use Rattle.cedar_entity.specs.View.{has_ancestor}
 use Rattle.cedar_entity_maps.specs.Modes.{ancestry}
 use Rattle.cedar_entity_maps.specs.Plain.{StoreView, IsPlainStore, HasDisjointParents, parts_of}
 use Rattle.cedar_entity_maps.specs.InputStore.{InputStore, graph, is_parent_in}
-use Rattle.cedar_entity_maps.specs.laws.PlainAncestors.{ancestry_plain, first_key}
+use Rattle.cedar_entity_maps.specs.laws.PlainAncestors.{ancestry_plain, first_key, plain_as}
 use Rattle.cedar_slice.specs.Slices.{is_wanted, sliced, part_of, IsWanted, IsPlainSlice, IsPartWith}
 use Rattle.cedar_slice.specs.laws.OneSlice.{part_edges, wanted_by}
 
@@ -83,8 +83,9 @@ module _ (W : InputStore) (S : StoreView) (plain : IsPlainStore W S) where
     get_sliced : (q : EntityUID) → finmap.get (sliced S.entities U) q ≡ cond (test q) (finmap.get S.entities q) None
     get_sliced q = get_kept S.entities test q
 
-    is_plain_part : IsPlainStore part (record { entities = sliced S.entities U; partial = false })
-    is_plain_part = record {
+    is_plain_part : (k : Bool)
+        → IsPlainStore part (record { entities = sliced S.entities U; partial = false; known_plain = k })
+    is_plain_part k = record {
       partial = refl;
       holds = λ q. ap (option_map parts_of) (get_sliced q) ∙ map_cond parts_of (test q) (finmap.get S.entities q)
           ∙ ap (λ o. cond (test q) o None) (plain.holds q) ∙ sym (get_part q);
@@ -105,12 +106,15 @@ module _ (W : InputStore) (S : StoreView) (plain : IsPlainStore W S) where
     }
 
     -- The slice of the plain store of an input store is the plain store of its slice.
-    pub plain_slice : IsPlainSlice W U (record { entities = sliced S.entities U; partial = false })
-    plain_slice =
+    pub plain_slice : (N : StoreView) → N.entities ≡ sliced S.entities U → N.partial ≡ false → IsPlainSlice W U N
+    plain_slice N is flag =
         record {
           input_store = part;
           is_slice = record { test = test; passes = wanted_iff; entries = refl };
-          is_plain = is_plain_part;
+          is_plain =
+              subst (IsPlainStore part)
+              (sym (λ i. record { entities = is i; partial = flag i; known_plain = N.known_plain }))
+              (is_plain_part N.known_plain);
         }
 
     module _ (V : InputStore) (has : IsPartWith W U V) where
@@ -135,3 +139,12 @@ module _ (W : InputStore) (S : StoreView) (plain : IsPlainStore W S) where
           let k = some_kept (test q) (finmap.get S.entities q) (sym (ap is_some (get_sliced q)) ∙ h) in
           wanted_there q ((wanted_iff q).0 k.0) (sym (ap is_some (plain.holds q))
           ∙ some_mapped parts_of (finmap.get S.entities q) ∙ k.1)
+
+-- What a store knows does not matter for whether it is a slice.
+pub known_as : (W : InputStore) (U : List EntityUID) (S : StoreView) (k : Bool) → IsPlainSlice W U S
+    → IsPlainSlice W U (record S { known_plain = k })
+known_as W U S k p = record {
+  input_store = p.input_store;
+  is_slice = p.is_slice;
+  is_plain = plain_as p.input_store S k p.is_plain;
+}

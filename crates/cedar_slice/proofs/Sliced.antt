@@ -28,12 +28,10 @@ module _ (D : EntityMap) (ks : List EntityUID) (keyed : AreKeyed D ks) (L : List
   pub holds_slice : (U : List EntityUID) → ((q : EntityUID) → is_member same_uid ks q ≡ is_wanted D U q)
       → (r : Result StoreView EntitiesError)
       → IfOk r (λ s. s.partial ≡ false) → IfOk r (λ s. s.entities ≡ with_first no_entities L)
-      → IfOk r (λ s. s ≡ record { entities = sliced D U; partial = false })
-  holds_slice U same (Ok s) flag entity_at =
-      let is : s.entities ≡ sliced D U = entity_at ∙ ap (with_first no_entities) copies
-      ∙ store_of D ks keyed (is_wanted D U) same in
-      λ i. record { entities = is i; partial = flag i }
-  holds_slice U same (Err e) flag entity_at = tt
+      → IfOk r (λ s. (s.entities ≡ sliced D U) × (s.partial ≡ false))
+  holds_slice U same (Ok s) flag is =
+      (is ∙ ap (with_first no_entities) copies ∙ store_of D ks keyed (is_wanted D U) same, flag)
+  holds_slice U same (Err e) flag is = tt
 
   -- It fails only if an allocation fails, because its mode makes no check of the closure.
   pub only_memory : (r : Result StoreView EntitiesError)

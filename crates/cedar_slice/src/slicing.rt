@@ -124,10 +124,7 @@ fn part_of<S: BuildHasher + Clone>(
     store: &Entities<S>,
     uids: &[EntityUID],
 ) -> Result<Entities<S>, EntitiesError>
-    ensures entities { IfOk result (λ s. s ≡ record {
-      entities = sliced store.now.entities uids.now;
-      partial = false;
-    }) }
+    ensures entities { IfOk result (λ s. (s.entities ≡ sliced store.now.entities uids.now) × (s.partial ≡ false)) }
     ensures asked { IfOk result (λ s. (q : EntityUID) → is_member same_uid uids.now q ≡ true →
         finmap.get s.entities q ≡ finmap.get store.now.entities q) }
     ensures plain { IfOk result (λ s. (W : InputStore) → IsPlainStore W store.now →
@@ -167,6 +164,7 @@ pub fn slice<S: BuildHasher + Clone>(
     ensures entities { IfOk result (λ s. s ≡ record {
       entities = sliced store.now.entities uids.now;
       partial = false;
+      known_plain = store.now.known_plain;
     }) }
     ensures asked { IfOk result (λ s. (q : EntityUID) → is_member same_uid uids.now q ≡ true →
         finmap.get s.entities q ≡ finmap.get store.now.entities q) }

@@ -1,5 +1,5 @@
 -- The index of a store: whether the store is known to be plain, and the children of each uid.
-use Rattle.std.specs.Prelude.{◌≡◌, Bool, false, IsTrue, Option, Some, None}
+use Rattle.std.specs.Prelude.{◌≡◌, Bool, true, false, IsTrue, Option, Some, None}
 use Rattle.std.specs.Option.{IfSome, option_map}
 use Rattle.std.specs.FinSet as set
 use Rattle.std.specs.FinMap as finmap
@@ -17,9 +17,9 @@ abbrev pub is_parent_at : Option EntityView → EntityUID → Bool
 is_parent_at None p = false
 is_parent_at (Some e) p = set.contains e.parents p
 
--- Holds if D is the entity map of the plain store of some input store.
+-- Holds if D is the entity map of the plain store of some input store. What the store knows does not matter for that.
 abbrev pub IsPlainHeld : EntityMap → Type 0
-IsPlainHeld D = (W : InputStore) × IsPlainStore W (record { entities = D; partial = W.partial })
+IsPlainHeld D = (W : InputStore) × IsPlainStore W (record { entities = D; partial = W.partial; known_plain = true })
 
 -- Holds if p has the child q exactly if f states it.
 abbrev pub HasChildren : {S H : Type 0} → (EntityUID → EntityUID → Bool) → Children S H → Type 0

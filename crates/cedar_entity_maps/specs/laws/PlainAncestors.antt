@@ -1,5 +1,5 @@
 -- The ancestors in the plain store of an input store.
-use Rattle.std.specs.Prelude.{◌≡◌, ◌↔◌, true, List, [], ◌∷◌, Option, Some, None, is_some}
+use Rattle.std.specs.Prelude.{◌≡◌, ◌↔◌, Bool, true, List, [], ◌∷◌, Option, Some, None, is_some}
 use Rattle.std.proofs.Common.{ap, sym, refl, ◌∙◌}
 use Rattle.std.proofs.lemmas.Bool.{false≢true}
 use Rattle.std.specs.Option.{option_map, IfSome}
@@ -35,3 +35,15 @@ module _ (W : InputStore) (S : StoreView) (plain : IsPlainStore W S) where
   -- The ancestors are exactly the uids that are reached over parents.
   pub ancestry_plain : (a b : EntityUID) → (ancestry S.entities a b ≡ true) ↔ Reach (graph W) a b
   ancestry_plain a b = ancestor_at a b (finmap.get S.entities a) refl (plain.reached a)
+
+-- What a store knows does not affect whether it is plain.
+pub plain_as : (W : InputStore) (S : StoreView) (k : Bool) → IsPlainStore W S
+    → IsPlainStore W (record S { known_plain = k })
+plain_as W S k p = record {
+  partial = p.partial;
+  holds = p.holds;
+  keyed = p.keyed;
+  reached = p.reached;
+  apart = p.apart;
+  acyclic = p.acyclic;
+}

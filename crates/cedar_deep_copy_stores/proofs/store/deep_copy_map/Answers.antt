@@ -1,7 +1,7 @@
 use Rattle.cedar_deep_copy_stores.proofs.Stored.{holds_all}
 use Rattle.cedar_deep_copy_stores.proofs.store.deep_copy_map.Goals as goal
 
-pub returns-in-Ok : goal.returns-in-Ok
-returns-in-Ok g c =
+pub returns-in-Ok-clause-entities : goal.returns-in-Ok-clause-entities
+returns-in-Ok-clause-entities g c =
     holds_all c.args.store.now.entities c.iter.result c.in_ok-list.list.items c.in-Ok.made c.iter.ensures.lists
-    c.in_ok-list.ensures c.in-Ok.ensures.partial c.in-Ok.ensures.adds.ok
+    c.in_ok-list.ensures c.in-Ok.ensures.adds.ok

@@ -9,8 +9,8 @@ returns-clause-ok c =
     on_ok_weaker c.add_shared_ancestor.result (λ e q. ap (λ (n : EntityView). has_ancestor n q) e
     ∙ ancestors_with c.args.entity.now c.args.shared q) c.add_shared_ancestor.ensures.ok
 
-pub returns-clause-unchanged_parts : goal.returns-clause-unchanged_parts
-returns-clause-unchanged_parts c =
+pub returns-clause-kept : goal.returns-clause-kept
+returns-clause-kept c =
     same_after unchanged_parts (λ e k. ap (λ s. (e.uid, (rest e, s))) (overlap_with e k)) c.add_shared_ancestor.result
     c.args.entity.now c.add_shared_ancestor.new.self c.args.shared c.add_shared_ancestor.ensures.ok
     c.add_shared_ancestor.ensures.err

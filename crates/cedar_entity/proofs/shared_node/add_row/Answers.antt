@@ -22,8 +22,8 @@ returns-clause-grows c =
     (grows_by_row c.add_shared_ancestors.result c.args.entity.now c.add_shared_ancestors.new.self
     c.taken-keys.result.items c.add_shared_ancestors.ensures.ok c.add_shared_ancestors.ensures.err)
 
-pub returns-clause-unchanged_parts : goal.returns-clause-unchanged_parts
-returns-clause-unchanged_parts c =
+pub returns-clause-kept : goal.returns-clause-kept
+returns-clause-kept c =
     same_after_row unchanged_parts (λ e ks. ap (λ s. (e.uid, (rest e, s))) (overlap_with_row e ks)) c.add_shared_ancestors.result
     c.args.entity.now c.add_shared_ancestors.new.self c.taken-keys.result.items c.add_shared_ancestors.ensures.ok
     c.add_shared_ancestors.ensures.err

@@ -39,7 +39,7 @@ pub returns-clause-adds : goal.returns-clause-adds
 returns-clause-adds g c =
     let mode = c.args.tc_computation in
     let N = c.add_all.new.entities in
-    let s : StoreView = record { entities = held_map N; partial = c.self.inside.partial } in
+    let s : StoreView = record { entities = held_map N; partial = c.self.inside.partial; known_plain = c.plain_if.result.plain } in
     adds_kept mode c.args.self.entities (map (λ r. r.value) c.args.list.items) _ s
     (adds_same mode (held_map c.self.inside.entities) c.args.self.entities c.in_ok-incoming.incoming.items
     (map (λ r. r.value) c.args.list.items) _ (λ _. held_map N)

@@ -1,4 +1,4 @@
-use Rattle.std.proofs.Common.{false, map, ap, subst, sym}
+use Rattle.std.proofs.Common.{false, true, map, ap, subst, sym}
 use Rattle.cedar_entity.specs.declared.err.EntitiesError.TheVariants.{Memory}
 use Rattle.cedar_entities.specs.Changes.{AddsPlain}
 use Rattle.cedar_entity_maps.specs.Plain.{HaveNoIndirect, StoreView, input_of, no_entities}
@@ -13,8 +13,8 @@ returns-in_err-list-clause-adds g c =
 
 pub returns-in_err-list-clause-plain : goal.returns-in_err-list-clause-plain
 returns-in_err-list-clause-plain g c =
-    adds_plain c.args.tc_computation (record { entities = no_entities; partial = false }) c.args.list.items _
-    (none_came _ _ Memory c.from_residual.ensures.1) (returns-in_err-list-clause-adds g c) empty_input plain_empty
+    adds_plain c.args.tc_computation (record { entities = no_entities; partial = false; known_plain = true }) c.args.list.items _
+    (none_came _ _ Memory c.from_residual.ensures.1) (returns-in_err-list-clause-adds g c) empty_input (plain_empty true)
 
 pub returns-clause-adds : goal.returns-clause-adds
 returns-clause-adds g c =

@@ -31,7 +31,11 @@ pub returns-clause-removes : goal.returns-clause-removes
 returns-clause-removes g c =
     let D = held_map c.self.inside.entities in
     let U = c.args.list.items in
-    let s : StoreView = record { entities = held_map c.remove_and_finalize.new.entities; partial = c.self.inside.partial } in
+    let s : StoreView = record {
+      entities = held_map c.remove_and_finalize.new.entities;
+      partial = c.self.inside.partial;
+      known_plain = c.remove_and_finalize.new.index.plain;
+    } in
     subst (λ E. RemovesEntities c.args.tc_computation E U (Ok s)) (ap (λ (t : StoreView). t.entities) c.self.view_is)
     (edit_made (with_repair (rules_of c.args.tc_computation)) (removed_from D U) D (removed_all D U) s _
     (edit_untouched (out_edit D U))

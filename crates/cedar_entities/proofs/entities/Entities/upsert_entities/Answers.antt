@@ -46,7 +46,7 @@ returns-clause-upserts g c =
     let D = held_map c.self.inside.entities in
     let L = c.in_ok-incoming.incoming.items in
     let N = held_map c.overwrite_and_finalize.new.entities in
-    let s : StoreView = record { entities = N; partial = c.self.inside.partial } in
+    let s : StoreView = record { entities = N; partial = c.self.inside.partial; known_plain = c.plain_if.result.plain } in
     upserts_same c.args.tc_computation D c.args.self.entities L (map (λ r. r.value) c.args.list.items) _
     (ap (λ (t : StoreView). t.entities) c.self.view_is) c.in_ok-incoming.ensures
     (edit_made (rules_of c.args.tc_computation) (uids_of L) D (overwrite D L) s _ (edit_untouched (over_edit D L))

@@ -9,8 +9,8 @@ returns-clause-ok c =
     on_ok_weaker c.add_indirect_ancestor.result (λ e q. ap (λ (n : EntityView). has_ancestor n q) e
     ∙ ancestors_with c.args.self.now c.args.k q) c.add_indirect_ancestor.ensures.ok
 
-pub returns-clause-unchanged_parts : goal.returns-clause-unchanged_parts
-returns-clause-unchanged_parts c =
+pub returns-clause-kept : goal.returns-clause-kept
+returns-clause-kept c =
     same_after unchanged_parts (λ e k. ap (λ s. (e.uid, (rest e, s))) (overlap_with e k)) c.add_indirect_ancestor.result
     c.args.self.now c.add_indirect_ancestor.new.self c.args.k c.add_indirect_ancestor.ensures.ok
     c.add_indirect_ancestor.ensures.err
