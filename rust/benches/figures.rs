@@ -28,45 +28,45 @@ fn entity(number: usize, parent: Option<usize>) -> Entity {
 
 fn tree(size: usize) -> Vec<Entity> {
     (0..size)
-        .map(|number| entity(number, number.checked_sub(1).map(|below| below / FAN)))
+        .map(|number| entity(number, number.checked_sub(1).map(|previous| previous / FAN)))
         .collect()
 }
 
-fn built(size: usize) -> Entities {
+fn build_tree(size: usize) -> Entities {
     Entities::from_entities(tree(size), TCComputation::ComputeNow).expect("no cycle")
 }
 
-/// Prints the shortest time of several runs, in total and for each of `things` items. Each run gets a new input.
-fn least<T, R>(what: &str, things: usize, mut make: impl FnMut() -> T, mut run: impl FnMut(T) -> R) {
+/// Prints the shortest time of several runs, in total and for each of `count` items. Each run gets a new input.
+fn measure<T, R>(label: &str, count: usize, mut make: impl FnMut() -> T, mut run: impl FnMut(T) -> R) {
     let once = || {
-        let given = make();
+        let input = make();
         let start = Instant::now();
-        let left = black_box(run(given));
+        let output = black_box(run(input));
         let time = start.elapsed();
-        drop(left);
+        drop(output);
         time
     };
     let best = std::iter::repeat_with(once).take(7).min().unwrap_or(Duration::ZERO);
-    let each = best.as_nanos() / things as u128;
-    println!("{what:<58} {:>10.3} ms {each:>9} ns each", best.as_secs_f64() * 1e3);
+    let each = best.as_nanos() / count as u128;
+    println!("{label:<58} {:>10.3} ms {each:>9} ns each", best.as_secs_f64() * 1e3);
 }
 
 fn stores() {
-    least(
+    measure(
         "building a tree of 100,000",
         SIZE,
         || tree(SIZE),
         |list| Entities::from_entities(list, TCComputation::ComputeNow).expect("no cycle"),
     );
-    least(
+    measure(
         "building a chain of 1,000",
         1_000,
         || (0..1_000).map(|it| entity(it, Some(it + 1))).collect(),
         |list: Vec<_>| Entities::from_entities(list, TCComputation::ComputeNow).expect("no cycle"),
     );
-    let store = built(SIZE);
+    let store = build_tree(SIZE);
     let (leaves, top) = ((SIZE - 10_000..SIZE).map(node).collect::<Vec<_>>(), node(0));
-    least(
+    measure(
         "10,000 queries for a descendant",
         leaves.len(),
         || (),
@@ -77,7 +77,7 @@ fn stores() {
                 .count()
         },
     );
-    least(
+    measure(
         "1,000 slices at one uid",
         1_000,
         || (),
@@ -89,9 +89,9 @@ fn stores() {
                 .sum::<usize>()
         },
     );
-    least("copying the tree of 100,000", SIZE, || (), |()| store.clone());
-    let small = built(10_000);
-    least(
+    measure("copying the tree of 100,000", SIZE, || (), |()| store.clone());
+    let small = build_tree(10_000);
+    measure(
         "overwriting one entity of 10,000, 1,000 times",
         1_000,
         || small.clone(),
@@ -116,7 +116,7 @@ fn sets() {
         None,
     );
     let id = |number: usize| PolicyID::from_string(format!("link{number}"));
-    let linked = || {
+    let linked_set = || {
         let mut set = PolicySet::new();
         set.add_template(template.clone()).expect("the id is not bound");
         for number in 0..10_000 {
@@ -126,9 +126,9 @@ fn sets() {
         }
         set
     };
-    least("10,000 links", 10_000, || (), |()| linked());
-    let set = linked();
-    least(
+    measure("10,000 links", 10_000, || (), |()| linked_set());
+    let set = linked_set();
+    measure(
         "merging an equal set of 10,000 links",
         10_000,
         || set.clone(),
@@ -137,7 +137,7 @@ fn sets() {
             one
         },
     );
-    least(
+    measure(
         "10,000 lookups of a policy",
         10_000,
         || (0..10_000).map(id).collect(),
@@ -147,7 +147,7 @@ fn sets() {
 
 /// Prints the number of queries per second of one store by several threads.
 fn throughput() {
-    let (store, top) = (built(SIZE), node(0));
+    let (store, top) = (build_tree(SIZE), node(0));
     let leaves: Vec<EntityUID> = (SIZE - 20_000..SIZE).map(node).collect();
     for threads in [1, 2, 4, 8] {
         let start = Instant::now();
@@ -155,10 +155,10 @@ fn throughput() {
             for _ in 0..threads {
                 scope.spawn(|| {
                     for _ in 0..10 {
-                        let below = |uid: &&EntityUID| {
+                        let is_descendant = |uid: &&EntityUID| {
                             matches!(store.entity(uid), Dereference::Data(it) if it.is_descendant_of(&top))
                         };
-                        assert_eq!(leaves.iter().filter(below).count(), leaves.len());
+                        assert_eq!(leaves.iter().filter(is_descendant).count(), leaves.len());
                     }
                 });
             }

@@ -10,7 +10,7 @@ fn id(text: &str) -> PolicyID {
     PolicyID::from_string(text)
 }
 
-fn anything(name: &str, effect: Effect) -> Result<StaticPolicy, Box<dyn Error>> {
+fn unconstrained(name: &str, effect: Effect) -> Result<StaticPolicy, Box<dyn Error>> {
     Ok(StaticPolicy::new(
         id(name),
         None,
@@ -23,7 +23,7 @@ fn anything(name: &str, effect: Effect) -> Result<StaticPolicy, Box<dyn Error>> 
     )?)
 }
 
-fn per_user(name: &str) -> Template {
+fn user_template(name: &str) -> Template {
     Template::new(
         id(name),
         None,
@@ -36,24 +36,24 @@ fn per_user(name: &str) -> Template {
     )
 }
 
-fn names(set: &PolicySet) -> Vec<String> {
+fn policy_ids(set: &PolicySet) -> Vec<String> {
     set.policies().map(|policy| policy.id().to_string()).collect()
 }
 
 fn main() -> Result<(), Box<dyn Error>> {
     let alice = EntityUID::from_normalized_str(r#"User::"alice""#)?;
     let mut live = PolicySet::new();
-    live.add_static(anything("policy0", Effect::Permit)?)?;
-    live.add_template(per_user("per user"))?;
+    live.add_static(unconstrained("policy0", Effect::Permit)?)?;
+    live.add_template(user_template("per user"))?;
     live.link(
         id("per user"),
         id("for alice"),
         SlotEnv::from([(SlotId::principal(), alice)]),
     )?;
-    println!("live: {:?}", names(&live));
+    println!("live: {:?}", policy_ids(&live));
 
     // an id is bound only once
-    match live.add_static(anything("for alice", Effect::Forbid)?) {
+    match live.add_static(unconstrained("for alice", Effect::Forbid)?) {
         Err(PolicySetError::Occupied { id }) => println!("error: the id {id} is already bound"),
         other => unreachable!("the id belongs to a link: {other:?}"),
     }
@@ -66,25 +66,25 @@ fn main() -> Result<(), Box<dyn Error>> {
         Ok(link) => println!("linked: {link}"),
     }
     // a template with links cannot be removed
-    if let Err(refusal) = live.remove_template(&id("per user")) {
-        println!("error: {refusal}");
+    if let Err(error) = live.remove_template(&id("per user")) {
+        println!("error: {error}");
     }
 
     // the policies of a second team are merged, and conflicting ids are renamed
     let mut team = PolicySet::new();
-    team.add_static(anything("policy0", Effect::Forbid)?)?;
-    team.add_static(anything("policy1", Effect::Permit)?)?;
-    if let Err(refusal) = live.merge_policyset(&team, false) {
-        println!("error: {refusal}");
+    team.add_static(unconstrained("policy0", Effect::Forbid)?)?;
+    team.add_static(unconstrained("policy1", Effect::Permit)?)?;
+    if let Err(error) = live.merge_policyset(&team, false) {
+        println!("error: {error}");
     }
     for (old, new) in live.merge_policyset(&team, true)?.iter() {
         println!("renamed: {old} of the team to {new}");
     }
-    println!("live: {:?}", names(&live));
+    println!("live: {:?}", policy_ids(&live));
 
-    let gone = live.unlink(&id("for alice"))?;
+    let link = live.unlink(&id("for alice"))?;
     live.remove_template(&id("per user"))?;
-    println!("unlinked: {gone}");
-    println!("live: {:?}", names(&live));
+    println!("unlinked: {link}");
+    println!("live: {:?}", policy_ids(&live));
     Ok(())
 }

@@ -17,23 +17,23 @@ struct Request {
     resource: EntityUID,
 }
 
-/// Returns whether a uid is equal to `above` or a descendant of it in the store.
-fn is_in(store: &Entities, uid: &EntityUID, above: &EntityUID) -> bool {
-    uid == above || matches!(store.entity(uid), Dereference::Data(entity) if entity.is_descendant_of(above))
+/// Returns whether a uid is equal to `ancestor` or a descendant of it in the store.
+fn is_in(store: &Entities, uid: &EntityUID, ancestor: &EntityUID) -> bool {
+    uid == ancestor || matches!(store.entity(uid), Dereference::Data(entity) if entity.is_descendant_of(ancestor))
 }
 
-fn meets(store: &Entities, uid: &EntityUID, constraint: &PrincipalOrResourceConstraint) -> bool {
-    let named = |reference: &EntityReference| match reference {
+fn satisfies(store: &Entities, uid: &EntityUID, constraint: &PrincipalOrResourceConstraint) -> bool {
+    let euid_of = |reference: &EntityReference| match reference {
         EntityReference::EUID(uid) => Arc::clone(uid),
         EntityReference::Slot(_) => unreachable!("a policy's constraints have their slots filled"),
     };
     match constraint {
         PrincipalOrResourceConstraint::Any => true,
-        PrincipalOrResourceConstraint::Eq(reference) => *uid == *named(reference),
-        PrincipalOrResourceConstraint::In(reference) => is_in(store, uid, &named(reference)),
+        PrincipalOrResourceConstraint::Eq(reference) => *uid == *euid_of(reference),
+        PrincipalOrResourceConstraint::In(reference) => is_in(store, uid, &euid_of(reference)),
         PrincipalOrResourceConstraint::Is(ty) => uid.entity_type() == &**ty,
         PrincipalOrResourceConstraint::IsIn(ty, reference) => {
-            uid.entity_type() == &**ty && is_in(store, uid, &named(reference))
+            uid.entity_type() == &**ty && is_in(store, uid, &euid_of(reference))
         }
     }
 }
@@ -48,20 +48,20 @@ fn applies(store: &Entities, policy: &Policy, request: &Request) -> bool {
         }
     };
     action
-        && meets(store, &request.principal, policy.principal_constraint().as_inner())
-        && meets(store, &request.resource, policy.resource_constraint().as_inner())
+        && satisfies(store, &request.principal, policy.principal_constraint().as_inner())
+        && satisfies(store, &request.resource, policy.resource_constraint().as_inner())
 }
 
 /// Decides a request. It is allowed if a policy permits it and no policy forbids it. Also returns the ids of the
 /// applicable policies.
 fn decide(store: &Entities, policies: &PolicySet, request: &Request) -> (bool, Vec<String>) {
-    let applying: Vec<&Policy> = policies
+    let applicable: Vec<&Policy> = policies
         .policies()
         .filter(|policy| applies(store, policy, request))
         .collect();
-    let has = |effect| applying.iter().any(|policy| policy.effect() == effect);
-    let names = applying.iter().map(|policy| policy.id().to_string()).collect();
-    (has(Effect::Permit) && !has(Effect::Forbid), names)
+    let has_effect = |effect| applicable.iter().any(|policy| policy.effect() == effect);
+    let ids = applicable.iter().map(|policy| policy.id().to_string()).collect();
+    (has_effect(Effect::Permit) && !has_effect(Effect::Forbid), ids)
 }
 
 fn uid(ty: &str, eid: &str) -> EntityUID {
@@ -78,8 +78,8 @@ fn person(eid: &str, age: i64, groups: &[&str]) -> Entity {
     )
 }
 
-fn under(own: EntityUID, parent: EntityUID) -> Entity {
-    let mut entity = Entity::with_uid(own);
+fn entity_with_parent(uid: EntityUID, parent: EntityUID) -> Entity {
+    let mut entity = Entity::with_uid(uid);
     entity.add_parent(parent);
     entity
 }
@@ -98,14 +98,14 @@ fn policies() -> Result<PolicySet, Box<dyn Error>> {
         ResourceConstraint::is_in_slot(),
         None,
     ))?;
-    let bound = HashMap::from([
+    let bindings = HashMap::from([
         (SlotId::principal(), uid("Group", "staff")),
         (SlotId::resource(), uid("Folder", "reports")),
     ]);
     set.link(
         PolicyID::from_string("readers"),
         PolicyID::from_string("staff read reports"),
-        bound,
+        bindings,
     )?;
     set.add_static(StaticPolicy::new(
         PolicyID::from_string("locked"),
@@ -125,10 +125,10 @@ fn main() -> Result<(), Box<dyn Error>> {
         [
             person("alice", 41, &["admins"]),
             person("bob", 19, &[]),
-            under(uid("Group", "admins"), uid("Group", "staff")),
-            under(uid("File", "q3"), uid("Folder", "reports")),
-            under(uid("File", "secret"), uid("Folder", "locked")),
-            under(uid("Folder", "locked"), uid("Folder", "reports")),
+            entity_with_parent(uid("Group", "admins"), uid("Group", "staff")),
+            entity_with_parent(uid("File", "q3"), uid("Folder", "reports")),
+            entity_with_parent(uid("File", "secret"), uid("Folder", "locked")),
+            entity_with_parent(uid("Folder", "locked"), uid("Folder", "reports")),
         ],
         TCComputation::ComputeNow,
     )?;
@@ -139,9 +139,9 @@ fn main() -> Result<(), Box<dyn Error>> {
             action: uid("Action", "read"),
             resource: uid("File", file),
         };
-        let (allowed, by) = decide(&store, &policies, &request);
+        let (allowed, policy_ids) = decide(&store, &policies, &request);
         println!(
-            "{user} reads {file}: {} by {by:?}",
+            "{user} reads {file}: {} by {policy_ids:?}",
             if allowed { "allowed" } else { "denied" }
         );
     }

@@ -12,10 +12,10 @@ use std::sync::atomic::{AtomicU64, Ordering};
 use std::thread;
 
 /// A generator of pseudorandom numbers. The same seed always gives the same numbers.
-struct Drawn(u64);
+struct Random(u64);
 
-impl Drawn {
-    fn number(&mut self) -> u64 {
+impl Random {
+    fn next_u64(&mut self) -> u64 {
         self.0 ^= self.0 << 13;
         self.0 ^= self.0 >> 7;
         self.0 ^= self.0 << 17;
@@ -23,11 +23,11 @@ impl Drawn {
     }
 
     fn below(&mut self, limit: u64) -> u64 {
-        (self.number() >> 33) % limit
+        (self.next_u64() >> 33) % limit
     }
 
-    fn one_of<'a>(&mut self, all: &[&'a str]) -> &'a str {
-        all[usize::try_from(self.below(all.len() as u64)).expect("a place")]
+    fn choose<'a>(&mut self, items: &[&'a str]) -> &'a str {
+        items[usize::try_from(self.below(items.len() as u64)).expect("an index")]
     }
 }
 
@@ -45,7 +45,7 @@ const UIDS: [&str; 12] = [
     r#"N::Action::"a""#,
     r#"A::"a longer eid of thirty bytes..""#,
 ];
-const NO_UIDS: [&str; 8] = [
+const INVALID_UIDS: [&str; 8] = [
     "A::a",
     r#"A::"it's""#,
     r#"if::"a""#,
@@ -68,65 +68,65 @@ const IDS: [&str; 10] = [
     "a longer id of a policy",
 ];
 
-fn uid(drawn: &mut Drawn) -> &'static str {
-    if drawn.below(60) == 0 {
-        drawn.one_of(&NO_UIDS)
+fn uid(random: &mut Random) -> &'static str {
+    if random.below(60) == 0 {
+        random.choose(&INVALID_UIDS)
     } else {
-        drawn.one_of(&UIDS)
+        random.choose(&UIDS)
     }
 }
 
-fn uids(drawn: &mut Drawn, word: &str, most: u64) -> String {
+fn uids(random: &mut Random, word: &str, max: u64) -> String {
     let mut line = word.to_string();
-    for _ in 0..=drawn.below(most) {
+    for _ in 0..=random.below(max) {
         line += "\t";
-        line += uid(drawn);
+        line += uid(random);
     }
     line
 }
 
-fn link(drawn: &mut Drawn) -> String {
-    let mut line = format!("link\t{}\t{}", drawn.one_of(&IDS), drawn.one_of(&IDS));
-    let mut marks = vec!["principal=", "action=", "resource="];
-    for _ in 0..drawn.below(4) {
-        let at = usize::try_from(drawn.below(marks.len() as u64)).expect("a place");
-        let mark = if drawn.below(20) == 0 {
-            marks[at]
+fn link(random: &mut Random) -> String {
+    let mut line = format!("link\t{}\t{}", random.choose(&IDS), random.choose(&IDS));
+    let mut prefixes = vec!["principal=", "action=", "resource="];
+    for _ in 0..random.below(4) {
+        let index = usize::try_from(random.below(prefixes.len() as u64)).expect("an index");
+        let prefix = if random.below(20) == 0 {
+            prefixes[index]
         } else {
-            marks.swap_remove(at)
+            prefixes.swap_remove(index)
         };
-        let bound = if mark == "action=" && drawn.below(3) > 0 {
+        let bound = if prefix == "action=" && random.below(3) > 0 {
             r#"Action::"view""#
         } else {
-            uid(drawn)
+            uid(random)
         };
-        line += &format!("\t{mark}{bound}");
-        if marks.is_empty() {
+        line += &format!("\t{prefix}{bound}");
+        if prefixes.is_empty() {
             break;
         }
     }
     line
 }
 
-fn line(drawn: &mut Drawn) -> String {
-    let id = |drawn: &mut Drawn| drawn.one_of(&IDS);
-    match drawn.below(26) {
-        0..=5 => uids(drawn, "ent", 3),
+fn line(random: &mut Random) -> String {
+    let id = |random: &mut Random| random.choose(&IDS);
+    match random.below(26) {
+        0..=5 => uids(random, "ent", 3),
         6 => "build".into(),
         7 => "add".into(),
         8 => "upsert".into(),
-        9 => uids(drawn, "remove", 2),
-        10 => uids(drawn, "slice", 2),
-        11..=13 => format!("anc\t{}", uid(drawn)),
+        9 => uids(random, "remove", 2),
+        10 => uids(random, "slice", 2),
+        11..=13 => format!("anc\t{}", uid(random)),
         14 => format!(
             "static\t{}\t{}",
-            id(drawn),
-            drawn.one_of(&["permit", "forbid", "permit", "forbid", "none"])
+            id(random),
+            random.choose(&["permit", "forbid", "permit", "forbid", "none"])
         ),
         15 | 16 => format!(
             "template\t{}\t{}",
-            id(drawn),
-            drawn.one_of(&[
+            id(random),
+            random.choose(&[
                 "none",
                 "principal",
                 "action",
@@ -137,13 +137,13 @@ fn line(drawn: &mut Drawn) -> String {
                 "resource"
             ])
         ),
-        17..=19 => link(drawn),
-        20 => format!("unlink\t{}", id(drawn)),
+        17..=19 => link(random),
+        20 => format!("unlink\t{}", id(random)),
         21 => "other".into(),
-        22 => format!("merge\t{}", drawn.one_of(&["keep", "rename", "rename"])),
+        22 => format!("merge\t{}", random.choose(&["keep", "rename", "rename"])),
         23 | 24 => "ids".into(),
-        _ => drawn
-            .one_of(&[
+        _ => random
+            .choose(&[
                 "",
                 "",
                 "",
@@ -161,45 +161,45 @@ fn line(drawn: &mut Drawn) -> String {
     }
 }
 
-fn program(drawn: &mut Drawn) -> Vec<u8> {
+fn program(random: &mut Random) -> Vec<u8> {
     let mut text = String::new();
-    for _ in 0..drawn.below(31) {
-        text += &line(drawn);
+    for _ in 0..random.below(31) {
+        text += &line(random);
         text += "\n";
     }
-    if drawn.below(8) == 0 {
+    if random.below(8) == 0 {
         text.pop();
     }
     let mut bytes = text.into_bytes();
-    if !bytes.is_empty() && drawn.below(10) == 0 {
-        let at = usize::try_from(drawn.below(bytes.len() as u64)).expect("a place");
-        bytes[at] = u8::try_from(drawn.below(256)).expect("a byte");
+    if !bytes.is_empty() && random.below(10) == 0 {
+        let index = usize::try_from(random.below(bytes.len() as u64)).expect("an index");
+        bytes[index] = u8::try_from(random.below(256)).expect("a byte");
     }
     bytes
 }
 
 /// Returns the output and the status of the program of this package.
-fn here(lines: &[u8]) -> (Vec<u8>, i32) {
+fn run_this(lines: &[u8]) -> (Vec<u8>, i32) {
     let mut written = Vec::new();
     let status = run(&mut &lines[..], &mut written).expect("reading and writing memory never fails");
     (written, i32::from(status))
 }
 
 /// Returns the output and the status of the other program.
-fn there(program: &str, lines: &[u8]) -> (Vec<u8>, i32) {
-    let mut started = Command::new(program)
+fn run_other(program: &str, lines: &[u8]) -> (Vec<u8>, i32) {
+    let mut child = Command::new(program)
         .stdin(Stdio::piped())
         .stdout(Stdio::piped())
         .spawn()
         .expect("the other program starts");
-    started
+    child
         .stdin
         .take()
         .expect("a pipe")
         .write_all(lines)
         .expect("it reads its lines");
-    let told = started.wait_with_output().expect("the thread succeeds");
-    (told.stdout, told.status.code().expect("the program exits normally"))
+    let output = child.wait_with_output().expect("the output is read");
+    (output.stdout, output.status.code().expect("the program exits normally"))
 }
 
 fn main() -> ExitCode {
@@ -208,27 +208,34 @@ fn main() -> ExitCode {
         eprintln!("usage: compare PROGRAM [COUNT [SEED]]");
         return ExitCode::from(64);
     };
-    let number = |at: usize, default: u64| words.get(at).map_or(default, |word| word.parse().expect("a number"));
-    let (count, seed) = (number(1, 1000), number(2, 1));
+    let number_at =
+        |index: usize, default: u64| words.get(index).map_or(default, |word| word.parse().expect("a number"));
+    let (count, seed) = (number_at(1, 1000), number_at(2, 1));
     let (next, failed) = (AtomicU64::new(0), AtomicU64::new(0));
     thread::scope(|scope| {
         for _ in 0..thread::available_parallelism().map_or(2, usize::from) {
             scope.spawn(|| {
                 loop {
-                    let at = next.fetch_add(1, Ordering::Relaxed);
-                    if at >= count {
+                    let index = next.fetch_add(1, Ordering::Relaxed);
+                    if index >= count {
                         return;
                     }
-                    let lines = program(&mut Drawn((seed << 32 ^ at).wrapping_mul(0x9E37_79B9_7F4A_7C15) | 1));
-                    let (due, told) = (there(other, &lines), here(&lines));
-                    if due != told && failed.fetch_add(1, Ordering::Relaxed) < 5 {
-                        println!("{at}: {:?}", String::from_utf8_lossy(&lines));
+                    let lines = program(&mut Random(
+                        (seed << 32 ^ index).wrapping_mul(0x9E37_79B9_7F4A_7C15) | 1,
+                    ));
+                    let (expected, actual) = (run_other(other, &lines), run_this(&lines));
+                    if expected != actual && failed.fetch_add(1, Ordering::Relaxed) < 5 {
+                        println!("{index}: {:?}", String::from_utf8_lossy(&lines));
                         println!(
                             "  {other} wrote {:?}, status {}",
-                            String::from_utf8_lossy(&due.0),
-                            due.1
+                            String::from_utf8_lossy(&expected.0),
+                            expected.1
                         );
-                        println!("  this wrote {:?}, status {}", String::from_utf8_lossy(&told.0), told.1);
+                        println!(
+                            "  this wrote {:?}, status {}",
+                            String::from_utf8_lossy(&actual.0),
+                            actual.1
+                        );
                     }
                 }
             });

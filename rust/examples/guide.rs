@@ -21,8 +21,8 @@ fn id(text: &str) -> PolicyID {
     PolicyID::from_string(text)
 }
 
-fn under(own: EntityUID, parents: &[EntityUID]) -> Entity {
-    let mut entity = Entity::with_uid(own);
+fn entity(uid: EntityUID, parents: &[EntityUID]) -> Entity {
+    let mut entity = Entity::with_uid(uid);
     for parent in parents {
         entity.add_parent(parent.clone());
     }
@@ -38,41 +38,41 @@ fn build() -> Result<Entities, EntitiesError> {
         [],
     );
     alice.add_parent(uid("Group", "admins"));
-    let admins = under(uid("Group", "admins"), &[uid("Group", "staff")]);
-    let files = ["q3", "q4"].map(|file| under(uid("File", file), &[uid("Folder", "reports")]));
+    let admins = entity(uid("Group", "admins"), &[uid("Group", "staff")]);
+    let files = ["q3", "q4"].map(|file| entity(uid("File", file), &[uid("Folder", "reports")]));
     Entities::from_entities([alice, admins].into_iter().chain(files), ComputeNow)
 }
 
-fn ask(store: &Entities) {
+fn query(store: &Entities) {
     match store.entity(&uid("User", "alice")) {
         Dereference::Data(alice) => {
             println!(
-                "alice is of the staff: {}",
+                "alice is in the staff: {}",
                 alice.is_descendant_of(&uid("Group", "staff"))
             );
-            println!("above alice: {}", alice.ancestors_in_order().count());
+            println!("ancestors of alice: {}", alice.ancestors_in_order().count());
         }
-        Dereference::NoSuchEntity | Dereference::Residual(_) => println!("there is no alice"),
+        Dereference::NoSuchEntity | Dereference::Residual(_) => println!("alice is not in the store"),
     }
-    println!("bob is there: {}", store.stored(&uid("User", "bob")).is_some());
+    println!("bob is in the store: {}", store.stored(&uid("User", "bob")).is_some());
 }
 
 fn edit(store: Entities) -> Result<Entities, EntitiesError> {
-    let bob = Arc::new(under(uid("User", "bob"), &[uid("Group", "admins")]));
+    let bob = Arc::new(entity(uid("User", "bob"), &[uid("Group", "admins")]));
     let store = store.add_entities([bob], ComputeNow)?;
-    let admins = Arc::new(under(uid("Group", "admins"), &[uid("Group", "board")]));
+    let admins = Arc::new(entity(uid("Group", "admins"), &[uid("Group", "board")]));
     let store = store.upsert_entities([admins], ComputeNow)?;
     store.remove_entities([uid("File", "q3")], ComputeNow)
 }
 
 fn add_or_keep(store: Entities, entity: Entity) -> Entities {
     match store.clone().add_entities([Arc::new(entity)], ComputeNow) {
-        Ok(fresh) => return fresh,
-        Err(EntitiesError::Duplicate(uid)) => println!("there and differs: {uid}"),
+        Ok(edited) => return edited,
+        Err(EntitiesError::Duplicate(uid)) => println!("error: a different entity with the uid {uid} exists"),
         Err(EntitiesError::TransitiveClosureError(TcError::HasCycle(cycle))) => {
-            println!("above itself: {}", cycle.vertex_with_loop());
+            println!("error: cycle through {}", cycle.vertex_with_loop());
         }
-        Err(other) => println!("refused: {other}"),
+        Err(other) => println!("error: {other}"),
     }
     store
 }
@@ -116,19 +116,22 @@ fn add_and_link(set: &mut PolicySet) -> Result<(), Box<dyn Error>> {
     Ok(())
 }
 
-fn is_in(store: &Entities, uid: &EntityUID, above: &EntityUID) -> bool {
-    uid == above || store.stored(uid).is_some_and(|entity| entity.is_descendant_of(above))
+fn is_in(store: &Entities, uid: &EntityUID, ancestor: &EntityUID) -> bool {
+    uid == ancestor
+        || store
+            .stored(uid)
+            .is_some_and(|entity| entity.is_descendant_of(ancestor))
 }
 
-fn meets(store: &Entities, uid: &EntityUID, constraint: &PrincipalOrResourceConstraint) -> bool {
+fn satisfies(store: &Entities, uid: &EntityUID, constraint: &PrincipalOrResourceConstraint) -> bool {
     use EntityReference::EUID;
     use PrincipalOrResourceConstraint::{Any, Eq, In, Is, IsIn};
     match constraint {
         Any => true,
         Eq(EUID(one)) => *uid == **one,
-        In(EUID(above)) => is_in(store, uid, above),
+        In(EUID(ancestor)) => is_in(store, uid, ancestor),
         Is(ty) => uid.entity_type() == &**ty,
-        IsIn(ty, EUID(above)) => uid.entity_type() == &**ty && is_in(store, uid, above),
+        IsIn(ty, EUID(ancestor)) => uid.entity_type() == &**ty && is_in(store, uid, ancestor),
         Eq(_) | In(_) | IsIn(..) => false, // a slot, which a policy has filled
     }
 }
@@ -141,17 +144,17 @@ fn applies(store: &Entities, policy: &Policy, request: &Request) -> bool {
         ActionConstraint::InSlot(_) | ActionConstraint::EqSlot(_) => false,
     };
     action
-        && meets(store, &request.principal, policy.principal_constraint().as_inner())
-        && meets(store, &request.resource, policy.resource_constraint().as_inner())
+        && satisfies(store, &request.principal, policy.principal_constraint().as_inner())
+        && satisfies(store, &request.resource, policy.resource_constraint().as_inner())
 }
 
-fn list_what_applies(store: &Entities, set: &PolicySet, request: &Request) {
+fn list_applicable(store: &Entities, set: &PolicySet, request: &Request) {
     for policy in set.policies().filter(|policy| applies(store, policy, request)) {
         println!("applies: {} ({})", policy.id(), policy.effect());
     }
 }
 
-fn anything(name: &str, effect: Effect) -> Result<StaticPolicy, Box<dyn Error>> {
+fn unconstrained(name: &str, effect: Effect) -> Result<StaticPolicy, Box<dyn Error>> {
     Ok(StaticPolicy::new(
         id(name),
         None,
@@ -184,35 +187,35 @@ fn print(store: &Entities, set: &PolicySet) {
 fn add(set: &mut PolicySet, policy: StaticPolicy) -> String {
     match set.add_static(policy) {
         Ok(()) => "added".to_string(),
-        Err(PolicySetError::Occupied { id }) => format!("{id} is taken"),
+        Err(PolicySetError::Occupied { id }) => format!("the id {id} is in use"),
     }
 }
 
 fn link(set: &mut PolicySet, template: &str, name: &str, bound: SlotEnv) -> String {
     match set.link(id(template), id(name), bound) {
         Ok(link) => format!("linked {}", link.id()),
-        Err(LinkingError::NoSuchTemplate { id }) => format!("{id} is no template"),
+        Err(LinkingError::NoSuchTemplate { id }) => format!("{id} is not a template"),
         Err(LinkingError::ArityError {
             unbound_values,
             extra_values,
-        }) => format!("unbound: {unbound_values:?}, not in it: {extra_values:?}"),
-        Err(LinkingError::NotAnAction { uid }) => format!("{uid} is no action"),
-        Err(LinkingError::PolicyIdConflict { id }) => format!("{id} is taken"),
+        }) => format!("slots without a value: {unbound_values:?}, values without a slot: {extra_values:?}"),
+        Err(LinkingError::NotAnAction { uid }) => format!("{uid} is not an action"),
+        Err(LinkingError::PolicyIdConflict { id }) => format!("the id {id} is in use"),
     }
 }
 
 fn unlink(set: &mut PolicySet, name: &str) -> String {
     match set.unlink(&id(name)) {
         Ok(link) => format!("unlinked {}", link.id()),
-        Err(PolicySetUnlinkError::UnlinkingError(id)) => format!("{id} is bound to nothing"),
-        Err(PolicySetUnlinkError::NotLinkError(id)) => format!("{id} is no link"),
+        Err(PolicySetUnlinkError::UnlinkingError(id)) => format!("the id {id} does not exist"),
+        Err(PolicySetUnlinkError::NotLinkError(id)) => format!("{id} is not a link"),
     }
 }
 
 fn remove_static(set: &mut PolicySet, name: &str) -> String {
     match set.remove_static(&id(name)) {
         Ok(policy) => format!("removed {}", policy.id()),
-        Err(PolicySetPolicyRemovalError::RemovePolicyNoLinkError(id)) => format!("{id} is no policy"),
+        Err(PolicySetPolicyRemovalError::RemovePolicyNoLinkError(id)) => format!("{id} is not a policy"),
         Err(PolicySetPolicyRemovalError::RemovePolicyNoTemplateError(id)) => format!("{id} is a link"),
     }
 }
@@ -220,23 +223,23 @@ fn remove_static(set: &mut PolicySet, name: &str) -> String {
 fn remove_template(set: &mut PolicySet, name: &str) -> String {
     match set.remove_template(&id(name)) {
         Ok(template) => format!("removed {}", template.id()),
-        Err(PolicySetTemplateRemovalError::RemovePolicyNoTemplateError(id)) => format!("{id} is bound to nothing"),
+        Err(PolicySetTemplateRemovalError::RemovePolicyNoTemplateError(id)) => format!("the id {id} does not exist"),
         Err(PolicySetTemplateRemovalError::RemoveTemplateWithLinksError(id)) => format!("{id} has links"),
-        Err(PolicySetTemplateRemovalError::NotTemplateError(id)) => format!("{id} is no template"),
+        Err(PolicySetTemplateRemovalError::NotTemplateError(id)) => format!("{id} is not a template"),
     }
 }
 
 fn links_of(set: &PolicySet, name: &str) -> String {
     match set.get_linked_policies(&id(name)) {
         Ok(links) => format!("links of {name}: {}", links.count()),
-        Err(PolicySetGetLinksError::MissingTemplate(id)) => format!("{id} is no template"),
+        Err(PolicySetGetLinksError::MissingTemplate(id)) => format!("{id} is not a template"),
     }
 }
 
 fn as_static(template: Template) -> String {
     match StaticPolicy::try_from(template) {
         Ok(policy) => format!("static: {}", policy.id()),
-        Err(UnexpectedSlotError::FoundSlot(slot)) => format!("a static policy has no {}", slot.id),
+        Err(UnexpectedSlotError::FoundSlot(slot)) => format!("a static policy cannot have the slot {}", slot.id),
     }
 }
 
@@ -245,7 +248,7 @@ fn validate(set: PolicySet) -> String {
         Ok(set) => format!("valid: {} policies", set.policies().count()),
         Err(PolicySetValidationError::InvalidTemplate { id, error }) => format!("{id}: {error}"),
         Err(PolicySetValidationError::LinkToSlotlessTemplate { link_id, template_id }) => {
-            format!("{link_id} links {template_id}, which has no slots")
+            format!("{link_id} is a link of {template_id}, which has no slots")
         }
     }
 }
@@ -263,8 +266,8 @@ fn with_action(name: &str, action: ActionConstraint) -> Template {
     )
 }
 
-fn refused_additions(set: &mut PolicySet) -> Result<(), Box<dyn Error>> {
-    println!("{}", add(set, anything("readers", Effect::Forbid)?));
+fn failed_additions(set: &mut PolicySet) -> Result<(), Box<dyn Error>> {
+    println!("{}", add(set, unconstrained("readers", Effect::Forbid)?));
     println!("{}", link(set, "policy0", "new", SlotEnv::new()));
     println!("{}", link(set, "readers", "new", SlotEnv::new()));
     set.add_template(with_action("doers", ActionConstraint::is_eq_slot()))?;
@@ -274,7 +277,7 @@ fn refused_additions(set: &mut PolicySet) -> Result<(), Box<dyn Error>> {
     Ok(())
 }
 
-fn refused_removals(set: &mut PolicySet) {
+fn failed_removals(set: &mut PolicySet) {
     for name in ["nobody", "policy0"] {
         println!("{}", unlink(set, name));
     }
@@ -286,7 +289,7 @@ fn refused_removals(set: &mut PolicySet) {
     }
 }
 
-fn refused_checks(set: &PolicySet) -> Result<(), Box<dyn Error>> {
+fn failed_checks(set: &PolicySet) -> Result<(), Box<dyn Error>> {
     println!("{}; {}", links_of(set, "readers"), links_of(set, "nobody"));
     println!("{}", as_static(readers()));
     println!("{}", validate(set.clone()));
@@ -302,36 +305,36 @@ fn refused_checks(set: &PolicySet) -> Result<(), Box<dyn Error>> {
 
 fn main() -> Result<(), Box<dyn Error>> {
     let store = build()?;
-    ask(&store);
+    query(&store);
     let edited = edit(store.clone())?;
     println!("edited: {} entities", edited.len());
     for group in ["board", "staff"] {
-        let below = is_in(&edited, &uid("User", "alice"), &uid("Group", group));
-        println!("alice is of the {group}: {below}");
+        let is_member = is_in(&edited, &uid("User", "alice"), &uid("Group", group));
+        println!("alice is in the {group}: {is_member}");
     }
-    let with_bob = add_or_keep(store.clone(), under(uid("User", "bob"), &[]));
+    let with_bob = add_or_keep(store.clone(), entity(uid("User", "bob"), &[]));
     println!("with bob: {} entities", with_bob.len());
-    let kept = add_or_keep(with_bob, under(uid("Group", "admins"), &[]));
-    let kept = add_or_keep(kept, under(uid("Group", "staff"), &[uid("Group", "staff")]));
-    println!("kept: {} entities", kept.len());
+    let unchanged = add_or_keep(with_bob, entity(uid("Group", "admins"), &[]));
+    let unchanged = add_or_keep(unchanged, entity(uid("Group", "staff"), &[uid("Group", "staff")]));
+    println!("after both errors: {} entities", unchanged.len());
     let request = Request {
         principal: uid("User", "alice"),
         action: uid("Action", "read"),
         resource: uid("File", "q3"),
     };
-    let part = slice_for(&store, &request);
-    println!("the slice: {} of {} entities", part.len(), store.len());
+    let sliced = slice_for(&store, &request);
+    println!("the slice: {} of {} entities", sliced.len(), store.len());
 
     let mut set = PolicySet::new();
     add_and_link(&mut set)?;
-    set.add_static(anything("policy0", Effect::Permit)?)?;
-    list_what_applies(&part, &set, &request);
+    set.add_static(unconstrained("policy0", Effect::Permit)?)?;
+    list_applicable(&sliced, &set, &request);
     let mut other = PolicySet::new();
-    other.add_static(anything("policy0", Effect::Forbid)?)?;
-    other.add_static(anything("policy1", Effect::Permit)?)?;
+    other.add_static(unconstrained("policy0", Effect::Forbid)?)?;
+    other.add_static(unconstrained("policy1", Effect::Permit)?)?;
     merge(&mut set, &other)?;
     print(&store, &set);
-    refused_additions(&mut set)?;
-    refused_removals(&mut set);
-    refused_checks(&set)
+    failed_additions(&mut set)?;
+    failed_removals(&mut set);
+    failed_checks(&set)
 }

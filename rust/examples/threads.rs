@@ -13,7 +13,7 @@ fn node(number: usize) -> EntityUID {
 }
 
 /// Returns the number of ancestors of the entity without children.
-fn above(store: &Entities) -> usize {
+fn ancestor_count(store: &Entities) -> usize {
     match store.entity(&node(0)) {
         Dereference::Data(entity) => entity.ancestors().count(),
         Dereference::NoSuchEntity | Dereference::Residual(_) => 0,
@@ -28,25 +28,25 @@ fn main() -> Result<(), Box<dyn Error>> {
     });
     let store = Arc::new(Entities::from_entities(chain, TCComputation::ComputeNow)?);
     let counts: Vec<(usize, usize)> = thread::scope(|scope| {
-        let started: Vec<_> = (1..=8)
+        let handles: Vec<_> = (1..=8)
             .map(|number| {
                 let store = Arc::clone(&store);
                 scope.spawn(move || {
-                    let own = Entities::clone(&store);
-                    let own = own
+                    let copy = Entities::clone(&store);
+                    let copy = copy
                         .remove_entities([node(number * 20)], TCComputation::ComputeNow)
                         .expect("the removal succeeds");
-                    (above(&store), above(&own))
+                    (ancestor_count(&store), ancestor_count(&copy))
                 })
             })
             .collect();
-        started
+        handles
             .into_iter()
             .map(|thread| thread.join().expect("the thread succeeds"))
             .collect()
     });
-    for (number, (whole, own)) in counts.iter().enumerate() {
-        println!("thread {number}: {whole} ancestors in the shared store, {own} in its own copy");
+    for (number, (shared, copy)) in counts.iter().enumerate() {
+        println!("thread {number}: {shared} ancestors in the shared store, {copy} in its own copy");
     }
     Ok(())
 }

@@ -47,6 +47,7 @@ mod cedar_binding;
 mod cedar_body;
 mod cedar_children;
 mod cedar_components;
+mod cedar_dry_run;
 mod cedar_entities;
 mod cedar_entity;
 mod cedar_entity_lines;
@@ -61,21 +62,20 @@ mod cedar_policy_maps;
 mod cedar_policy_merge;
 mod cedar_policy_set;
 mod cedar_policy_set_errors;
+mod cedar_repl;
 mod cedar_replay;
 mod cedar_scope;
 mod cedar_slice;
 mod cedar_store;
-mod cedar_repl;
 mod cedar_terms;
-mod cedar_dry_run;
 mod cedar_uid_sets;
 mod handwritten;
 
 use handwritten::ordered_map;
 
+pub use cedar_dry_run::{have_no_indirect, would_add, would_upsert};
 pub use cedar_keyed_hash::{KeyedHasher, KeyedState};
 pub use cedar_slice::slice;
-pub use cedar_dry_run::{have_no_indirect, would_add, would_upsert};
 pub use handwritten::renaming::{RenamedIds, Renaming};
 
 /// Ids, entities, values, expressions, constraints, policies, templates and policy sets.
@@ -153,10 +153,10 @@ pub mod parser {
 
 /// The program that runs commands: on a whole input, line by line, and interactively.
 pub mod program {
+    pub use crate::cedar_repl::{ErrorMode, FIELD_HELP, POLICY_HELP, STORE_HELP, TalkError, help_texts, talk};
     pub use crate::cedar_store::{
         RunError, Session, push_not_command, run, run_and_leave, run_and_leave_with, run_with,
     };
-    pub use crate::cedar_repl::{FIELD_HELP, ErrorMode, POLICY_HELP, STORE_HELP, TalkError, help_texts, talk};
 }
 
 /// Lists of calls on a store or a policy set.

@@ -10,11 +10,11 @@ use std::collections::{HashMap, HashSet};
 use std::fmt::{self, Display, Formatter};
 use std::hash::{Hash, Hasher};
 
-/// A key that is compared only by its number. The place shows where the key was written.
+/// A key that is compared only by its number. The instance tells equal keys apart.
 #[derive(Clone, Debug)]
 struct Label {
     number: u64,
-    place: u64,
+    instance: u64,
 }
 
 impl PartialEq for Label {
@@ -62,49 +62,49 @@ impl TCNode<Label> for Labelled {
     fn reset_edges(&mut self) {}
 }
 
-fn label(number: u64, place: u64) -> Label {
-    Label { number, place }
+fn label(number: u64, instance: u64) -> Label {
+    Label { number, instance }
 }
 
-/// Returns nodes with one edge each. Their places differ.
-fn labelled(rows: &[(u64, u64)]) -> HashMap<Label, Labelled> {
-    let node = |(place, (from, to)): (u64, &(u64, u64))| {
+/// Returns nodes with one edge each. Their instances differ.
+fn labelled_nodes(edges: &[(u64, u64)]) -> HashMap<Label, Labelled> {
+    let node = |(instance, (from, to)): (u64, &(u64, u64))| {
         let targets = HashSet::from([label(*to, 100)]);
-        let label_within = label(*from, place);
+        let own_label = label(*from, instance);
         (
             label(*from, 50),
             Labelled {
-                label: label_within,
+                label: own_label,
                 targets,
             },
         )
     };
-    (0..).zip(rows).map(node).collect()
+    (0..).zip(edges).map(node).collect()
 }
 
 #[test]
-fn equal_keys_are_one_key() {
-    let mut nodes = labelled(&[(1, 2), (2, 3)]);
+fn keys_that_compare_equal_are_the_same_key() {
+    let mut nodes = labelled_nodes(&[(1, 2), (2, 3)]);
     assert!(compute_tc(&mut nodes, true).is_ok());
-    let leads = |from: u64, to: u64| {
+    let has_edge = |from: u64, to: u64| {
         nodes
             .get(&label(from, 8))
             .is_some_and(|node| node.has_edge_to(&label(to, 9)))
     };
-    assert!(leads(1, 2) && leads(1, 3) && leads(2, 3) && !leads(3, 1) && !leads(2, 1));
+    assert!(has_edge(1, 2) && has_edge(1, 3) && has_edge(2, 3) && !has_edge(3, 1) && !has_edge(2, 1));
     // each node keeps its own key
     assert!(
         [1, 2]
             .iter()
-            .all(|number| nodes[&label(*number, 8)].label.place + 1 == *number)
+            .all(|number| nodes[&label(*number, 8)].label.instance + 1 == *number)
     );
 }
 
 #[test]
-fn a_cycle_over_equal_keys_is_named() {
-    match compute_tc(&mut labelled(&[(1, 2), (2, 1), (3, 1)]), true) {
+fn cycle_error_names_a_key_on_the_cycle() {
+    match compute_tc(&mut labelled_nodes(&[(1, 2), (2, 1), (3, 1)]), true) {
         Err(TcError::HasCycle(cycle)) => assert!([1, 2].contains(&cycle.vertex_with_loop().number)),
-        _ => panic!("the error names no cycle"),
+        _ => panic!("expected an error for a cycle"),
     }
 }
 
@@ -116,17 +116,20 @@ fn nodes_of(edges: impl IntoIterator<Item = (u32, Vec<u32>)>) -> HashMap<u32, Nu
 }
 
 #[test]
-fn each_of_fifty_leads_to_the_others() {
-    let all = || nodes_of((0..50).map(|key| (key, (0..50).filter(|to| *to != key).collect())));
-    let mut nodes = all();
+fn complete_graph_of_fifty_nodes() {
+    let complete_graph = || nodes_of((0..50).map(|key| (key, (0..50).filter(|to| *to != key).collect())));
+    let mut nodes = complete_graph();
     let work = compute_tc_counted(&mut nodes, false).expect("the call succeeds");
     assert_eq!(work.reads, 50);
     assert!(nodes.values().all(|node| node.1.len() == 50));
-    assert!(matches!(compute_tc(&mut all(), true), Err(TcError::HasCycle(_))));
+    assert!(matches!(
+        compute_tc(&mut complete_graph(), true),
+        Err(TcError::HasCycle(_))
+    ));
 }
 
 #[test]
-fn a_chain_a_star_and_a_ring() {
+fn chain_star_and_ring() {
     let mut chain = nodes_of((1..=2_000).map(|key| (key, vec![key + 1])));
     let work = compute_tc_counted(&mut chain, true).expect("no cycle");
     assert_eq!((work.reads, work.closings), (2_000, 2_000));
@@ -142,7 +145,7 @@ fn a_chain_a_star_and_a_ring() {
 
 /// The part of a chain of 100,000 keys in which only the last 50 have nodes.
 #[test]
-fn the_end_of_a_long_chain() {
+fn end_of_a_long_chain() {
     let mut nodes = nodes_of((99_951..=100_000).map(|key| (key, if key < 100_000 { vec![key + 1] } else { vec![] })));
     compute_tc(&mut nodes, false).expect("the call succeeds");
     assert_eq!(nodes.values().map(|node| node.1.len()).sum::<usize>(), 1_225);
@@ -150,7 +153,7 @@ fn the_end_of_a_long_chain() {
 }
 
 #[test]
-fn changed_nodes_are_closed_anew_and_absent_ones_are_not_visited() {
+fn repair_closes_changed_nodes_and_skips_absent_keys() {
     let mut nodes = nodes_of((0..9).map(|key| (key, vec![key + 1])));
     compute_tc(&mut nodes, true).expect("no cycle");
     for (key, edges) in [(3, vec![4]), (1, vec![2, 3]), (7, vec![8])] {
@@ -166,7 +169,7 @@ fn changed_nodes_are_closed_anew_and_absent_ones_are_not_visited() {
 }
 
 #[test]
-fn refusals_are_told_and_compared() {
+fn error_messages_and_equality() {
     let missing = || {
         TcError::MissingTcEdge(MissingTcEdge {
             child: 1,
@@ -178,8 +181,8 @@ fn refusals_are_told_and_compared() {
         missing().to_string(),
         "expected all transitive edges to exist, but `1` -> `2` and `2` -> `3` exists, while `1` -> `3` does not"
     );
-    let looped = || enforce_tc_and_dag(&nodes_of([(7, vec![7])])).expect_err("a loop");
-    assert_eq!(looped().to_string(), "input graph has a cycle containing vertex `7`");
+    let self_loop = || enforce_tc_and_dag(&nodes_of([(7, vec![7])])).expect_err("a loop");
+    assert_eq!(self_loop().to_string(), "input graph has a cycle containing vertex `7`");
     assert!(enforce_tc_and_dag(&nodes_of([(1, vec![2]), (2, vec![3])])).expect_err("it is not closed") == missing());
-    assert!(looped() != missing() && looped() == TcError::HasCycle(HasCycle::new(7)));
+    assert!(self_loop() != missing() && self_loop() == TcError::HasCycle(HasCycle::new(7)));
 }

@@ -39,17 +39,17 @@ fn hash_of<T: Hash>(thing: &T) -> u64 {
 }
 
 /// Asserts that the items are in ascending order, and that each is equal only to its copy and has the same hash.
-fn ascend<T: Ord + Hash + Clone + Debug>(all: &[T]) {
-    for (i, one) in all.iter().enumerate() {
+fn assert_ascending<T: Ord + Hash + Clone + Debug>(items: &[T]) {
+    for (i, one) in items.iter().enumerate() {
         assert_eq!((one, hash_of(one)), (&one.clone(), hash_of(&one.clone())));
-        for (j, other) in all.iter().enumerate() {
+        for (j, other) in items.iter().enumerate() {
             assert_eq!((one.cmp(other), one == other), (i.cmp(&j), i == j), "{one:?} {other:?}");
         }
     }
 }
 
 /// Returns the eight forms in order, each by its constructor.
-fn all() -> [Constraint; 8] {
+fn all_constraints() -> [Constraint; 8] {
     [
         Constraint::any(),
         Constraint::is_in(group()),
@@ -89,7 +89,7 @@ fn all_on_resource() -> [ResourceConstraint; 8] {
 }
 
 /// For each form: its text for a variable V, its expression, and its text after the slot was replaced by `B::"u"`.
-const WRITTEN: [(&str, &str, &str); 8] = [
+const FORMS: [(&str, &str, &str); 8] = [
     ("V", "true", "V"),
     (r#"V in A::"g""#, r#"V in A::"g""#, r#"V in A::"g""#),
     ("V in ?V", "V in ?V", r#"V in B::"u""#),
@@ -105,11 +105,15 @@ const WRITTEN: [(&str, &str, &str); 8] = [
 ];
 
 #[test]
-fn constraints_are_written_and_stand_for_expressions() {
+fn display_and_expressions_of_constraints() {
     let (principal, resource) = (PrincipalOrResource::Principal, PrincipalOrResource::Resource);
-    for (n, (text, expr, filled)) in WRITTEN.iter().enumerate() {
+    for (n, (text, expr, filled)) in FORMS.iter().enumerate() {
         let on = |variable: &str, text: &str| text.replace('V', variable);
-        let (plain, first, second) = (&all()[n], all_on_principal()[n].clone(), all_on_resource()[n].clone());
+        let (plain, first, second) = (
+            &all_constraints()[n],
+            all_on_principal()[n].clone(),
+            all_on_resource()[n].clone(),
+        );
         assert_eq!((first.as_inner(), second.as_inner()), (plain, plain));
         assert_eq!(
             (plain.display(principal), plain.display(resource)),
@@ -137,24 +141,24 @@ fn constraints_are_written_and_stand_for_expressions() {
         assert_eq!(PrincipalConstraint::new(plain.clone()).into_inner(), *plain);
         assert_eq!(ResourceConstraint::new(plain.clone()).into_inner(), *plain);
     }
-    let far = Constraint::is_entity_type_in(ty("N::T"), shared(uid(r#"A::B::"é""#)));
-    assert_eq!(far.display(resource), r#"resource is N::T in A::B::"é""#);
+    let qualified = Constraint::is_entity_type_in(ty("N::T"), shared(uid(r#"A::B::"é""#)));
+    assert_eq!(qualified.display(resource), r#"resource is N::T in A::B::"é""#);
     let escaped = Constraint::is_entity_type_in(ty("T"), shared(uid(r#"A::"it\'s\n""#)));
     assert_eq!(escaped.display(principal), r#"principal is T in A::"it\'s\n""#);
 }
 
 #[test]
-fn constraints_are_ordered_and_name_their_uids_and_types() {
-    ascend(&all());
-    ascend(&all_on_principal());
-    ascend(&all_on_resource());
-    let typed = |stated: &str, text: &str| Constraint::is_entity_type_in(ty(stated), shared(uid(text)));
+fn order_uids_and_types_of_constraints() {
+    assert_ascending(&all_constraints());
+    assert_ascending(&all_on_principal());
+    assert_ascending(&all_on_resource());
+    let typed = |type_name: &str, text: &str| Constraint::is_entity_type_in(ty(type_name), shared(uid(text)));
     assert!(typed("S", r#"Z::"z""#) < typed("T", r#"A::"a""#));
     assert!(typed("T", r#"A::"a""#) < typed("T", r#"A::"b""#));
     let types: [&[&str]; 8] = [&[], &["A"], &[], &["A"], &[], &["T"], &["A", "T"], &["T"]];
-    for (constraint, types) in all().iter().zip(types) {
-        let told: Vec<_> = constraint.iter_entity_type_names().map(ToString::to_string).collect();
-        assert_eq!(told, types, "{constraint:?}");
+    for (constraint, types) in all_constraints().iter().zip(types) {
+        let type_names: Vec<_> = constraint.iter_entity_type_names().map(ToString::to_string).collect();
+        assert_eq!(type_names, types, "{constraint:?}");
         assert_eq!(constraint.get_euid().is_some(), types.contains(&"A"));
     }
 }
@@ -163,17 +167,25 @@ fn constraints_are_ordered_and_name_their_uids_and_types() {
 fn references_and_variables() {
     let (p, r) = (SlotId::principal(), SlotId::resource());
     let slot = |start: Option<Loc>| EntityReference::Slot(start);
-    let to = |text: &str| EntityReference::euid(shared(uid(text)));
+    let reference = |text: &str| EntityReference::euid(shared(uid(text)));
     assert_eq!(
         (slot(None).into_expr(p), slot(None).into_expr(r)),
         (Expr::slot(p), Expr::slot(r))
     );
     assert_eq!(
-        to(r#"A::"é""#).into_expr(p),
+        reference(r#"A::"é""#).into_expr(p),
         Expr::val(Literal::EntityUID(shared(uid(r#"A::"é""#))))
     );
-    assert_eq!(EntityReference::from_uid(uid(r#"N::T::"x""#)), to(r#"N::T::"x""#));
-    ascend(&[to(r#"A::"y""#), to(r#"A::"z""#), to(r#"Z::"a""#), slot(None)]);
+    assert_eq!(
+        EntityReference::from_uid(uid(r#"N::T::"x""#)),
+        reference(r#"N::T::"x""#)
+    );
+    assert_ascending(&[
+        reference(r#"A::"y""#),
+        reference(r#"A::"z""#),
+        reference(r#"Z::"a""#),
+        slot(None),
+    ]);
     // locations do not affect comparisons, and each is kept
     assert_eq!(slot(at(3)), slot(at(1)));
     assert_eq!(
@@ -181,7 +193,9 @@ fn references_and_variables() {
         (std::cmp::Ordering::Equal, hash_of(&slot(None)))
     );
     assert_eq!(slot(at(5)).clone().into_expr(r).source_loc(), at(5).as_ref());
-    assert!(slot(None).into_expr(p).source_loc().is_none() && to(r#"A::"a""#).into_expr(p).source_loc().is_none());
+    assert!(
+        slot(None).into_expr(p).source_loc().is_none() && reference(r#"A::"a""#).into_expr(p).source_loc().is_none()
+    );
     let typed = ty("T").with_loc(at(7).as_ref());
     assert_eq!(Constraint::Is(shared(typed)), Constraint::is_entity_type(ty("T")));
     for constraint in [
@@ -210,7 +224,7 @@ fn references_and_variables() {
     assert_eq!((SlotId::from(principal), SlotId::from(resource)), (p, r));
 }
 
-fn listed(texts: &[&str]) -> ActionConstraint {
+fn actions_in(texts: &[&str]) -> ActionConstraint {
     ActionConstraint::is_in(texts.iter().map(|text| uid(text)))
 }
 
@@ -219,10 +233,10 @@ fn all_actions(in_slot: Option<Loc>, eq_slot: Option<Loc>) -> [ActionConstraint;
     let (a, b) = (r#"Action::"a""#, r#"Action::"b""#);
     [
         ActionConstraint::any(),
-        listed(&[]),
-        listed(&[a]),
-        listed(&[a, a]),
-        listed(&[b]),
+        actions_in(&[]),
+        actions_in(&[a]),
+        actions_in(&[a, a]),
+        actions_in(&[b]),
         ActionConstraint::is_eq(uid(a)),
         ActionConstraint::Eq(shared(uid(b))),
         ActionConstraint::InSlot(in_slot),
@@ -264,50 +278,56 @@ const ACTIONS: [(&str, &str, &str); 9] = [
 ];
 
 #[test]
-fn constraints_of_actions() {
-    let (plain, placed) = (all_actions(None, None), all_actions(at(5), at(4)));
-    ascend(&plain);
-    ascend(&placed);
+fn action_constraints() {
+    let (plain, located) = (all_actions(None, None), all_actions(at(5), at(4)));
+    assert_ascending(&plain);
+    assert_ascending(&located);
     assert_eq!(
         (&plain[7], &plain[8]),
         (&ActionConstraint::is_in_slot(), &ActionConstraint::is_eq_slot())
     );
     for (n, (text, expr, filled)) in ACTIONS.iter().enumerate() {
-        assert_eq!((&plain[n], hash_of(&plain[n])), (&placed[n], hash_of(&placed[n])));
+        assert_eq!((&plain[n], hash_of(&plain[n])), (&located[n], hash_of(&located[n])));
         assert_eq!(
-            (plain[n].to_string().as_str(), placed[n].to_string().as_str()),
+            (plain[n].to_string().as_str(), located[n].to_string().as_str()),
             (*text, *text)
         );
         assert_eq!(plain[n].as_expr().to_string(), *expr);
-        let once = placed[n].clone().with_filled_slot(shared(uid(r#"B::"u""#)));
-        assert_eq!(once.to_string(), *filled);
-        assert_eq!(once.clone().with_filled_slot(shared(uid(r#"C::"v""#))), once);
+        let filled_once = located[n].clone().with_filled_slot(shared(uid(r#"B::"u""#)));
+        assert_eq!(filled_once.to_string(), *filled);
+        assert_eq!(
+            filled_once.clone().with_filled_slot(shared(uid(r#"C::"v""#))),
+            filled_once
+        );
     }
     for (n, start) in [(7, 5), (8, 4)] {
-        let slots = placed[n].clone().as_expr().slots();
-        let told: Vec<_> = slots
+        let slots = located[n].clone().as_expr().slots();
+        let slot_locations: Vec<_> = slots
             .into_iter()
             .map(|slot| (slot.id, slot.loc.map(|loc| loc.start)))
             .collect();
-        assert_eq!(told, [(SlotId::action(), Some(start))]);
+        assert_eq!(slot_locations, [(SlotId::action(), Some(start))]);
     }
-    let past = listed(&[r#"Action::"é""#, r#"Action::"\"""#]);
-    assert_eq!(past.to_string(), r#"action in [Action::"é",Action::"\""]"#);
+    let non_ascii = actions_in(&[r#"Action::"é""#, r#"Action::"\"""#]);
+    assert_eq!(non_ascii.to_string(), r#"action in [Action::"é",Action::"\""]"#);
     assert_eq!(
-        listed(&[r#"Action::"c""#, r#"Action::"a""#, r#"Action::"b""#]).to_string(),
+        actions_in(&[r#"Action::"c""#, r#"Action::"a""#, r#"Action::"b""#]).to_string(),
         r#"action in [Action::"c",Action::"a",Action::"b"]"#
     );
     // uids and types are iterated from the end of the list, with duplicates
     let texts = |constraint: &ActionConstraint| constraint.iter_euids().map(ToString::to_string).collect::<Vec<_>>();
-    assert_eq!(texts(&listed(&[r#"A::"a""#, r#"B::"b""#])), [r#"B::"b""#, r#"A::"a""#]);
+    assert_eq!(
+        texts(&actions_in(&[r#"A::"a""#, r#"B::"b""#])),
+        [r#"B::"b""#, r#"A::"a""#]
+    );
     let types = |constraint: &ActionConstraint| {
         constraint
             .iter_entity_type_names()
             .map(ToString::to_string)
             .collect::<Vec<_>>()
     };
-    assert_eq!(types(&listed(&[r#"A::"a""#, r#"B::"b""#])), ["B", "A"]);
-    assert_eq!(types(&listed(&[r#"A::"a""#, r#"A::"b""#])), ["A", "A"]);
+    assert_eq!(types(&actions_in(&[r#"A::"a""#, r#"B::"b""#])), ["B", "A"]);
+    assert_eq!(types(&actions_in(&[r#"A::"a""#, r#"A::"b""#])), ["A", "A"]);
     assert_eq!(types(&ActionConstraint::is_eq(uid(r#"N::Action::"a""#))), ["N::Action"]);
     for n in [0, 1, 7, 8] {
         assert!(texts(&plain[n]).is_empty() && types(&plain[n]).is_empty());
@@ -315,28 +335,29 @@ fn constraints_of_actions() {
 }
 
 #[test]
-fn uids_that_are_no_actions_are_named_in_the_order_of_the_list() {
-    let told = |constraint: ActionConstraint| constraint.check_action_types().err().map(|error| error.to_string());
-    let refused = |uids: &str| Some(format!("the action constraint holds uids that are not actions: {uids}"));
-    let mixed = || listed(&[r#"Action::"v""#, r#"User::"x""#, r#"T::"y""#]);
-    assert_eq!(told(mixed()), refused(r#"User::"x",T::"y""#));
+fn errors_list_non_action_uids_in_order() {
+    let error_text =
+        |constraint: ActionConstraint| constraint.check_action_types().err().map(|error| error.to_string());
+    let expected = |uids: &str| Some(format!("the action constraint holds uids that are not actions: {uids}"));
+    let mixed = || actions_in(&[r#"Action::"v""#, r#"User::"x""#, r#"T::"y""#]);
+    assert_eq!(error_text(mixed()), expected(r#"User::"x",T::"y""#));
     assert_eq!(
-        told(listed(&[r#"T::"y""#, r#"Action::"v""#, r#"T::"y""#])),
-        refused(r#"T::"y",T::"y""#)
+        error_text(actions_in(&[r#"T::"y""#, r#"Action::"v""#, r#"T::"y""#])),
+        expected(r#"T::"y",T::"y""#)
     );
     assert_eq!(
-        told(ActionConstraint::is_eq(uid(r#"Action::T::"y""#))),
-        refused(r#"Action::T::"y""#)
+        error_text(ActionConstraint::is_eq(uid(r#"Action::T::"y""#))),
+        expected(r#"Action::T::"y""#)
     );
     assert_eq!(
         mixed().contains_only_action_types().unwrap_err().to_string(),
-        refused(r#"User::"x",T::"y""#).unwrap()
+        expected(r#"User::"x",T::"y""#).unwrap()
     );
     let passing = [
         ActionConstraint::Any,
-        listed(&[]),
+        actions_in(&[]),
         ActionConstraint::is_eq(uid(r#"N::Action::"v""#)),
-        listed(&[r#"Action::"v""#, r#"A::B::Action::"w""#]),
+        actions_in(&[r#"Action::"v""#, r#"A::B::Action::"w""#]),
         ActionConstraint::InSlot(at(3)),
         ActionConstraint::EqSlot(at(3)),
     ];
@@ -350,58 +371,64 @@ fn key(text: &str) -> AnyId {
     AnyId::from_normalized_str(text).unwrap()
 }
 
-fn note(val: &str, loc: Option<Loc>) -> Annotation {
+fn annotation(val: &str, loc: Option<Loc>) -> Annotation {
     Annotation { val: val.into(), loc }
 }
 
-fn noted(pairs: &[(&str, &str)]) -> Annotations {
-    Annotations::try_from_iter(pairs.iter().map(|(name, val)| (key(name), note(val, None))))
+fn annotations(pairs: &[(&str, &str)]) -> Annotations {
+    Annotations::try_from_iter(pairs.iter().map(|(name, val)| (key(name), annotation(val, None))))
 }
 
 #[test]
-fn annotations() {
-    let stated = Annotation::with_optional_value(Some("v".into()), at(3));
-    assert_eq!((stated.as_ref(), stated.clone().loc), ("v", at(3)));
-    let unstated = Annotation::with_optional_value(None, at(2));
-    assert_eq!((unstated.as_ref(), unstated.loc.as_ref()), ("", at(2).as_ref()));
+fn annotation_order_and_display() {
+    let with_value = Annotation::with_optional_value(Some("v".into()), at(3));
+    assert_eq!((with_value.as_ref(), with_value.clone().loc), ("v", at(3)));
+    let without_value = Annotation::with_optional_value(None, at(2));
     assert_eq!(
-        (note("v", at(2)), hash_of(&note("v", at(2)))),
-        (note("v", None), hash_of(&note("v", None)))
+        (without_value.as_ref(), without_value.loc.as_ref()),
+        ("", at(2).as_ref())
     );
-    ascend(&[
-        note("", None),
-        note("a", None),
-        note("aa", None),
-        note("b", None),
-        note("é", None),
+    assert_eq!(
+        (annotation("v", at(2)), hash_of(&annotation("v", at(2)))),
+        (annotation("v", None), hash_of(&annotation("v", None)))
+    );
+    assert_ascending(&[
+        annotation("", None),
+        annotation("a", None),
+        annotation("aa", None),
+        annotation("b", None),
+        annotation("é", None),
     ]);
     for (val, text) in [("", r#""""#), ("x\"y", r#""x\"y""#), ("é\t", r#""é\t""#)] {
-        assert_eq!(note(val, None).to_string(), text);
+        assert_eq!(annotation(val, None).to_string(), text);
     }
     // if a key is repeated, the last annotation is used; annotations are ordered by their keys
-    let all = noted(&[("k", "1"), ("j", "2"), ("k", "3")]);
+    let all = annotations(&[("k", "1"), ("j", "2"), ("k", "3")]);
     assert_eq!(all.get(&key("k")).map(AsRef::as_ref), Some("3"));
     assert_eq!(all.get(&key("j")).map(AsRef::as_ref), Some("2"));
     assert!(all.get(&key("i")).is_none() && !all.is_empty() && Annotations::new().is_empty());
-    let all = noted(&[("b", "1"), ("a", "2"), ("ab", "3"), ("B", "4")]);
+    let all = annotations(&[("b", "1"), ("a", "2"), ("ab", "3"), ("B", "4")]);
     let names = ["B", "a", "ab", "b"];
     assert_eq!(all.iter().map(|(name, _)| name.as_ref()).collect::<Vec<_>>(), names);
     assert_eq!(
         all.into_iter().map(|(name, _)| name.to_string()).collect::<Vec<_>>(),
         names
     );
-    assert_eq!(noted(&[]).to_string(), "");
-    assert_eq!(noted(&[("if", "x\"y")]).to_string(), "@if(\"x\\\"y\")\n");
-    assert_eq!(noted(&[("b", "1"), ("a", "é")]).to_string(), "@a(\"é\")\n@b(\"1\")\n");
+    assert_eq!(annotations(&[]).to_string(), "");
+    assert_eq!(annotations(&[("if", "x\"y")]).to_string(), "@if(\"x\\\"y\")\n");
     assert_eq!(
-        Annotations::from(BTreeMap::from([(key("k"), note("v", None))])),
-        noted(&[("k", "v")])
+        annotations(&[("b", "1"), ("a", "é")]).to_string(),
+        "@a(\"é\")\n@b(\"1\")\n"
     );
-    ascend(&[
-        noted(&[]),
-        noted(&[("a", "1")]),
-        noted(&[("a", "1"), ("b", "0")]),
-        noted(&[("a", "2")]),
-        noted(&[("b", "1")]),
+    assert_eq!(
+        Annotations::from(BTreeMap::from([(key("k"), annotation("v", None))])),
+        annotations(&[("k", "v")])
+    );
+    assert_ascending(&[
+        annotations(&[]),
+        annotations(&[("a", "1")]),
+        annotations(&[("a", "1"), ("b", "0")]),
+        annotations(&[("a", "2")]),
+        annotations(&[("b", "1")]),
     ]);
 }

@@ -1,17 +1,17 @@
 //! The corpus of a fuzzer: the program writes the same as the proved program for each input. Also lines of more types
-//! than a run caches, and wrong lines of entities.
+//! than a run caches, and invalid `ent` lines.
 use cedar_store::program::run;
 
-/// Returns the bytes of an escaped input.
-fn unescaped(text: &str) -> Vec<u8> {
-    let (mut bytes, mut left) = (Vec::new(), text.bytes());
-    while let Some(byte) = left.next() {
+/// Decodes the escapes of an input.
+fn unescape(text: &str) -> Vec<u8> {
+    let (mut bytes, mut rest) = (Vec::new(), text.bytes());
+    while let Some(byte) = rest.next() {
         bytes.push(match byte {
-            b'\\' => match left.next().expect("a backslash is not the last") {
+            b'\\' => match rest.next().expect("a backslash is not the last") {
                 b't' => b'\t',
                 b'n' => b'\n',
                 b'x' => {
-                    let two = [left.next(), left.next()].map(|digit| digit.expect("two digits"));
+                    let two = [rest.next(), rest.next()].map(|digit| digit.expect("two digits"));
                     u8::from_str_radix(std::str::from_utf8(&two).expect("digits"), 16).expect("digits")
                 }
                 other => other,
@@ -22,27 +22,27 @@ fn unescaped(text: &str) -> Vec<u8> {
     bytes
 }
 
-fn sum(bytes: &[u8]) -> u64 {
-    bytes.iter().fold(0xcbf2_9ce4_8422_2325, |sum, byte| {
-        (sum ^ u64::from(*byte)).wrapping_mul(0x0100_0000_01b3)
+fn checksum(bytes: &[u8]) -> u64 {
+    bytes.iter().fold(0xcbf2_9ce4_8422_2325, |hash, byte| {
+        (hash ^ u64::from(*byte)).wrapping_mul(0x0100_0000_01b3)
     })
 }
 
 #[test]
-fn what_a_fuzzer_kept_is_answered_as_the_proved_program_does() {
-    let rows = include_str!("corpus.txt").lines().filter(|row| !row.starts_with('#'));
+fn outputs_for_the_corpus_equal_those_of_the_proved_program() {
+    let cases = include_str!("corpus.txt").lines().filter(|case| !case.starts_with('#'));
     let mut count = 0;
-    for row in rows {
-        let mut parts = row.splitn(3, ' ');
+    for case in cases {
+        let mut parts = case.splitn(3, ' ');
         let mut part = || parts.next().expect("three parts");
-        let status: u8 = part().parse().expect("a status");
-        let due = u64::from_str_radix(part(), 16).expect("a sum");
-        let lines = unescaped(part());
+        let expected_status: u8 = part().parse().expect("a status");
+        let expected_checksum = u64::from_str_radix(part(), 16).expect("a checksum");
+        let lines = unescape(part());
         let mut written = Vec::new();
-        let told = run(&mut &lines[..], &mut written).expect("reading and writing memory never fails");
+        let status = run(&mut &lines[..], &mut written).expect("reading and writing memory never fails");
         assert_eq!(
-            (told, sum(&written)),
-            (status, due),
+            (status, checksum(&written)),
+            (expected_status, expected_checksum),
             "{}",
             String::from_utf8_lossy(&lines)
         );
@@ -53,27 +53,27 @@ fn what_a_fuzzer_kept_is_answered_as_the_proved_program_does() {
 
 /// Returns lines that build a store of three entities of each type, each with a parent of its type, and ask for their
 /// ancestors; and the expected output.
-fn with_parents(types: &[String], eid: &str) -> (String, String) {
+fn input_with_parents(types: &[String], eid: &str) -> (String, String) {
     let (mut input, mut expected) = (String::new(), format!("ok {}\n", types.len() * 3));
-    let mut asked = (String::new(), String::new());
+    let mut queries = (String::new(), String::new());
     for round in 0..3 {
         for (n, ty) in types.iter().enumerate() {
-            let (own, parent) = (format!("{ty}::\"{n} {round}\""), format!("{ty}::\"{eid}\""));
-            input.push_str(&format!("ent\t{own}\t{parent}\n"));
-            asked.0.push_str(&format!("anc\t{own}\n"));
-            asked.1.push_str(&format!("anc\t{parent}\n"));
+            let (uid, parent) = (format!("{ty}::\"{n} {round}\""), format!("{ty}::\"{eid}\""));
+            input.push_str(&format!("ent\t{uid}\t{parent}\n"));
+            queries.0.push_str(&format!("anc\t{uid}\n"));
+            queries.1.push_str(&format!("anc\t{parent}\n"));
         }
     }
     input.push_str("build\n");
-    input.push_str(&asked.0);
-    expected.push_str(&asked.1);
+    input.push_str(&queries.0);
+    expected.push_str(&queries.1);
     (input, expected)
 }
 
 /// A run caches 16 types and 256 parents. Lines of more types, and of types and parents too long for the cache, are
 /// read as any other line.
 #[test]
-fn lines_of_many_types_and_of_long_ones_are_read_as_they_are() {
+fn lines_with_more_or_longer_types_than_the_cache_are_parsed() {
     let short = |count: usize| (0..count).map(|n| format!("T{n}")).collect::<Vec<_>>();
     let long = |length: usize| {
         (0..20)
@@ -90,30 +90,30 @@ fn lines_of_many_types_and_of_long_ones_are_read_as_they_are() {
         (long(300), "e".repeat(3_790)),
         ([short(30), long(255)].concat(), "e".repeat(3_836)),
     ] {
-        let (input, expected) = with_parents(&types, &eid);
+        let (input, expected) = input_with_parents(&types, &eid);
         let mut written = Vec::new();
         let status = run(&mut input.as_bytes(), &mut written).expect("memory suffices");
         assert_eq!((status, String::from_utf8(written).expect("ASCII")), (0, expected));
     }
 }
 
-/// A wrong line `ent` is no command, whatever was read of it before.
+/// An invalid `ent` line is not a command, whatever part of it was already parsed.
 #[test]
-fn a_wrong_line_of_an_entity_is_no_command() {
-    for wrong in [
+fn invalid_ent_line_is_not_a_command() {
+    for invalid in [
         "ent",
         "ent\tA::\"a\"\tB::b",
         "ent\tA::a",
         "ent\tA::\"a\"\t",
         "entity\tA::\"a\"",
     ] {
-        let input = format!("ent\tA::\"a\"\tB::\"b\"\nbuild\n{wrong}\nbuild\n");
+        let input = format!("ent\tA::\"a\"\tB::\"b\"\nbuild\n{invalid}\nbuild\n");
         let mut written = Vec::new();
         let status = run(&mut input.as_bytes(), &mut written).expect("memory suffices");
         assert_eq!(
             (status, written),
             (2, b"ok 1\nline 3: not a command\n".to_vec()),
-            "{wrong}"
+            "{invalid}"
         );
     }
 }

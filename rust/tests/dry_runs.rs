@@ -4,7 +4,7 @@ mod common;
 use cedar_store::ast::{Entity, EntityUID};
 use cedar_store::entities::{Entities, EntitiesError, TCComputation};
 use cedar_store::{have_no_indirect, would_add, would_upsert};
-use common::{Drawn, child, with_eid};
+use common::{Random, child, with_eid};
 use std::sync::Arc;
 
 /// The reason of an error: the uid of a duplicate, or a cycle.
@@ -23,13 +23,13 @@ fn reason(error: EntitiesError) -> Reason {
 }
 
 /// Returns up to four entities, each with up to two parents, all of few uids. Every kind of error occurs.
-fn list(drawn: &mut Drawn, uids: usize) -> Vec<Arc<Entity>> {
-    (0..drawn.below(4))
+fn list(random: &mut Random, uids: usize) -> Vec<Arc<Entity>> {
+    (0..random.below(4))
         .map(|_| {
-            let own = drawn.below(uids).to_string();
-            let parents: Vec<String> = (0..drawn.below(3)).map(|_| drawn.below(uids).to_string()).collect();
+            let eid = random.below(uids).to_string();
+            let parents: Vec<String> = (0..random.below(3)).map(|_| random.below(uids).to_string()).collect();
             let parents: Vec<&str> = parents.iter().map(String::as_str).collect();
-            Arc::new(child(&own, &parents))
+            Arc::new(child(&eid, &parents))
         })
         .collect()
 }
@@ -38,22 +38,22 @@ fn list(drawn: &mut Drawn, uids: usize) -> Vec<Arc<Entity>> {
 fn a_dry_run_returns_the_error_of_the_edit() {
     let (mut edits, mut duplicates, mut cycles) = (0, 0, 0);
     for seed in 0..400 {
-        let mut drawn = Drawn::new(seed);
+        let mut random = Random::new(seed);
         let mut store = Entities::new();
         for _ in 0..12 {
-            let list = list(&mut drawn, 7);
+            let list = list(&mut random, 7);
             assert!(have_no_indirect(&list));
             let (before, now) = (store.clone(), TCComputation::ComputeNow);
-            let is_upsert = drawn.below(2) == 0;
-            let (dry, edited) = if is_upsert {
+            let is_upsert = random.below(2) == 0;
+            let (dry_run, edited) = if is_upsert {
                 (would_upsert(&store, &list), store.upsert_entities(list, now))
             } else {
                 (would_add(&store, &list), store.add_entities(list, now))
             };
-            let dry = dry.map_err(reason);
+            let dry_run = dry_run.map_err(reason);
             match edited {
                 Ok(next) => {
-                    assert_eq!(dry, Ok(()));
+                    assert_eq!(dry_run, Ok(()));
                     (store, edits) = (next, edits + 1);
                 }
                 Err(error) => {
@@ -62,7 +62,7 @@ fn a_dry_run_returns_the_error_of_the_edit() {
                         Reason::Duplicate(_) => duplicates += 1,
                         Reason::Cycle => cycles += 1,
                     }
-                    assert_eq!(dry, Err(reason));
+                    assert_eq!(dry_run, Err(reason));
                     store = before;
                 }
             }
@@ -75,7 +75,7 @@ fn a_dry_run_returns_the_error_of_the_edit() {
 }
 
 #[test]
-fn are_bare_finds_an_indirect_ancestor() {
+fn have_no_indirect_detects_an_indirect_ancestor() {
     let mut entity = child("1", &["2"]);
     entity.add_indirect_ancestor(with_eid("3"));
     assert!(!have_no_indirect(&[Arc::new(child("4", &[])), Arc::new(entity)]));

@@ -58,7 +58,7 @@ fn validate_rejects_reserved_key_in_value() {
         let deep = Value::set([Value::set([record.clone()], None)], None);
         for value in [record, deep] {
             match tagged(value) {
-                Err(EntitiesError::ReservedKey(told)) => assert_eq!(told, key),
+                Err(EntitiesError::ReservedKey(reported)) => assert_eq!(reported, key),
                 other => panic!("{key}: {other:?}"),
             }
         }
@@ -118,10 +118,10 @@ fn normalized_euid_matches_default() {
         ("", None),
         (r#""alice""#, None),
     ] {
-        let read = EntityUID::from_normalized_str(text).ok();
-        assert_eq!(read.as_ref().map(|uid| uid.eid().as_ref()), eid, "{text}");
-        if let Some(read) = read {
-            assert_eq!(read.to_string(), text);
+        let parsed = EntityUID::from_normalized_str(text).ok();
+        assert_eq!(parsed.as_ref().map(|uid| uid.eid().as_ref()), eid, "{text}");
+        if let Some(parsed) = parsed {
+            assert_eq!(parsed.to_string(), text);
         }
     }
 }
@@ -134,7 +134,7 @@ fn euid_ordering_matches_type_then_eid() {
 }
 
 #[test]
-fn a_type_is_read_from_its_text_and_printed_as_it() {
+fn entity_type_parses_and_displays() {
     let ty = EntityType::from_normalized_str("some::entity_type").unwrap();
     assert_eq!(ty.to_string(), "some::entity_type");
     assert_eq!(ty.name().basename().as_ref(), "entity_type");
@@ -151,16 +151,16 @@ mod validate_test {
 
     #[test]
     fn self_in_parents_rejected() {
-        let own = with_eid("self");
-        let entity = entity_with(own.clone(), &[&own], &[]);
-        assert!(matches!(entity.try_validate(), Err(EntitiesError::SelfAncestor { uid }) if uid == own));
+        let self_uid = with_eid("self");
+        let entity = entity_with(self_uid.clone(), &[&self_uid], &[]);
+        assert!(matches!(entity.try_validate(), Err(EntitiesError::SelfAncestor { uid }) if uid == self_uid));
     }
 
     #[test]
     fn self_in_indirect_ancestors_rejected() {
-        let own = with_eid("self");
-        let entity = entity_with(own.clone(), &[], &[&own]);
-        assert!(matches!(entity.try_validate(), Err(EntitiesError::SelfAncestor { uid }) if uid == own));
+        let self_uid = with_eid("self");
+        let entity = entity_with(self_uid.clone(), &[], &[&self_uid]);
+        assert!(matches!(entity.try_validate(), Err(EntitiesError::SelfAncestor { uid }) if uid == self_uid));
     }
 
     #[test]
@@ -170,10 +170,10 @@ mod validate_test {
 
     #[test]
     fn duplicate_ancestor_rejected() {
-        let twice = with_eid("parent");
-        let entity = entity_with(with_eid("child"), &[&twice], &[&twice]);
+        let parent_uid = with_eid("parent");
+        let entity = entity_with(with_eid("child"), &[&parent_uid], &[&parent_uid]);
         assert!(
-            matches!(entity.try_validate(), Err(EntitiesError::DuplicateAncestor { ancestor, .. }) if ancestor == twice)
+            matches!(entity.try_validate(), Err(EntitiesError::DuplicateAncestor { ancestor, .. }) if ancestor == parent_uid)
         );
     }
 

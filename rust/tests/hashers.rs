@@ -8,7 +8,7 @@ use cedar_store::ast::{Entity, EntityUID, PolicySet};
 use cedar_store::entities::{Entities, TCComputation};
 use cedar_store::program::run_with;
 use cedar_store::{KeyedState, slice};
-use common::{Drawn, id, principal};
+use common::{Random, id, principal};
 use policies::{permit, principal_template};
 use std::collections::HashMap;
 use std::hash::{BuildHasher, Hasher};
@@ -62,98 +62,98 @@ fn uid(name: usize) -> EntityUID {
     EntityUID::with_eid_and_type("A", &name.to_string()).unwrap()
 }
 
-fn entity(drawn: &mut Drawn, name: usize) -> Entity {
+fn entity(random: &mut Random, name: usize) -> Entity {
     let mut entity = Entity::with_uid(uid(name));
-    for _ in 0..drawn.below(3) {
-        entity.add_parent(uid(name + 1 + drawn.below(5)));
+    for _ in 0..random.below(3) {
+        entity.add_parent(uid(name + 1 + random.below(5)));
     }
     entity
 }
 
 /// Returns the results of random calls on a store, and the final store, as a text.
-fn stores<S: BuildHasher + Clone>(hasher: S, seed: u64) -> String {
-    let mut drawn = Drawn::new(seed);
-    let first: Vec<Entity> = (0..50).map(|name| entity(&mut drawn, name)).collect();
+fn store_results<S: BuildHasher + Clone>(hasher: S, seed: u64) -> String {
+    let mut random = Random::new(seed);
+    let first: Vec<Entity> = (0..50).map(|name| entity(&mut random, name)).collect();
     let mut store = Entities::from_entities_with_hasher(hasher, first, TCComputation::ComputeNow).unwrap();
-    let mut told = String::new();
+    let mut output = String::new();
     for _ in 0..30 {
-        let name = drawn.below(60);
+        let name = random.below(60);
         let before = store.clone();
-        let one = vec![Arc::new(entity(&mut drawn, name))];
-        let answer = match drawn.below(3) {
-            0 => store.add_entities(one, TCComputation::ComputeNow),
-            1 => store.upsert_entities(one, TCComputation::ComputeNow),
+        let entities = vec![Arc::new(entity(&mut random, name))];
+        let result = match random.below(3) {
+            0 => store.add_entities(entities, TCComputation::ComputeNow),
+            1 => store.upsert_entities(entities, TCComputation::ComputeNow),
             _ => store.remove_entities([uid(name)], TCComputation::ComputeNow),
         };
-        store = answer.unwrap_or_else(|error| {
-            told += &error.to_string();
+        store = result.unwrap_or_else(|error| {
+            output += &error.to_string();
             before
         });
-        told += &store.to_string();
-        told += &slice(&store, &[uid(name)]).to_string();
+        output += &store.to_string();
+        output += &slice(&store, &[uid(name)]).to_string();
     }
-    told
+    output
 }
 
 /// Returns the results of random calls on a policy set and of a merge, and the final set, as a text.
-fn sets<S: BuildHasher + Copy>(hasher: S, seed: u64) -> String {
-    let mut drawn = Drawn::new(seed);
-    let mut told = String::new();
-    let mut made = || {
+fn policy_set_results<S: BuildHasher + Copy>(hasher: S, seed: u64) -> String {
+    let mut random = Random::new(seed);
+    let mut output = String::new();
+    let mut random_set = || {
         let mut set = PolicySet::with_hasher(hasher);
         for _ in 0..30 {
-            let name = format!("policy{}", drawn.below(12));
-            let answer = match drawn.below(5) {
+            let name = format!("policy{}", random.below(12));
+            let result = match random.below(5) {
                 0 => set.add_static(permit(&name, None)).map_err(|error| error.to_string()),
                 1 => set
                     .add_template(principal_template(&name))
                     .map_err(|error| error.to_string()),
                 2 => set.unlink(&id(&name)).map(|_| ()).map_err(|error| error.to_string()),
                 _ => {
-                    let template = id(&format!("policy{}", drawn.below(12)));
-                    let bound = principal(uid(drawn.below(3)));
+                    let template = id(&format!("policy{}", random.below(12)));
+                    let bound = principal(uid(random.below(3)));
                     set.link(template, id(&name), bound)
                         .map(|_| ())
                         .map_err(|error| error.to_string())
                 }
             };
-            told += &answer.err().unwrap_or_default();
+            output += &result.err().unwrap_or_default();
         }
         set
     };
-    let (mut one, other) = (made(), made());
+    let (mut one, other) = (random_set(), random_set());
     let renaming = one.merge_policyset(&other, true).expect("conflicting ids are renamed");
     for (old, new) in renaming.iter() {
-        told += &format!("{old} {new} ");
+        output += &format!("{old} {new} ");
     }
-    told + &one.to_string() + &other.to_string()
+    output + &one.to_string() + &other.to_string()
 }
 
 #[test]
-fn stores_are_alike_under_every_hasher() {
+fn store_results_do_not_depend_on_the_hasher() {
     for seed in 0..60 {
-        let due = stores(KeyedState::default(), seed);
-        assert_eq!(stores(KeyedState::with_keys(1, 2), seed), due);
-        assert_eq!(stores(KeyedState::with_keys(u64::MAX, 3), seed), due);
-        assert_eq!(stores(Colliding, seed), due);
-        assert_eq!(stores(Backwards::default(), seed), due);
-        assert_eq!(stores(std::hash::RandomState::new(), seed), due);
+        let expected = store_results(KeyedState::default(), seed);
+        assert_eq!(store_results(KeyedState::with_keys(1, 2), seed), expected);
+        assert_eq!(store_results(KeyedState::with_keys(u64::MAX, 3), seed), expected);
+        assert_eq!(store_results(Colliding, seed), expected);
+        assert_eq!(store_results(Backwards::default(), seed), expected);
+        assert_eq!(store_results(std::hash::RandomState::new(), seed), expected);
     }
 }
 
 #[test]
-fn sets_are_alike_under_every_hasher() {
+fn policy_set_results_do_not_depend_on_the_hasher() {
     for seed in 0..400 {
-        let due = sets(KeyedState::default(), seed);
-        assert_eq!(sets(KeyedState::with_keys(1, 2), seed), due);
-        assert_eq!(sets(KeyedState::with_keys(u64::MAX, 3), seed), due);
-        assert_eq!(sets(Colliding, seed), due);
-        assert_eq!(sets(Backwards::default(), seed), due);
+        let expected = policy_set_results(KeyedState::default(), seed);
+        assert_eq!(policy_set_results(KeyedState::with_keys(1, 2), seed), expected);
+        assert_eq!(policy_set_results(KeyedState::with_keys(u64::MAX, 3), seed), expected);
+        assert_eq!(policy_set_results(Colliding, seed), expected);
+        assert_eq!(policy_set_results(Backwards::default(), seed), expected);
     }
 }
 
 #[test]
-fn runs_are_alike_under_every_hasher() {
+fn runs_do_not_depend_on_the_hasher() {
     let lines: String = (0..200)
         .map(|name| format!("ent\tA::\"{name}\"\tA::\"{}\"\n", name + 1))
         .chain([
@@ -163,12 +163,12 @@ fn runs_are_alike_under_every_hasher() {
             "anc\tA::\"190\"\n".into(),
         ])
         .collect();
-    let due = ran(KeyedState::default(), &lines);
-    assert_eq!(ran(Colliding, &lines), due);
-    assert_eq!(ran(Backwards::default(), &lines), due);
+    let expected = run_lines(KeyedState::default(), &lines);
+    assert_eq!(run_lines(Colliding, &lines), expected);
+    assert_eq!(run_lines(Backwards::default(), &lines), expected);
 }
 
-fn ran<S: BuildHasher + Copy>(hasher: S, lines: &str) -> (Vec<u8>, u8) {
+fn run_lines<S: BuildHasher + Copy>(hasher: S, lines: &str) -> (Vec<u8>, u8) {
     let mut written = Vec::new();
     let status = run_with(hasher, &mut lines.as_bytes(), &mut written).expect("reading and writing memory never fails");
     (written, status)
@@ -176,8 +176,8 @@ fn ran<S: BuildHasher + Copy>(hasher: S, lines: &str) -> (Vec<u8>, u8) {
 
 /// A map of nodes can have any hasher.
 #[test]
-fn maps_of_nodes_are_closed_under_every_hasher() {
-    fn closed<S: BuildHasher + Clone>(hasher: S) -> Vec<String> {
+fn closures_do_not_depend_on_the_hasher() {
+    fn closed_nodes<S: BuildHasher + Clone>(hasher: S) -> Vec<String> {
         let mut nodes: HashMap<EntityUID, Entity, S> = HashMap::with_hasher(hasher);
         for name in 0..40 {
             let mut entity = Entity::with_uid(uid(name));
@@ -189,8 +189,8 @@ fn maps_of_nodes_are_closed_under_every_hasher() {
         texts.sort();
         texts
     }
-    let due = closed(std::hash::RandomState::new());
-    assert_eq!(closed(Colliding), due);
-    assert_eq!(closed(Backwards::default()), due);
-    assert_eq!(closed(KeyedState::with_keys(5, 6)), due);
+    let expected = closed_nodes(std::hash::RandomState::new());
+    assert_eq!(closed_nodes(Colliding), expected);
+    assert_eq!(closed_nodes(Backwards::default()), expected);
+    assert_eq!(closed_nodes(KeyedState::with_keys(5, 6)), expected);
 }

@@ -19,7 +19,7 @@ use std::thread;
 const LEVELS: usize = 10_000;
 
 /// Runs a test with a large stack, because printing, comparing, hashing and dropping a tree recurse.
-fn with_room(test: fn()) {
+fn with_large_stack(test: fn()) {
     thread::Builder::new()
         .stack_size(1 << 28)
         .spawn(test)
@@ -28,9 +28,9 @@ fn with_room(test: fn()) {
         .expect("the test succeeds");
 }
 
-fn hash_of<T: Hash>(thing: &T) -> u64 {
+fn hash_of<T: Hash>(value: &T) -> u64 {
     let mut hasher = DefaultHasher::new();
-    thing.hash(&mut hasher);
+    value.hash(&mut hasher);
     hasher.finish()
 }
 
@@ -51,7 +51,7 @@ fn deep_value(inner: Value) -> Value {
 
 #[test]
 fn deep_expressions() {
-    with_room(|| {
+    with_large_stack(|| {
         let (one, other) = (deep_expr(Expr::slot(SlotId::principal())), deep_expr(Expr::val(2)));
         assert_eq!(one, one.clone());
         assert_ne!(one, other);
@@ -65,12 +65,12 @@ fn deep_expressions() {
 
 #[test]
 fn deep_values() {
-    with_room(|| {
+    with_large_stack(|| {
         let (one, other) = (deep_value(Value::from(1)), deep_value(Value::from(2)));
         assert_eq!(one, one.clone());
         assert!(one < other && hash_of(&one) == hash_of(&one.clone()));
         assert!(one.to_string().len() > 3 * LEVELS);
-        let holds = |value: Value| {
+        let entity_with = |value: Value| {
             Entity::new_with_attr_partial_value(
                 common::with_eid("a"),
                 [("k".to_string(), PartialValue::from(value))],
@@ -79,15 +79,15 @@ fn deep_values() {
                 [],
             )
         };
-        assert!(holds(one).validate().is_ok());
+        assert!(entity_with(one).validate().is_ok());
         let reserved = deep_value(Value::record([("__extn", Value::from(true))], None));
-        assert!(matches!(holds(reserved).validate(), Err(EntitiesError::ReservedKey(key)) if key == "__extn"));
+        assert!(matches!(entity_with(reserved).validate(), Err(EntitiesError::ReservedKey(key)) if key == "__extn"));
     });
 }
 
 #[test]
-fn a_template_with_a_deep_clause() {
-    with_room(|| {
+fn template_with_a_deep_clause() {
+    with_large_stack(|| {
         let template = Template::new(
             id("t"),
             None,
@@ -111,7 +111,7 @@ fn a_template_with_a_deep_clause() {
 }
 
 #[test]
-fn sets_of_many() {
+fn large_policy_set() {
     let name = |number: usize| PolicyID::from_string(format!("policy{number}"));
     let mut set = PolicySet::new();
     set.add_template(principal_template("t")).unwrap();
@@ -153,7 +153,7 @@ fn node(number: usize) -> EntityUID {
     EntityUID::with_eid_and_type("Node", &number.to_string()).unwrap()
 }
 
-fn under(number: usize, parents: &[usize]) -> Entity {
+fn entity_with_parents(number: usize, parents: &[usize]) -> Entity {
     let mut entity = Entity::with_uid(node(number));
     for parent in parents {
         entity.add_parent(node(*parent));
@@ -165,16 +165,16 @@ fn under(number: usize, parents: &[usize]) -> Entity {
 /// ancestors. The cost of a slice is linear in its result, even if uids are repeated. Otherwise the test would take
 /// minutes or gigabytes.
 #[test]
-fn what_is_refused_checked_and_repeated() {
-    let cycle = (0..100_000).map(|number| under(number, &[(number + 1) % 100_000]));
+fn cycles_checks_and_repeated_uids_have_linear_cost() {
+    let cycle = (0..100_000).map(|number| entity_with_parents(number, &[(number + 1) % 100_000]));
     assert!(Entities::from_entities(cycle, TCComputation::ComputeNow).is_err());
-    let chain = (0..2_000).map(|number| under(number, &[number + 1]));
+    let chain = (0..2_000).map(|number| entity_with_parents(number, &[number + 1]));
     let store = Entities::from_entities(chain, TCComputation::ComputeNow).unwrap();
     let store = store.try_validate().expect("it is closed");
-    let again = Entities::from_entities(store.iter().cloned(), TCComputation::EnforceAlreadyComputed).unwrap();
-    assert!(again.deep_eq(&store));
-    let asked = vec![node(0); 100_000];
-    assert_eq!(slice(&store, &asked).len(), 2_000);
+    let rebuilt = Entities::from_entities(store.iter().cloned(), TCComputation::EnforceAlreadyComputed).unwrap();
+    assert!(rebuilt.deep_eq(&store));
+    let requested = vec![node(0); 100_000];
+    assert_eq!(slice(&store, &requested).len(), 2_000);
     let mut entities: Vec<&Entity> = store.iter().collect();
     entities.sort_by(|one, other| one.uid().cmp(other.uid()));
     let text: String = entities.iter().map(|entity| format!("{entity}\n")).collect();
@@ -182,8 +182,8 @@ fn what_is_refused_checked_and_repeated() {
 }
 
 #[test]
-fn stores_of_many() {
-    let chain = (0..1_000).map(|number| under(number, &[number + 1]));
+fn large_stores() {
+    let chain = (0..1_000).map(|number| entity_with_parents(number, &[number + 1]));
     let store = Entities::from_entities(chain, TCComputation::ComputeNow).unwrap();
     assert_eq!(
         store.iter().map(|entity| entity.ancestors().count()).sum::<usize>(),
@@ -191,9 +191,9 @@ fn stores_of_many() {
     );
     let tree = (0..100_000).map(|number| {
         if number == 0 {
-            under(0, &[])
+            entity_with_parents(0, &[])
         } else {
-            under(number, &[(number - 1) / 8])
+            entity_with_parents(number, &[(number - 1) / 8])
         }
     });
     let store = Entities::from_entities(tree, TCComputation::ComputeNow).unwrap();
@@ -202,7 +202,9 @@ fn stores_of_many() {
     };
     assert!(leaf.is_descendant_of(&node(0)) && leaf.ancestors().count() == 6);
     // a hub with many children is removed, and the edges to it
-    let hub = (0..50_000).map(|number| under(number + 1, &[0])).chain([under(0, &[])]);
+    let hub = (0..50_000)
+        .map(|number| entity_with_parents(number + 1, &[0]))
+        .chain([entity_with_parents(0, &[])]);
     let store = Entities::from_entities(hub, TCComputation::ComputeNow).unwrap();
     let store = store.remove_entities([node(0)], TCComputation::ComputeNow).unwrap();
     assert!(store.iter().all(|entity| entity.ancestors().next().is_none()));

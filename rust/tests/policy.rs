@@ -81,7 +81,7 @@ fn link_templates() {
 #[test]
 fn test_template_rebuild() {
     for template in all_templates() {
-        let again = Template::new(
+        let rebuilt = Template::new(
             template.id().clone(),
             None,
             Annotations::new(),
@@ -91,7 +91,7 @@ fn test_template_rebuild() {
             template.resource_constraint().clone(),
             template.non_scope_constraints().cloned(),
         );
-        assert_eq!(template, again);
+        assert_eq!(template, rebuilt);
     }
 }
 
@@ -101,7 +101,7 @@ fn test_static_policy_rebuild() {
         let Ok(policy) = StaticPolicy::try_from(template.clone()) else {
             continue;
         };
-        let again = StaticPolicy::new(
+        let rebuilt = StaticPolicy::new(
             policy.id().clone(),
             None,
             policy
@@ -115,8 +115,8 @@ fn test_static_policy_rebuild() {
             policy.non_scope_constraints().cloned(),
         )
         .expect("no slot");
-        assert_eq!(policy, again);
-        let (back, linked) = Template::link_static_policy(again);
+        assert_eq!(policy, rebuilt);
+        let (back, linked) = Template::link_static_policy(rebuilt);
         assert!(linked.is_static());
         assert_eq!(&template, back.as_ref());
     }
@@ -220,15 +220,15 @@ fn template_into_expr() {
 fn template_por_iter() {
     let uid = shared(with_eid("eid"));
     let ty = || shared(EntityType::from_normalized_str("T").unwrap());
-    let named = || EntityReference::EUID(uid.clone());
+    let euid_reference = || EntityReference::EUID(uid.clone());
     let slot = || EntityReference::Slot(None);
     for (constraint, has_uid) in [
         (PrincipalOrResourceConstraint::Any, false),
-        (PrincipalOrResourceConstraint::In(named()), true),
+        (PrincipalOrResourceConstraint::In(euid_reference()), true),
         (PrincipalOrResourceConstraint::In(slot()), false),
-        (PrincipalOrResourceConstraint::Eq(named()), true),
+        (PrincipalOrResourceConstraint::Eq(euid_reference()), true),
         (PrincipalOrResourceConstraint::Eq(slot()), false),
-        (PrincipalOrResourceConstraint::IsIn(ty(), named()), true),
+        (PrincipalOrResourceConstraint::IsIn(ty(), euid_reference()), true),
         (PrincipalOrResourceConstraint::Is(ty()), false),
         (PrincipalOrResourceConstraint::IsIn(ty(), slot()), false),
     ] {
@@ -263,9 +263,9 @@ fn test_iter_once() {
 #[test]
 fn test_iter_mult() {
     let (first, second) = (uid(r#"s::"eid1""#), uid(r#"s::"eid2""#));
-    let mut both = EntityIterator::Bunch(vec![&first, &second]);
+    let mut iterator = EntityIterator::Bunch(vec![&first, &second]);
     assert_eq!(
-        (both.next(), both.next(), both.next()),
+        (iterator.next(), iterator.next(), iterator.next()),
         (Some(&second), Some(&first), None)
     );
 }
@@ -274,17 +274,20 @@ fn test_iter_mult() {
 fn euid_into_expr() {
     let slot = EntityReference::Slot(None);
     assert_eq!(slot.into_expr(SlotId::principal()), Expr::slot(SlotId::principal()));
-    let named = EntityReference::euid(shared(with_eid("eid")));
-    assert_eq!(named.into_expr(SlotId::principal()), Expr::val(with_eid("eid")));
+    let euid_reference = EntityReference::euid(shared(with_eid("eid")));
+    assert_eq!(
+        euid_reference.into_expr(SlotId::principal()),
+        Expr::val(with_eid("eid"))
+    );
 }
 
 #[test]
 fn por_constraint_display() {
     let slot = PrincipalOrResourceConstraint::Eq(EntityReference::Slot(None));
     assert_eq!(slot.display(PrincipalOrResource::Principal), "principal == ?principal");
-    let named = PrincipalOrResourceConstraint::Eq(EntityReference::euid(shared(with_eid("test"))));
+    let euid_reference = PrincipalOrResourceConstraint::Eq(EntityReference::euid(shared(with_eid("test"))));
     assert_eq!(
-        named.display(PrincipalOrResource::Principal),
+        euid_reference.display(PrincipalOrResource::Principal),
         r#"principal == test_entity_type::"test""#
     );
 }
@@ -320,7 +323,7 @@ fn policy_to_expr() {
 fn unexpected_templates() {
     use cedar_store::ast::UnexpectedSlotError;
     let found = |principal: PrincipalConstraint, clause: Option<Expr>| {
-        let made = StaticPolicy::new(
+        let result = StaticPolicy::new(
             id("id"),
             None,
             Annotations::new(),
@@ -330,7 +333,7 @@ fn unexpected_templates() {
             ResourceConstraint::any(),
             clause,
         );
-        match made {
+        match result {
             Err(UnexpectedSlotError::FoundSlot(slot)) => slot.id,
             Ok(policy) => panic!("{policy}"),
         }

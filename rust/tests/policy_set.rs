@@ -11,12 +11,12 @@ use cedar_store::ast::{
 use common::{id, principal, resource, shared, uid, with_eid};
 use policies::{permit, principal_template, resource_template};
 
-fn truth(value: bool) -> Option<Expr> {
+fn bool_clause(value: bool) -> Option<Expr> {
     Some(Expr::val(value))
 }
 
-fn occupied(answer: Result<(), PolicySetError>) -> PolicyID {
-    match answer {
+fn occupied(result: Result<(), PolicySetError>) -> PolicyID {
+    match result {
         Err(PolicySetError::Occupied { id }) => id,
         other => panic!("{other:?}"),
     }
@@ -35,7 +35,7 @@ fn link_conflicts() {
     let mut set = set_of([permit("id", None)]);
     set.add_template(principal_template("t")).unwrap();
     match set.link(id("t"), id("id"), principal(uid(r#"Test::"test""#))) {
-        Err(LinkingError::PolicyIdConflict { id: told }) => assert_eq!(told, id("id")),
+        Err(LinkingError::PolicyIdConflict { id: reported }) => assert_eq!(reported, id("id")),
         other => panic!("{other:?}"),
     }
 }
@@ -82,8 +82,8 @@ fn policy_set_singleton_link() {
 
 #[test]
 fn policy_merge_no_conflicts() {
-    let mut one = set_of([permit("policy0", None), permit("policy1", truth(false))]);
-    let other = set_of([permit("policy0", None), permit("policy2", truth(true))]);
+    let mut one = set_of([permit("policy0", None), permit("policy1", bool_clause(false))]);
+    let other = set_of([permit("policy0", None), permit("policy2", bool_clause(true))]);
     assert!(
         one.merge_policyset(&other, false)
             .expect("equal policies do not conflict")
@@ -95,28 +95,28 @@ fn policy_merge_no_conflicts() {
 
 #[test]
 fn policy_merge_with_conflicts() {
-    let [kept, differing] = [permit("policy0", None), permit("policy1", truth(false))];
-    let [coming, free] = [permit("policy1", None), permit("policy2", truth(true))];
-    let mut one = set_of([kept.clone(), differing.clone()]);
-    let other = set_of([coming.clone(), free.clone()]);
+    let [shared_policy, own_policy] = [permit("policy0", None), permit("policy1", bool_clause(false))];
+    let [other_policy, new_policy] = [permit("policy1", None), permit("policy2", bool_clause(true))];
+    let mut one = set_of([shared_policy.clone(), own_policy.clone()]);
+    let other = set_of([other_policy.clone(), new_policy.clone()]);
     let before = one.clone();
     match one.merge_policyset(&other, false) {
-        Err(PolicySetError::Occupied { id: told }) => assert_eq!(told, id("policy1")),
+        Err(PolicySetError::Occupied { id: reported }) => assert_eq!(reported, id("policy1")),
         other => panic!("{other:?}"),
     }
     assert_eq!(one, before);
     let renaming = one.merge_policyset(&other, true).expect("conflicting ids are renamed");
-    let fresh = renaming
+    let new_id = renaming
         .get(&id("policy1"))
         .expect("the conflicting id was renamed")
         .clone();
     assert_eq!(renaming.keys().len(), 1);
-    assert_eq!(fresh, id("policy3"));
+    assert_eq!(new_id, id("policy3"));
     for (name, policy) in [
-        (id("policy0"), Policy::from(kept)),
-        (id("policy1"), Policy::from(differing)),
-        (fresh.clone(), Policy::from(coming).new_id(fresh)),
-        (id("policy2"), Policy::from(free)),
+        (id("policy0"), Policy::from(shared_policy)),
+        (id("policy1"), Policy::from(own_policy)),
+        (new_id.clone(), Policy::from(other_policy).new_id(new_id)),
+        (id("policy2"), Policy::from(new_policy)),
     ] {
         assert_eq!(one.get(&name), Some(&policy));
     }
@@ -125,7 +125,7 @@ fn policy_merge_with_conflicts() {
 #[test]
 fn policy_conflicts() {
     let mut set = set_of([permit("id", None)]);
-    assert_eq!(occupied(set.add_static(permit("id", truth(false)))), id("id"));
+    assert_eq!(occupied(set.add_static(permit("id", bool_clause(false)))), id("id"));
 }
 
 #[test]
@@ -151,7 +151,7 @@ fn template_filtering() {
 fn linking_missing_template() {
     let mut set = PolicySet::new();
     match set.link(id("template"), id("link"), SlotEnv::new()) {
-        Err(LinkingError::NoSuchTemplate { id: told }) => assert_eq!(told, id("template")),
+        Err(LinkingError::NoSuchTemplate { id: reported }) => assert_eq!(reported, id("template")),
         other => panic!("{other:?}"),
     }
     let slotless = policies::template(
@@ -278,8 +278,8 @@ fn policy_set_insertion_order() {
         set.add(permit(name.as_ref(), None).into())
             .expect("the id is not bound");
     }
-    let told: Vec<_> = set.into_policies().map(|policy| policy.id().clone()).collect();
-    assert_eq!(told, names);
+    let reported: Vec<_> = set.into_policies().map(|policy| policy.id().clone()).collect();
+    assert_eq!(reported, names);
 }
 
 mod policy_set_validate_test {

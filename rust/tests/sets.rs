@@ -40,7 +40,7 @@ fn resource_linked(links: &[(&str, &str)]) -> PolicySet {
 }
 
 #[test]
-fn the_links_of_a_template_after_a_merge() {
+fn links_of_a_template_after_a_merge() {
     let mut set = linked(&[("l", "x")]);
     set.merge_policyset(&linked(&[("l", "x"), ("m", "y"), ("k", "x")]), true)
         .unwrap();
@@ -74,7 +74,7 @@ fn the_links_of_a_template_after_a_merge() {
     set.unlink(&id("l")).unwrap();
     assert!(matches!(
         set.remove_template(&id("t")),
-        Err(PolicySetTemplateRemovalError::RemoveTemplateWithLinksError(told)) if told == id("t")
+        Err(PolicySetTemplateRemovalError::RemoveTemplateWithLinksError(reported)) if reported == id("t")
     ));
     // a static policy is listed under its own id
     let mut set = PolicySet::new();
@@ -96,16 +96,16 @@ fn forbid(name: &str) -> Policy {
 }
 
 #[test]
-fn a_merged_set_is_merged_again() {
+fn repeated_merge_chooses_new_ids() {
     let mut set = PolicySet::new();
     set.add_static(permit("a", None)).unwrap();
     let mut other = PolicySet::new();
     other.add(forbid("a")).unwrap();
     other.add_static(permit("b", None)).unwrap();
-    for due in ["policy0", "policy1"] {
+    for expected in ["policy0", "policy1"] {
         let renaming = set.merge_policyset(&other, true).unwrap();
-        let told: Vec<_> = renaming.iter().map(|(old, new)| (old.clone(), new.clone())).collect();
-        assert_eq!(told, [(id("a"), id(due))]);
+        let renamed: Vec<_> = renaming.iter().map(|(old, new)| (old.clone(), new.clone())).collect();
+        assert_eq!(renamed, [(id("a"), id(expected))]);
     }
     let names: Vec<_> = set.policies().map(|policy| policy.id().to_string()).collect();
     assert_eq!(names, ["a", "policy0", "b", "policy1"]);
@@ -114,24 +114,26 @@ fn a_merged_set_is_merged_again() {
 /// A set has policies with the first 100 ids that a merge chooses. It is merged with a set of 100 or more policies, and
 /// 100 of them conflict. Bodies and policies keep their insertion order, and the merged ones are last.
 #[test]
-fn orders_after_renaming() {
-    for there in [100, 101, 102, 500] {
+fn insertion_order_after_renaming() {
+    for other_count in [100, 101, 102, 500] {
         let name = |number: usize| id(&format!("policy{number}"));
         let (mut set, mut other) = (PolicySet::new(), PolicySet::new());
         for number in 0..100 {
             set.add_static(permit(name(number).as_ref(), None)).unwrap();
         }
-        for number in 0..there {
+        for number in 0..other_count {
             other.add(forbid(name(number).as_ref())).unwrap();
         }
         let renaming = set.merge_policyset(&other, true).unwrap();
-        let told: Vec<_> = renaming.iter().map(|(old, new)| (old.clone(), new.clone())).collect();
-        let due: Vec<_> = (0..100).map(|number| (name(number), name(number + there))).collect();
-        assert_eq!(told, due);
-        let due: Vec<_> = (0..100)
+        let renamed: Vec<_> = renaming.iter().map(|(old, new)| (old.clone(), new.clone())).collect();
+        let expected: Vec<_> = (0..100)
+            .map(|number| (name(number), name(number + other_count)))
+            .collect();
+        assert_eq!(renamed, expected);
+        let expected: Vec<_> = (0..100)
             .map(|number| (name(number), Effect::Permit))
-            .chain((0..100).map(|number| (name(number + there), Effect::Forbid)))
-            .chain((100..there).map(|number| (name(number), Effect::Forbid)))
+            .chain((0..100).map(|number| (name(number + other_count), Effect::Forbid)))
+            .chain((100..other_count).map(|number| (name(number), Effect::Forbid)))
             .collect();
         let bodies: Vec<_> = set
             .all_templates()
@@ -141,12 +143,12 @@ fn orders_after_renaming() {
             .policies()
             .map(|policy| (policy.id().clone(), policy.effect()))
             .collect();
-        assert_eq!((&bodies, &policies), (&due, &due));
+        assert_eq!((&bodies, &policies), (&expected, &expected));
     }
 }
 
 #[test]
-fn thousands_are_linked_and_taken_out() {
+fn thousands_of_links_and_unlinks() {
     let mut set = linked(&[]);
     let name = |number: usize| id(&number.to_string());
     for number in 0..2_000 {
@@ -160,7 +162,7 @@ fn thousands_are_linked_and_taken_out() {
 }
 
 #[test]
-fn copies_stand_apart_and_sets_of_one_are_what_adding_leaves() {
+fn copies_are_independent_and_singleton_equals_add() {
     let mut set = linked(&[("l", "x")]);
     set.add_static(permit("a", None)).unwrap();
     let copy = set.clone();
@@ -169,52 +171,52 @@ fn copies_stand_apart_and_sets_of_one_are_what_adding_leaves() {
     set.remove_template(&id("t")).unwrap();
     set.add(forbid("m")).unwrap();
     assert!(copy != set && copy.get(&id("l")).is_some() && copy.get(&id("m")).is_none());
-    let alone = PolicySet::singleton(forbid("a"));
+    let singleton = PolicySet::singleton(forbid("a"));
     let mut added = PolicySet::new();
     assert!(added.is_empty());
     added.add(forbid("a")).unwrap();
-    assert_eq!(alone, added);
+    assert_eq!(singleton, added);
     added.remove_static(&id("a")).unwrap();
     assert!(added.is_empty());
     // linking returns a reference to the policy
     let mut set = linked(&[]);
-    let lent = set.link(id("t"), id("l"), principal(with_eid("x"))).unwrap();
-    assert_eq!(lent.id(), &id("l"));
+    let link = set.link(id("t"), id("l"), principal(with_eid("x"))).unwrap();
+    assert_eq!(link.id(), &id("l"));
 }
 
 /// Linking with a copy of bindings gives the same result as with the bindings.
 #[test]
-fn links_of_copies_of_bindings() {
-    let fit = principal(with_eid("x"));
+fn link_copying_equals_link() {
+    let bindings = principal(with_eid("x"));
     let (mut set, mut other) = (linked(&[]), linked(&[]));
-    for (template, name, values, joins) in [
-        ("t", "l", &fit, true),
-        ("t", "l", &fit, false),
-        ("u", "m", &fit, false),
+    for (template, name, values, succeeds) in [
+        ("t", "l", &bindings, true),
+        ("t", "l", &bindings, false),
+        ("u", "m", &bindings, false),
         ("t", "m", &resource(with_eid("x")), false),
         ("t", "m", &SlotEnv::new(), false),
-        ("t", "m", &fit, true),
+        ("t", "m", &bindings, true),
     ] {
-        let told = set.link_copying(&id(template), id(name), values);
-        let due = other.link(id(template), id(name), values.clone()).map(|_| ());
-        assert_eq!(told.is_ok(), joins);
+        let result = set.link_copying(&id(template), id(name), values);
+        let expected = other.link(id(template), id(name), values.clone()).map(|_| ());
+        assert_eq!(result.is_ok(), succeeds);
         assert_eq!(
-            told.map_err(|error| error.to_string()),
-            due.map_err(|error| error.to_string())
+            result.map_err(|error| error.to_string()),
+            expected.map_err(|error| error.to_string())
         );
         assert_eq!(set, other);
     }
     let template = Arc::new(principal_template("t"));
-    let copied = Template::link_copying(template.clone(), id("l"), &fit).unwrap();
-    assert_eq!(copied, Template::link(template, id("l"), fit).unwrap());
+    let copied = Template::link_copying(template.clone(), id("l"), &bindings).unwrap();
+    assert_eq!(copied, Template::link(template, id("l"), bindings).unwrap());
 }
 
 #[test]
-fn lists_of_calls_on_a_set() {
+fn replays_of_calls_on_a_policy_set() {
     let mut other = PolicySet::new();
     other.add_static(permit("policy1", None)).unwrap();
     other.add_static(permit("policy2", None)).unwrap();
-    for (rename, told) in [(false, None), (true, Some(id("policy3")))] {
+    for (rename, new_id) in [(false, None), (true, Some(id("policy3")))] {
         let mut set = PolicySet::new();
         let calls = vec![
             PolicyCall::Add(Policy::from(permit("policy0", None))),
@@ -223,11 +225,11 @@ fn lists_of_calls_on_a_set() {
             PolicyCall::Unlink(id("x")),
             PolicyCall::Link(id("t"), id("l"), SlotEnv::new()),
         ];
-        let answers = replay_policies(&mut set, calls);
-        assert_eq!(answers.len(), 5);
-        assert!(matches!(answers[0], Answer::Add(Ok(()))) && matches!(answers[3], Answer::Unlink(Err(_))));
-        match &answers[2] {
-            Answer::Merge(Ok(renaming)) => assert_eq!(renaming.get(&id("policy1")), told.as_ref()),
+        let results = replay_policies(&mut set, calls);
+        assert_eq!(results.len(), 5);
+        assert!(matches!(results[0], Answer::Add(Ok(()))) && matches!(results[3], Answer::Unlink(Err(_))));
+        match &results[2] {
+            Answer::Merge(Ok(renaming)) => assert_eq!(renaming.get(&id("policy1")), new_id.as_ref()),
             Answer::Merge(Err(error)) => {
                 assert_eq!(error.to_string(), "duplicate template or policy id `policy1`");
                 assert!(!rename);
@@ -235,29 +237,29 @@ fn lists_of_calls_on_a_set() {
             other => panic!("{other:?}"),
         }
         assert!(
-            matches!(&answers[4], Answer::Link(Err(LinkingError::NoSuchTemplate { id: told })) if *told == id("t"))
+            matches!(&results[4], Answer::Link(Err(LinkingError::NoSuchTemplate { id: reported })) if *reported == id("t"))
         );
         let names: Vec<_> = set.policies().map(|policy| policy.id().to_string()).collect();
-        let due = if rename {
+        let expected = if rename {
             vec!["policy0", "policy1", "policy3", "policy2"]
         } else {
             vec!["policy0", "policy1"]
         };
-        assert_eq!(names, due);
+        assert_eq!(names, expected);
     }
     let mut set = linked(&[("l", "x"), ("m", "y")]);
     let calls = vec![
         PolicyCall::Merge(set.clone(), false),
         PolicyCall::RemoveTemplate(id("t")),
     ];
-    let answers = replay_policies(&mut set, calls);
-    assert!(matches!(&answers[0], Answer::Merge(Ok(renaming)) if renaming.is_empty()));
-    assert!(matches!(answers[1], Answer::RemoveTemplate(Err(_))));
+    let results = replay_policies(&mut set, calls);
+    assert!(matches!(&results[0], Answer::Merge(Ok(renaming)) if renaming.is_empty()));
+    assert!(matches!(results[1], Answer::RemoveTemplate(Err(_))));
     assert!(replay_policies(&mut set, vec![]).is_empty());
 }
 
 #[test]
-fn lists_of_calls_on_a_store() {
+fn replays_of_calls_on_a_store() {
     assert!(replay_entities([]).is_ok_and(|store| store.is_empty() && !store.is_partial()));
     let store = replay_entities([
         EntityCall::From(vec![child("a", &["b"]), child("b", &["c"])]),
@@ -267,8 +269,8 @@ fn lists_of_calls_on_a_store() {
     ])
     .expect("the call succeeds");
     assert!(store.is_partial() && store.len() == 2);
-    let again = replay_entities([EntityCall::Partial, EntityCall::From(vec![child("a", &[])])]).unwrap();
-    assert!(!again.is_partial());
+    let reset = replay_entities([EntityCall::Partial, EntityCall::From(vec![child("a", &[])])]).unwrap();
+    assert!(!reset.is_partial());
     match replay_entities([
         EntityCall::Add(vec![shared(child("a", &["b"]))]),
         EntityCall::Add(vec![shared(child("b", &["a"]))]),

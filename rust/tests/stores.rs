@@ -13,7 +13,7 @@ fn node(number: usize) -> EntityUID {
     uid(&format!("N::\"{number}\""))
 }
 
-fn under(number: usize, parents: &[usize]) -> Entity {
+fn entity_with_parents(number: usize, parents: &[usize]) -> Entity {
     let mut entity = Entity::with_uid(node(number));
     for parent in parents {
         entity.add_parent(node(*parent));
@@ -21,7 +21,7 @@ fn under(number: usize, parents: &[usize]) -> Entity {
     entity
 }
 
-fn computed(entities: impl IntoIterator<Item = Entity>) -> Entities {
+fn closed_store(entities: impl IntoIterator<Item = Entity>) -> Entities {
     Entities::from_entities(entities, TCComputation::ComputeNow).expect("the call succeeds")
 }
 
@@ -30,23 +30,30 @@ fn counts(store: &Entities) -> (usize, usize) {
     (store.len(), store.iter().map(|entity| entity.ancestors().count()).sum())
 }
 
-fn added(store: Entities, number: usize, parents: &[usize]) -> Entities {
+fn add_entity(store: Entities, number: usize, parents: &[usize]) -> Entities {
     store
-        .add_entities([Arc::new(under(number, parents))], TCComputation::ComputeNow)
+        .add_entities(
+            [Arc::new(entity_with_parents(number, parents))],
+            TCComputation::ComputeNow,
+        )
         .expect("the call succeeds")
 }
 
-fn removed(store: Entities, numbers: &[usize]) -> Entities {
+fn remove_uids(store: Entities, numbers: &[usize]) -> Entities {
     store
         .remove_entities(numbers.iter().map(|number| node(*number)), TCComputation::ComputeNow)
         .expect("a removal never fails")
 }
 
 #[test]
-fn a_dry_run_changes_nothing_and_returns_the_error_of_the_edit() {
-    let store = computed([under(1, &[2]), under(2, &[3]), under(3, &[])]);
+fn dry_run_changes_nothing_and_returns_the_error_of_the_edit() {
+    let store = closed_store([
+        entity_with_parents(1, &[2]),
+        entity_with_parents(2, &[3]),
+        entity_with_parents(3, &[]),
+    ]);
     let before = store.clone();
-    let list = |number: usize, parents: &[usize]| [Arc::new(under(number, parents))];
+    let list = |number: usize, parents: &[usize]| [Arc::new(entity_with_parents(number, parents))];
     let now = TCComputation::ComputeNow;
     // a new entity, an equal one, one that differs from the stored one, and one that closes a cycle
     for (number, parents, adds, upserts) in [
@@ -66,9 +73,12 @@ fn a_dry_run_changes_nothing_and_returns_the_error_of_the_edit() {
         assert_eq!(upsert.map_err(kind_of).err(), upserted.map_err(kind_of).err());
     }
     assert!(store.deep_eq(&before));
-    let mut closed = under(4, &[1]);
+    let mut closed = entity_with_parents(4, &[1]);
     closed.add_indirect_ancestor(node(2));
-    assert!(!have_no_indirect(&[Arc::new(under(5, &[])), Arc::new(closed)]));
+    assert!(!have_no_indirect(&[
+        Arc::new(entity_with_parents(5, &[])),
+        Arc::new(closed)
+    ]));
 }
 
 /// The kind of an error: a duplicate, with its uid, or a cycle.
@@ -81,59 +91,67 @@ fn kind_of(error: EntitiesError) -> Option<EntityUID> {
 }
 
 #[test]
-fn an_absent_parent_comes_goes_and_comes_again() {
-    let store = computed((0..100).map(|number| under(number, &[900])));
+fn absent_parent_is_added_removed_and_added_again() {
+    let store = closed_store((0..100).map(|number| entity_with_parents(number, &[900])));
     assert_eq!(counts(&store), (100, 100));
-    assert_eq!(counts(&removed(store.clone(), &[900])), (100, 100));
-    let store = added(store, 900, &[901]);
+    assert_eq!(counts(&remove_uids(store.clone(), &[900])), (100, 100));
+    let store = add_entity(store, 900, &[901]);
     assert_eq!(counts(&store), (101, 201));
-    assert_eq!(counts(&removed(store.clone(), &[901])), (101, 201));
-    let store = removed(store, &[900]);
+    assert_eq!(counts(&remove_uids(store.clone(), &[901])), (101, 201));
+    let store = remove_uids(store, &[900]);
     assert_eq!(counts(&store), (100, 0));
-    assert_eq!(counts(&added(store, 900, &[901])), (101, 1));
+    assert_eq!(counts(&add_entity(store, 900, &[901])), (101, 1));
 }
 
 #[test]
-fn a_list_of_removals_has_repeats_and_absent_uids() {
+fn removal_list_with_repeated_and_absent_uids() {
     let chain = || {
-        computed((0..10).map(|number| {
+        closed_store((0..10).map(|number| {
             if number < 9 {
-                under(number, &[number + 1])
+                entity_with_parents(number, &[number + 1])
             } else {
-                under(9, &[])
+                entity_with_parents(9, &[])
             }
         }))
     };
-    assert_eq!(counts(&removed(chain(), &[3, 3, 99, 5, 3])), (8, 9));
-    assert_eq!(counts(&removed(chain(), &[99, 98, 99])), (10, 45));
-    assert!(removed(chain(), &[3, 3, 99, 5, 3]).deep_eq(&removed(removed(chain(), &[5]), &[3])));
-    assert!(!removed(chain(), &[3, 5]).deep_eq(&removed(chain(), &[3])));
+    assert_eq!(counts(&remove_uids(chain(), &[3, 3, 99, 5, 3])), (8, 9));
+    assert_eq!(counts(&remove_uids(chain(), &[99, 98, 99])), (10, 45));
+    assert!(remove_uids(chain(), &[3, 3, 99, 5, 3]).deep_eq(&remove_uids(remove_uids(chain(), &[5]), &[3])));
+    assert!(!remove_uids(chain(), &[3, 5]).deep_eq(&remove_uids(chain(), &[3])));
 }
 
 #[test]
-fn what_is_taken_as_it_is_stays_where_nothing_touches_it() {
-    let assumed =
-        || Entities::from_entities([under(1, &[2]), under(2, &[3])], TCComputation::AssumeAlreadyComputed).unwrap();
+fn assumed_closure_is_unchanged_where_unaffected() {
+    let assumed = || {
+        Entities::from_entities(
+            [entity_with_parents(1, &[2]), entity_with_parents(2, &[3])],
+            TCComputation::AssumeAlreadyComputed,
+        )
+        .unwrap()
+    };
     assert_eq!(counts(&assumed()), (2, 2));
-    assert_eq!(counts(&added(assumed(), 5, &[6])), (3, 3));
-    assert!(removed(added(assumed(), 5, &[1]), &[5]).deep_eq(&assumed()));
-    assert!(!assumed().deep_eq(&computed([under(1, &[2]), under(2, &[3])])));
+    assert_eq!(counts(&add_entity(assumed(), 5, &[6])), (3, 3));
+    assert!(remove_uids(add_entity(assumed(), 5, &[1]), &[5]).deep_eq(&assumed()));
+    assert!(!assumed().deep_eq(&closed_store([
+        entity_with_parents(1, &[2]),
+        entity_with_parents(2, &[3])
+    ])));
 }
 
 #[test]
-fn copies_and_shared_entities_stay_as_they_were() {
-    let store = computed([under(1, &[2]), under(2, &[3])]);
+fn copies_and_shared_entities_are_unchanged() {
+    let store = closed_store([entity_with_parents(1, &[2]), entity_with_parents(2, &[3])]);
     let copy = store.clone();
     assert!(copy.deep_eq(&store) && copy == store);
-    let changed = removed(store, &[2]);
+    let changed = remove_uids(store, &[2]);
     assert!(!copy.deep_eq(&changed));
     assert_eq!((counts(&copy), counts(&changed)), ((2, 3), (1, 0)));
     // iterating over a store by value gives the same entities even if a copy shares them
-    let given: Vec<Entity> = copy.clone().into_iter().collect();
-    let again = Entities::from_entities(given, TCComputation::AssumeAlreadyComputed).unwrap();
-    assert!(again.deep_eq(&copy));
-    let outside = shared(under(1, &[2]));
-    let store = computed([under(2, &[3])])
+    let entities: Vec<Entity> = copy.clone().into_iter().collect();
+    let rebuilt = Entities::from_entities(entities, TCComputation::AssumeAlreadyComputed).unwrap();
+    assert!(rebuilt.deep_eq(&copy));
+    let outside = shared(entity_with_parents(1, &[2]));
+    let store = closed_store([entity_with_parents(2, &[3])])
         .add_entities([outside.clone()], TCComputation::ComputeNow)
         .unwrap();
     assert_eq!(counts(&store), (2, 3));
@@ -141,8 +159,8 @@ fn copies_and_shared_entities_stay_as_they_were() {
 }
 
 #[test]
-fn a_look_up_finds_what_is_there_or_an_unknown_of_its_type() {
-    let store = computed([under(1, &[2])]);
+fn lookup_returns_the_entity_or_an_unknown_of_its_type() {
+    let store = closed_store([entity_with_parents(1, &[2])]);
     match store.entity(&node(1)) {
         found @ Dereference::Data(_) => {
             assert_eq!(found.clone().unwrap().uid(), &node(1));
@@ -178,9 +196,9 @@ fn with_fields(name: &str, attrs: &[(&str, PartialValue)], parents: &[&str]) -> 
 }
 
 #[test]
-fn texts_past_ascii() {
+fn non_ascii_texts() {
     let long = |number: i64| PartialValue::from(Value::from(number));
-    let store = computed([
+    let store = closed_store([
         with_fields("A::\"é\"", &[("ñ", long(-1)), ("a", long(2))], &["A::\"ß\""]),
         with_fields("A::\"e\"", &[], &["A::\"é\""]),
     ]);
@@ -190,28 +208,28 @@ fn texts_past_ascii() {
     );
     // uids are ordered by the last identifier of their types first
     let names = ["A::B::\"x\"", "B::A::\"x\"", "A::\"y\"", "A::A::\"z\"", "A::\"x\""];
-    let text = computed(names.map(|name| Entity::with_uid(uid(name)))).to_string();
-    let told: Vec<_> = text.lines().filter(|line| !line.starts_with(' ')).collect();
+    let text = closed_store(names.map(|name| Entity::with_uid(uid(name)))).to_string();
+    let uid_lines: Vec<_> = text.lines().filter(|line| !line.starts_with(' ')).collect();
     assert_eq!(
-        told,
+        uid_lines,
         ["A::\"x\":", "A::\"y\":", "A::A::\"z\":", "B::A::\"x\":", "A::B::\"x\":"]
     );
-    let denied = PartialValue::Residual(Expr::not(Expr::val(uid("A::\"é\""))));
+    let negation = PartialValue::Residual(Expr::not(Expr::val(uid("A::\"é\""))));
     let entity = with_fields(
         "A::\"a\"",
-        &[("z", long(-5)), ("naïve \"é\"", long(7)), ("a", denied)],
+        &[("z", long(-5)), ("naïve \"é\"", long(7)), ("a", negation)],
         &[],
     );
     assert_eq!(
         entity.to_string(),
         "A::\"a\":\n  attrs:a: !A::\"é\"; naïve \"é\": 7; z: -5\n  ancestors:"
     );
-    let (again, other) = (
-        computed([Entity::with_uid(uid("A::\"é\""))]),
+    let (store, other) = (
+        closed_store([Entity::with_uid(uid("A::\"é\""))]),
         shared(with_fields("A::\"é\"", &[("k", long(1))], &[])),
     );
-    let refused = again.add_entities([other], TCComputation::ComputeNow).unwrap_err();
-    assert_eq!(refused.to_string(), "duplicate entity `A::\"é\"`");
+    let error = store.add_entities([other], TCComputation::ComputeNow).unwrap_err();
+    assert_eq!(error.to_string(), "duplicate entity `A::\"é\"`");
 }
 
 fn record(keys: &[&str], inner: Value) -> Value {
@@ -221,19 +239,20 @@ fn record(keys: &[&str], inner: Value) -> Value {
 /// The first reserved key is reported. Entities are checked in the order of uids, attributes before tags and in the
 /// order of keys, and a key before its value.
 #[test]
-fn the_first_reserved_key_is_told() {
-    let told = |error: EntitiesError| match error {
+fn first_reserved_key_is_reported() {
+    let reserved_key = |error: EntitiesError| match error {
         EntitiesError::ReservedKey(key) => key,
         other => panic!("{other}"),
     };
     let one = || Value::from(1);
-    let held = |name: &str, key: &str| with_fields(name, &[("k", PartialValue::from(record(&[key], one())))], &[]);
-    let store = computed([
-        held("A::\"c\"", "__entity"),
-        held("A::\"b\"", "__extn"),
-        held("A::\"a\"", "fine"),
+    let entity_with_key =
+        |name: &str, key: &str| with_fields(name, &[("k", PartialValue::from(record(&[key], one())))], &[]);
+    let store = closed_store([
+        entity_with_key("A::\"c\"", "__entity"),
+        entity_with_key("A::\"b\"", "__extn"),
+        entity_with_key("A::\"a\"", "fine"),
     ]);
-    assert_eq!(told(store.try_validate().unwrap_err()), "__extn");
+    assert_eq!(reserved_key(store.try_validate().unwrap_err()), "__extn");
     let attrs = |pairs: &[(&str, Value)], tags: &[(&str, Value)]| {
         let owned = |pairs: &[(&str, Value)]| -> Vec<(String, PartialValue)> {
             pairs
@@ -245,18 +264,24 @@ fn the_first_reserved_key_is_told() {
         Entity::new_with_attr_partial_value(uid("T::\"a\""), owned(pairs), none(), none(), owned(tags)).validate()
     };
     let nested = record(&["__expr"], record(&["__entity"], one()));
-    assert_eq!(told(attrs(&[], &[("t", nested)]).unwrap_err()), "__expr");
-    let both = attrs(
+    assert_eq!(reserved_key(attrs(&[], &[("t", nested)]).unwrap_err()), "__expr");
+    let attr_and_tag = attrs(
         &[("z", record(&["__extn"], one()))],
         &[("a", record(&["__entity"], one()))],
     );
-    assert_eq!(told(both.unwrap_err()), "__extn");
+    assert_eq!(reserved_key(attr_and_tag.unwrap_err()), "__extn");
     // a value is checked before the next key
     let inner = record(&["__extn"], one());
-    let walked = Value::record([("A", inner), ("__expr", one())], None);
-    assert_eq!(told(attrs(&[], &[("t", walked)]).unwrap_err()), "__extn");
-    let within = Value::set([Value::set([record(&["__entity"], one())], None)], None);
-    assert_eq!(told(attrs(&[], &[("t", within)]).unwrap_err()), "__entity");
+    let value_before_key = Value::record([("A", inner), ("__expr", one())], None);
+    assert_eq!(
+        reserved_key(attrs(&[], &[("t", value_before_key)]).unwrap_err()),
+        "__extn"
+    );
+    let nested_in_sets = Value::set([Value::set([record(&["__entity"], one())], None)], None);
+    assert_eq!(
+        reserved_key(attrs(&[], &[("t", nested_in_sets)]).unwrap_err()),
+        "__entity"
+    );
     assert!(
         attrs(
             &[("__extn", Value::from("__extn"))],

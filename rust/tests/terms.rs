@@ -20,14 +20,14 @@ fn start(loc: Option<&Loc>) -> Option<usize> {
     loc.map(|loc| loc.start)
 }
 
-fn hash_of<T: Hash>(thing: &T) -> u64 {
+fn hash_of<T: Hash>(value: &T) -> u64 {
     let mut hasher = DefaultHasher::new();
-    thing.hash(&mut hasher);
+    value.hash(&mut hasher);
     hasher.finish()
 }
 
 /// Asserts that both are equal and have the same hash.
-fn agree<T: PartialEq + Hash + Debug>(one: &T, other: &T) {
+fn assert_equal_with_hash<T: PartialEq + Hash + Debug>(one: &T, other: &T) {
     assert_eq!((one, hash_of(one)), (other, hash_of(other)));
 }
 
@@ -46,21 +46,21 @@ fn variables_slots_and_reserved_keys() {
     let slots = [SlotId::principal(), SlotId::action(), SlotId::resource()];
     for (n, text) in ["?principal", "?action", "?resource"].iter().enumerate() {
         assert_eq!(slots[n].to_string(), *text);
-        let placed = Slot {
+        let located = Slot {
             id: slots[n],
             loc: at(3),
         };
-        agree(
-            &placed,
+        assert_equal_with_hash(
+            &located,
             &Slot {
                 id: slots[n],
                 loc: None,
             },
         );
-        assert_eq!(start(placed.clone().loc.as_ref()), Some(3));
+        assert_eq!(start(located.clone().loc.as_ref()), Some(3));
         for (m, other) in slots.iter().enumerate() {
             assert_eq!((slots[n].cmp(other), slots[n] == *other), (n.cmp(&m), n == m));
-            assert_eq!(placed == Slot { id: *other, loc: None }, n == m);
+            assert_eq!(located == Slot { id: *other, loc: None }, n == m);
         }
     }
     for key in ["__extn", "__expr", "__entity"] {
@@ -81,10 +81,10 @@ fn typed(name: &str, text: &str) -> Unknown {
 
 #[test]
 fn types_and_unknowns() {
-    let told = uid(r#"Foo::Album::"x""#).type_of();
-    agree(&told, &StaticType::Entity { ty: ty("Foo::Album") });
-    assert_ne!(told, StaticType::Entity { ty: ty("Album") });
-    agree(&told.clone(), &told);
+    let static_type = uid(r#"Foo::Album::"x""#).type_of();
+    assert_equal_with_hash(&static_type, &StaticType::Entity { ty: ty("Foo::Album") });
+    assert_ne!(static_type, StaticType::Entity { ty: ty("Album") });
+    assert_equal_with_hash(&static_type.clone(), &static_type);
     assert!(Unknown::new_untyped("a").type_annotation.is_none());
     let all = [
         Unknown::new_untyped("a"),
@@ -93,7 +93,7 @@ fn types_and_unknowns() {
         typed("a", "B"),
     ];
     for (n, one) in all.iter().enumerate() {
-        agree(&one.clone(), one);
+        assert_equal_with_hash(&one.clone(), one);
         for (m, other) in all.iter().enumerate() {
             assert_eq!(one == other, n == m);
         }
@@ -112,7 +112,7 @@ fn one_at(start: usize) -> Value {
 }
 
 #[test]
-fn values_keep_their_places() {
+fn values_keep_their_locations() {
     assert_eq!(start(one_at(4).clone().loc.as_ref()), Some(4));
     let set = Value::set([one_at(1)], at(2));
     assert_eq!(start(set.loc.as_ref()), Some(2));
@@ -123,14 +123,14 @@ fn values_keep_their_places() {
         _ => None,
     };
     // if a key is repeated, the last value is used
-    let twice = Value::record([("k", one_at(3)), ("k", one_at(4))], None);
+    let repeated_key = Value::record([("k", one_at(3)), ("k", one_at(4))], None);
     assert_eq!(
-        (first(&record), first(&twice), first(&twice.clone())),
+        (first(&record), first(&repeated_key), first(&repeated_key.clone())),
         (Some(1), Some(4), Some(4))
     );
     let plain = Value::set([Value::from(1)], None);
-    agree(&set, &plain);
-    agree(&record, &Value::record([("k", Value::from(1))], None));
+    assert_equal_with_hash(&set, &plain);
+    assert_equal_with_hash(&record, &Value::record([("k", Value::from(1))], None));
     assert!(set.cmp(&plain).is_eq() && set.value == plain.value);
 }
 
@@ -142,33 +142,33 @@ fn partial_values() {
         (known().to_string(), residual(7).to_string()),
         ("[1, 2]".into(), "!7".into())
     );
-    agree(&known(), &known().clone());
-    agree(&residual(1), &residual(1).clone());
+    assert_equal_with_hash(&known(), &known().clone());
+    assert_equal_with_hash(&residual(1), &residual(1).clone());
     assert!(known() != residual(1) && residual(2) != residual(1) && residual(2) != known());
-    let place_of = |value: &PartialValue| match value {
+    let location_of = |value: &PartialValue| match value {
         PartialValue::Value(value) => start(value.loc.as_ref()),
         PartialValue::Residual(expr) => start(expr.source_loc()),
     };
-    assert_eq!(place_of(&PartialValue::from(one_at(6)).clone()), Some(6));
-    assert_eq!(place_of(&PartialValue::Residual(placed()).clone()), Some(3));
+    assert_eq!(location_of(&PartialValue::from(one_at(6)).clone()), Some(6));
+    assert_eq!(location_of(&PartialValue::Residual(located_expr()).clone()), Some(3));
 }
 
 /// Returns `?principal == 1`, in which each node has its own location.
-fn placed() -> Expr {
+fn located_expr() -> Expr {
     let slot = Expr::slot(SlotId::principal()).with_maybe_source_loc(at(1));
     let one = Expr::val(1).with_maybe_source_loc(at(2));
     Expr::is_eq(slot, one).with_maybe_source_loc(at(3))
 }
 
 #[test]
-fn expressions_keep_their_places() {
+fn expressions_keep_their_locations() {
     let plain = Expr::is_eq(Expr::slot(SlotId::principal()), Expr::val(1));
-    agree(&placed(), &plain);
-    assert_eq!(placed().to_string(), "?principal == 1");
+    assert_equal_with_hash(&located_expr(), &plain);
+    assert_eq!(located_expr().to_string(), "?principal == 1");
     assert!(Expr::val(true).source_loc().is_none());
-    assert_eq!(start(placed().clone().source_loc()), Some(3));
-    assert!(placed().with_maybe_source_loc(None).source_loc().is_none());
-    let nodes: Vec<_> = placed()
+    assert_eq!(start(located_expr().clone().source_loc()), Some(3));
+    assert!(located_expr().with_maybe_source_loc(None).source_loc().is_none());
+    let nodes: Vec<_> = located_expr()
         .subexpressions()
         .into_iter()
         .map(|node| start(node.source_loc()))
@@ -180,17 +180,17 @@ fn expressions_keep_their_places() {
             .map(|slot| slot.loc.map(|loc| loc.start))
             .collect::<Vec<_>>()
     };
-    assert_eq!((slot(&placed()), slot(&plain)), (vec![Some(1)], vec![None]));
+    assert_eq!((slot(&located_expr()), slot(&plain)), (vec![Some(1)], vec![None]));
 }
 
 #[test]
-fn types_keep_their_places() {
+fn types_keep_their_locations() {
     let type_at = |start: usize| ty("A").with_loc(at(start).as_ref());
-    let of = |told: &StaticType| match told {
+    let of = |static_type: &StaticType| match static_type {
         StaticType::Entity { ty } => start(ty.loc()),
     };
-    let placed = EntityUID::from_components(type_at(3), Eid::new("a"), None);
-    assert_eq!(of(&placed.type_of()), Some(3));
+    let located = EntityUID::from_components(type_at(3), Eid::new("a"), None);
+    assert_eq!(of(&located.type_of()), Some(3));
     let unknown = Unknown::new_with_type("x", StaticType::Entity { ty: type_at(4) }).clone();
     assert_eq!(unknown.type_annotation.as_ref().and_then(of), Some(4));
     // the output of the derived `Debug` contains each location

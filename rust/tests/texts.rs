@@ -9,13 +9,13 @@ use cedar_store::ast::{
 use common::{id, shared, uid};
 use std::sync::Arc;
 
-fn notes(pairs: &[(&str, &str)]) -> Annotations {
+fn annotations_of(pairs: &[(&str, &str)]) -> Annotations {
     Annotations::try_from_iter(pairs.iter().map(|(name, val)| {
-        let note = Annotation {
+        let annotation = Annotation {
             val: (*val).into(),
             loc: None,
         };
-        (AnyId::from_normalized_str(name).unwrap(), note)
+        (AnyId::from_normalized_str(name).unwrap(), annotation)
     }))
 }
 
@@ -29,7 +29,7 @@ fn template(
     Template::new(
         id("t"),
         None,
-        notes(pairs),
+        annotations_of(pairs),
         Effect::Permit,
         principal,
         action,
@@ -38,7 +38,7 @@ fn template(
     )
 }
 
-fn free(pairs: &[(&str, &str)], clause: Option<Expr>) -> Template {
+fn unconstrained(pairs: &[(&str, &str)], clause: Option<Expr>) -> Template {
     template(
         pairs,
         PrincipalConstraint::any(),
@@ -61,10 +61,13 @@ fn ty(text: &str) -> Arc<EntityType> {
 }
 
 #[test]
-fn policies_are_written_line_by_line() {
+fn display_of_policies() {
     let (v, w) = (uid(r#"Action::"v""#), uid(r#"Action::"w""#));
     for (template, text) in [
-        (free(&[], None), "permit(\n  principal,\n  action,\n  resource\n);"),
+        (
+            unconstrained(&[], None),
+            "permit(\n  principal,\n  action,\n  resource\n);",
+        ),
         (
             template(
                 &[],
@@ -96,7 +99,7 @@ fn policies_are_written_line_by_line() {
             "permit(\n  principal,\n  action in ?action,\n  resource\n);",
         ),
         (
-            free(&[("k", "é\t")], Some(Expr::val("é"))),
+            unconstrained(&[("k", "é\t")], Some(Expr::val("é"))),
             "@k(\"é\\t\")\npermit(\n  principal,\n  action,\n  resource\n) when {\n  \"é\"\n};",
         ),
     ] {
@@ -132,7 +135,7 @@ fn policies_are_written_line_by_line() {
 }
 
 #[test]
-fn conditions_join_the_scope_and_the_clause() {
+fn conditions_combine_the_scope_and_the_clause() {
     let (p, a, r) = (SlotId::principal(), SlotId::action(), SlotId::resource());
     let typed = |clause: Option<Expr>| {
         template(
@@ -153,8 +156,12 @@ fn conditions_join_the_scope_and_the_clause() {
         )
     };
     for (template, text, slots) in [
-        (free(&[], None), "true && (true && (true && true))", vec![]),
-        (free(&[], Some(Expr::val(7))), "true && (true && (true && 7))", vec![]),
+        (unconstrained(&[], None), "true && (true && (true && true))", vec![]),
+        (
+            unconstrained(&[], Some(Expr::val(7))),
+            "true && (true && (true && 7))",
+            vec![],
+        ),
         (
             typed(is_eq(Expr::val(1), Expr::val(2))),
             "(principal is A) && (true && ((resource is B) && (1 == 2)))",
@@ -187,27 +194,27 @@ fn conditions_join_the_scope_and_the_clause() {
 }
 
 #[test]
-fn annotations_are_found_by_their_keys_and_shared() {
+fn annotations_are_found_by_key_and_shared() {
     let key = |text: &str| AnyId::from_normalized_str(text).unwrap();
-    let one = free(&[("b", "2"), ("a", "1")], None);
+    let one = unconstrained(&[("b", "2"), ("a", "1")], None);
     let policy = StaticPolicy::try_from(one.clone()).unwrap();
     let body = TemplateBody::from(one.clone());
-    for (name, want) in [("a", Some("1")), ("b", Some("2")), ("c", None)] {
-        assert_eq!(one.annotation(&key(name)).map(AsRef::as_ref), want);
-        assert_eq!(body.annotation(&key(name)).map(AsRef::as_ref), want);
-        assert_eq!(policy.annotation(&key(name)).map(AsRef::as_ref), want);
+    for (name, expected) in [("a", Some("1")), ("b", Some("2")), ("c", None)] {
+        assert_eq!(one.annotation(&key(name)).map(AsRef::as_ref), expected);
+        assert_eq!(body.annotation(&key(name)).map(AsRef::as_ref), expected);
+        assert_eq!(policy.annotation(&key(name)).map(AsRef::as_ref), expected);
         assert_eq!(
             Policy::from(policy.clone()).annotation(&key(name)).map(AsRef::as_ref),
-            want
+            expected
         );
     }
-    let told: Vec<_> = one
+    let annotations: Vec<_> = one
         .annotations()
-        .map(|(name, note)| (name.as_ref(), note.as_ref()))
+        .map(|(name, annotation)| (name.as_ref(), annotation.as_ref()))
         .collect();
-    assert_eq!(told, [("a", "1"), ("b", "2")]);
+    assert_eq!(annotations, [("a", "1"), ("b", "2")]);
     assert!(Arc::ptr_eq(one.annotations_arc(), one.clone().annotations_arc()));
-    let again = Template::new_shared(
+    let rebuilt = Template::new_shared(
         id("t"),
         None,
         one.annotations_arc().clone(),
@@ -217,21 +224,21 @@ fn annotations_are_found_by_their_keys_and_shared() {
         ResourceConstraint::any(),
         None,
     );
-    assert_eq!(again, one);
+    assert_eq!(rebuilt, one);
 }
 
 /// An unknown names an entity if it has a type and its name is a printed uid of that type. Each uid is returned once.
 #[test]
-fn unknowns_name_entities() {
+fn unknown_entities_of_a_policy() {
     let typed = |name: &str, text: &str| {
         let ty = EntityType::from_normalized_str(text).unwrap();
         Expr::unknown(Unknown::new_with_type(name, StaticType::Entity { ty }))
     };
     let named = |unknowns: Vec<Expr>| {
-        let policy = Policy::from(StaticPolicy::try_from(free(&[], Some(Expr::set(unknowns)))).unwrap());
-        let mut told: Vec<_> = policy.unknown_entities().iter().map(ToString::to_string).collect();
-        told.sort();
-        told
+        let policy = Policy::from(StaticPolicy::try_from(unconstrained(&[], Some(Expr::set(unknowns)))).unwrap());
+        let mut uids: Vec<_> = policy.unknown_entities().iter().map(ToString::to_string).collect();
+        uids.sort();
+        uids
     };
     assert!(named(vec![]).is_empty());
     let untyped = Expr::unknown(Unknown::new_untyped(r#"A::"c""#));
@@ -239,19 +246,19 @@ fn unknowns_name_entities() {
         named(vec![typed(r#"A::"a""#, "A"), typed(r#"A :: "b""#, "A"), untyped]),
         [r#"A::"a""#]
     );
-    let twice = vec![
+    let repeated = vec![
         typed(r#"A::"a""#, "A"),
         typed(r#"A::"b""#, "B"),
         typed(r#"A::"a""#, "A"),
         typed(r#"A::"""#, "A"),
     ];
-    assert_eq!(named(twice), [r#"A::"""#, r#"A::"a""#, r#"A::"b""#]);
-    let past = vec![
+    assert_eq!(named(repeated), [r#"A::"""#, r#"A::"a""#, r#"A::"b""#]);
+    let non_ascii = vec![
         typed(r#"A::"é""#, "A"),
         typed(r#"A::"it\'s""#, "A"),
         typed(r#"if::"a""#, "A"),
     ];
-    assert_eq!(named(past), [r#"A::"it\'s""#, r#"A::"é""#]);
+    assert_eq!(named(non_ascii), [r#"A::"it\'s""#, r#"A::"é""#]);
     assert!(
         named(vec![
             typed(r#"A::"\u{e9}""#, "A"),
@@ -263,11 +270,11 @@ fn unknowns_name_entities() {
 }
 
 #[test]
-fn long_escapes_are_written_and_read() {
+fn long_escapes_round_trip() {
     for eid in ["\u{10ffff}", "\u{e0001}", "\u{fffff}"] {
-        let made = EntityUID::with_eid_and_type("A", eid).unwrap();
-        let text = made.to_string();
+        let original = EntityUID::with_eid_and_type("A", eid).unwrap();
+        let text = original.to_string();
         assert_eq!(text, format!("A::\"{}\"", eid.escape_unicode()));
-        assert_eq!(EntityUID::from_normalized_str(&text).unwrap(), made);
+        assert_eq!(EntityUID::from_normalized_str(&text).unwrap(), original);
     }
 }

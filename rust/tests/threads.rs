@@ -6,7 +6,7 @@ mod policies;
 use cedar_store::ast::{Entity, EntityUID, Expr, Policy, PolicySet, Template, Value};
 use cedar_store::entities::{Dereference, Entities, TCComputation};
 use cedar_store::slice;
-use common::{Drawn, id, principal};
+use common::{Random, id, principal};
 use policies::{permit, principal_template};
 use std::sync::{Arc, Barrier};
 use std::thread;
@@ -14,16 +14,16 @@ use std::thread;
 const THREADS: usize = 16;
 const ENTITIES: usize = 600;
 
-const fn may_be_shared<T: Send + Sync>() {}
+const fn assert_send_sync<T: Send + Sync>() {}
 const _: () = {
-    may_be_shared::<Entities>();
-    may_be_shared::<PolicySet>();
-    may_be_shared::<Entity>();
-    may_be_shared::<Policy>();
-    may_be_shared::<Template>();
-    may_be_shared::<Value>();
-    may_be_shared::<Expr>();
-    may_be_shared::<EntityUID>();
+    assert_send_sync::<Entities>();
+    assert_send_sync::<PolicySet>();
+    assert_send_sync::<Entity>();
+    assert_send_sync::<Policy>();
+    assert_send_sync::<Template>();
+    assert_send_sync::<Value>();
+    assert_send_sync::<Expr>();
+    assert_send_sync::<EntityUID>();
 };
 
 fn node(number: usize) -> EntityUID {
@@ -41,14 +41,14 @@ fn tree() -> Entities {
     Entities::from_entities(entities, TCComputation::ComputeNow).unwrap()
 }
 
-fn has_path_to_the_top(store: &Entities, number: usize) -> bool {
+fn has_all_ancestors(store: &Entities, number: usize) -> bool {
     let Dereference::Data(entity) = store.entity(&node(number)) else {
         return false;
     };
-    let mut above = number;
-    while above > 0 {
-        above = (above - 1) / 3;
-        if !entity.is_descendant_of(&node(above)) {
+    let mut ancestor = number;
+    while ancestor > 0 {
+        ancestor = (ancestor - 1) / 3;
+        if !entity.is_descendant_of(&node(ancestor)) {
             return false;
         }
     }
@@ -56,40 +56,42 @@ fn has_path_to_the_top(store: &Entities, number: usize) -> bool {
 }
 
 #[test]
-fn sixteen_threads_read_one_store_while_each_edits_its_own() {
+fn threads_share_a_store_and_edit_copies() {
     let store = Arc::new(tree());
     let start = Barrier::new(THREADS);
     thread::scope(|scope| {
         for thread in 0..THREADS {
             let (store, start) = (Arc::clone(&store), &start);
             scope.spawn(move || {
-                let mut drawn = Drawn::new(thread as u64);
-                let mut own = Entities::clone(&store);
+                let mut random = Random::new(thread as u64);
+                let mut copy = Entities::clone(&store);
                 start.wait();
                 for _ in 0..60 {
-                    let number = drawn.below(ENTITIES);
-                    assert!(has_path_to_the_top(&store, number));
-                    let gone = 1 + drawn.below(ENTITIES - 1);
-                    own = own.remove_entities([node(gone)], TCComputation::ComputeNow).unwrap();
-                    assert!(matches!(own.entity(&node(gone)), Dereference::NoSuchEntity));
-                    let mut back = Entity::with_uid(node(gone));
-                    back.add_parent(node((gone - 1) / 3));
-                    own = own
-                        .upsert_entities([Arc::new(back)], TCComputation::ComputeNow)
+                    let number = random.below(ENTITIES);
+                    assert!(has_all_ancestors(&store, number));
+                    let removed = 1 + random.below(ENTITIES - 1);
+                    copy = copy
+                        .remove_entities([node(removed)], TCComputation::ComputeNow)
                         .unwrap();
-                    let part = slice(&store, &[node(number)]);
-                    assert!(has_path_to_the_top(&part, number));
+                    assert!(matches!(copy.entity(&node(removed)), Dereference::NoSuchEntity));
+                    let mut restored = Entity::with_uid(node(removed));
+                    restored.add_parent(node((removed - 1) / 3));
+                    copy = copy
+                        .upsert_entities([Arc::new(restored)], TCComputation::ComputeNow)
+                        .unwrap();
+                    let sliced = slice(&store, &[node(number)]);
+                    assert!(has_all_ancestors(&sliced, number));
                 }
-                assert_eq!(own.len(), ENTITIES);
+                assert_eq!(copy.len(), ENTITIES);
             });
         }
     });
-    assert!((0..ENTITIES).all(|number| has_path_to_the_top(&store, number)));
+    assert!((0..ENTITIES).all(|number| has_all_ancestors(&store, number)));
     assert!(store.deep_eq(&tree()));
 }
 
 #[test]
-fn sixteen_threads_read_one_set_while_each_edits_its_own() {
+fn threads_share_a_policy_set_and_edit_copies() {
     let mut set = PolicySet::new();
     set.add_template(principal_template("t")).unwrap();
     for number in 0..50 {
@@ -103,18 +105,18 @@ fn sixteen_threads_read_one_set_while_each_edits_its_own() {
         for thread in 0..THREADS {
             let set = Arc::clone(&set);
             scope.spawn(move || {
-                let mut own = PolicySet::clone(&set);
+                let mut copy = PolicySet::clone(&set);
                 for number in 0..50 {
                     assert_eq!(
                         set.get(&id(&format!("l{number}"))).unwrap().env(),
                         &principal(node(number))
                     );
-                    own.unlink(&id(&format!("l{number}"))).unwrap();
-                    own.add_static(permit(&format!("of{thread} {number}"), None)).unwrap();
+                    copy.unlink(&id(&format!("l{number}"))).unwrap();
+                    copy.add_static(permit(&format!("of{thread} {number}"), None)).unwrap();
                 }
-                own.remove_template(&id("t")).unwrap();
-                own.merge_policyset(&set, true).unwrap();
-                assert_eq!(own.policies().count(), 150);
+                copy.remove_template(&id("t")).unwrap();
+                copy.merge_policyset(&set, true).unwrap();
+                assert_eq!(copy.policies().count(), 150);
             });
         }
     });
@@ -122,7 +124,7 @@ fn sixteen_threads_read_one_set_while_each_edits_its_own() {
 }
 
 #[test]
-fn a_store_moves_to_another_thread_and_back() {
+fn store_moves_to_another_thread_and_back() {
     let store = tree();
     let store = thread::spawn(move || store.remove_entities([node(0)], TCComputation::ComputeNow).unwrap())
         .join()

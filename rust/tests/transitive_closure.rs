@@ -11,12 +11,12 @@ type Graph = HashMap<EntityUID, Entity>;
 
 /// Returns whether an edge is missing. This is so if there are edges from a first node to a second and from there to a
 /// third, but no edge from the first to the third.
-fn lacks_an_edge(entities: &Graph) -> bool {
+fn is_missing_an_edge(entities: &Graph) -> bool {
     matches!(enforce_tc_and_dag(entities), Err(TcError::MissingTcEdge(_)))
 }
 
 /// Returns the eids of the ancestors of a node.
-fn above(entities: &Graph, eid: &str) -> BTreeSet<String> {
+fn ancestor_eids(entities: &Graph, eid: &str) -> BTreeSet<String> {
     entities[&with_eid(eid)]
         .ancestors()
         .map(|uid| uid.eid().as_ref().to_string())
@@ -24,8 +24,8 @@ fn above(entities: &Graph, eid: &str) -> BTreeSet<String> {
 }
 
 /// Returns the keys that each key reaches over one or more edges. Adds edges of edges until nothing changes.
-fn reached(rows: &[(&str, &[&str])]) -> BTreeMap<String, BTreeSet<String>> {
-    let mut all: BTreeMap<String, BTreeSet<String>> = rows
+fn reachable(nodes: &[(&str, &[&str])]) -> BTreeMap<String, BTreeSet<String>> {
+    let mut all: BTreeMap<String, BTreeSet<String>> = nodes
         .iter()
         .map(|(eid, parents)| {
             (
@@ -37,13 +37,13 @@ fn reached(rows: &[(&str, &[&str])]) -> BTreeMap<String, BTreeSet<String>> {
     loop {
         let before = all.clone();
         for edges in all.values_mut() {
-            let further: Vec<_> = edges
+            let indirect: Vec<_> = edges
                 .iter()
                 .filter_map(|eid| before.get(eid))
                 .flatten()
                 .cloned()
                 .collect();
-            edges.extend(further);
+            edges.extend(indirect);
         }
         if all == before {
             return all;
@@ -52,24 +52,24 @@ fn reached(rows: &[(&str, &[&str])]) -> BTreeMap<String, BTreeSet<String>> {
 }
 
 /// Closes a graph, and asserts that the ancestors of each node are exactly what it reaches.
-fn closes(rows: &[(&str, &[&str])], is_closed_before: bool, cycle: &[&str]) {
-    let mut entities = graph(rows);
-    assert_eq!(lacks_an_edge(&entities), !is_closed_before);
+fn assert_closes(nodes: &[(&str, &[&str])], is_closed_before: bool, cycle: &[&str]) {
+    let mut entities = graph(nodes);
+    assert_eq!(is_missing_an_edge(&entities), !is_closed_before);
     compute_tc(&mut entities, false).expect("closing without a check for cycles succeeds");
-    for (eid, due) in reached(rows) {
-        assert_eq!(above(&entities, &eid), due, "{eid}");
+    for (eid, expected) in reachable(nodes) {
+        assert_eq!(ancestor_eids(&entities, &eid), expected, "{eid}");
     }
-    assert!(!lacks_an_edge(&entities));
+    assert!(!is_missing_an_edge(&entities));
     match enforce_tc_and_dag(&entities) {
         Ok(()) => assert!(cycle.is_empty()),
-        Err(TcError::HasCycle(fault)) => {
-            let named = fault.vertex_with_loop().eid().as_ref();
+        Err(TcError::HasCycle(error)) => {
+            let named = error.vertex_with_loop().eid().as_ref();
             assert!(cycle.contains(&named), "{named} is on no cycle");
         }
-        Err(fault) => panic!("{fault}"),
+        Err(error) => panic!("{error}"),
     }
     // with the check, an error is returned exactly for a cyclic graph, and the graph is closed nevertheless
-    let mut checked = graph(rows);
+    let mut checked = graph(nodes);
     assert_eq!(compute_tc(&mut checked, true).is_err(), !cycle.is_empty());
     for (uid, entity) in &entities {
         assert!(entity.deep_eq(&checked[uid]));
@@ -78,17 +78,17 @@ fn closes(rows: &[(&str, &[&str])], is_closed_before: bool, cycle: &[&str]) {
 
 #[test]
 fn basic() {
-    closes(&[("A", &["B"]), ("B", &["C"]), ("C", &[])], false, &[]);
+    assert_closes(&[("A", &["B"]), ("B", &["C"]), ("C", &[])], false, &[]);
 }
 
 #[test]
 fn reversed() {
-    closes(&[("C", &[]), ("B", &["C"]), ("A", &["B"])], false, &[]);
+    assert_closes(&[("C", &[]), ("B", &["C"]), ("A", &["B"])], false, &[]);
 }
 
 #[test]
 fn deeper() {
-    closes(
+    assert_closes(
         &[("A", &["B"]), ("B", &["C"]), ("C", &["D"]), ("D", &["E"]), ("E", &[])],
         false,
         &[],
@@ -97,19 +97,19 @@ fn deeper() {
 
 #[test]
 fn not_alphabetized() {
-    let rows: &[(&str, &[&str])] = &[
+    let nodes: &[(&str, &[&str])] = &[
         ("ham", &["eggs"]),
         ("bar", &["baz"]),
         ("foo", &["bar"]),
         ("eggs", &[]),
         ("baz", &["ham"]),
     ];
-    closes(rows, false, &[]);
+    assert_closes(nodes, false, &[]);
 }
 
 #[test]
 fn multi_parents() {
-    closes(
+    assert_closes(
         &[("A", &["B", "D"]), ("B", &["C"]), ("C", &[]), ("D", &["E"]), ("E", &[])],
         false,
         &[],
@@ -130,7 +130,7 @@ const DAG: &[(&str, &[&str])] = &[
 
 #[test]
 fn dag() {
-    closes(DAG, false, &[]);
+    assert_closes(DAG, false, &[]);
 }
 
 /// Some edges of the closure are already present.
@@ -145,7 +145,7 @@ const ALREADY_EDGES: &[(&str, &[&str])] = &[
 
 #[test]
 fn already_edges() {
-    closes(ALREADY_EDGES, false, &[]);
+    assert_closes(ALREADY_EDGES, false, &[]);
 }
 
 const DISJOINT: &[(&str, &[&str])] = &[
@@ -161,19 +161,19 @@ const DISJOINT: &[(&str, &[&str])] = &[
 
 #[test]
 fn disjoint_dag() {
-    closes(DISJOINT, false, &[]);
+    assert_closes(DISJOINT, false, &[]);
 }
 
 #[test]
 fn trivial_cycle() {
-    closes(&[("A", &["B"]), ("B", &["B"])], true, &["B"]);
+    assert_closes(&[("A", &["B"]), ("B", &["B"])], true, &["B"]);
 }
 
 const NONTRIVIAL_CYCLE: &[(&str, &[&str])] = &[("A", &["B"]), ("B", &["C", "D"]), ("C", &["A"]), ("D", &[])];
 
 #[test]
 fn nontrivial_cycle() {
-    closes(NONTRIVIAL_CYCLE, false, &["A", "B", "C"]);
+    assert_closes(NONTRIVIAL_CYCLE, false, &["A", "B", "C"]);
 }
 
 const DISJOINT_CYCLES: &[(&str, &[&str])] = &[
@@ -189,7 +189,7 @@ const DISJOINT_CYCLES: &[(&str, &[&str])] = &[
 
 #[test]
 fn disjoint_cycles() {
-    closes(DISJOINT_CYCLES, false, &["B", "C", "D", "E", "H"]);
+    assert_closes(DISJOINT_CYCLES, false, &["B", "C", "D", "E", "H"]);
 }
 
 const INTERSECTING_CYCLES: &[(&str, &[&str])] = &[
@@ -203,7 +203,7 @@ const INTERSECTING_CYCLES: &[(&str, &[&str])] = &[
 
 #[test]
 fn intersecting_cycles() {
-    closes(INTERSECTING_CYCLES, false, &["A", "B", "C", "D", "E", "F"]);
+    assert_closes(INTERSECTING_CYCLES, false, &["A", "B", "C", "D", "E", "F"]);
 }
 
 #[test]
@@ -216,12 +216,12 @@ fn updated() {
     for entity in [child("A", &["B"]), child("B", &["D"]), child("D", &[])] {
         entities.insert(entity.uid().clone(), entity);
     }
-    assert!(lacks_an_edge(&entities));
+    assert!(is_missing_an_edge(&entities));
     compute_tc(&mut entities, false).unwrap();
-    for (eid, due) in [("A", vec!["B", "D"]), ("B", vec!["D"]), ("C", vec![]), ("D", vec![])] {
+    for (eid, expected) in [("A", vec!["B", "D"]), ("B", vec!["D"]), ("C", vec![]), ("D", vec![])] {
         assert_eq!(
-            above(&entities, eid),
-            due.into_iter().map(String::from).collect(),
+            ancestor_eids(&entities, eid),
+            expected.into_iter().map(String::from).collect(),
             "{eid}"
         );
     }
@@ -231,15 +231,15 @@ fn updated() {
 /// The original compares two algorithms. This test compares the closure with the reachable keys.
 #[test]
 fn cyclic_tc_oracle_on_dags() {
-    closes(DAG, false, &[]);
-    closes(DISJOINT, false, &[]);
-    closes(ALREADY_EDGES, false, &[]);
+    assert_closes(DAG, false, &[]);
+    assert_closes(DISJOINT, false, &[]);
+    assert_closes(ALREADY_EDGES, false, &[]);
 }
 
 #[test]
 fn cyclic_tc_oracle_on_cycles() {
-    closes(NONTRIVIAL_CYCLE, false, &["A", "B", "C"]);
-    closes(DISJOINT_CYCLES, false, &["B", "C", "D", "E", "H"]);
+    assert_closes(NONTRIVIAL_CYCLE, false, &["A", "B", "C"]);
+    assert_closes(DISJOINT_CYCLES, false, &["B", "C", "D", "E", "H"]);
 }
 
 /// Cycles of up to eleven nodes, with a node below and a node above.
@@ -255,18 +255,18 @@ fn compute_tc_no_dag_matches_cyclic_tc_on_cycles() {
             })
             .collect();
         let below = [ring[0].as_str()];
-        let mut rows: Vec<(&str, &[&str])> = ring
+        let mut nodes: Vec<(&str, &[&str])> = ring
             .iter()
             .zip(&parents)
             .map(|(eid, parents)| (eid.as_str(), parents.as_slice()))
             .collect();
-        rows.push(("below", &below));
-        rows.push(("above", &[]));
-        closes(&rows, false, &ring.iter().map(String::as_str).collect::<Vec<_>>());
+        nodes.push(("below", &below));
+        nodes.push(("above", &[]));
+        assert_closes(&nodes, false, &ring.iter().map(String::as_str).collect::<Vec<_>>());
     }
 }
 
 #[test]
 fn self_loop_with_grandchild() {
-    closes(&[("A", &["A", "B"]), ("B", &["C"]), ("C", &[])], false, &["A"]);
+    assert_closes(&[("A", &["A", "B"]), ("B", &["C"]), ("C", &[])], false, &["A"]);
 }

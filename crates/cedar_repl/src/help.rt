@@ -5,32 +5,38 @@ ghost use Rattle.cedar_repl.specs.Help.{IsHelpOn, IsNoTopic};
 
 /// The commands on a store of entities: the output for the line `help store`.
 pub const STORE_HELP: &str = "\
-ent UID UID..         the entity of the first uid waits, with the others as its parents
-build                 the entities that wait become the store
-add                   they are added to the store
-upsert                they are put over the store, each in the place of any with its uid
-remove UID..          the entities with these uids go, and are no parents any more
-slice UID..           the store becomes its slice at these uids
-anc UID               asks for the ancestors of an entity
+Commands on the store of entities. Each prints \"ok N\" (N entities) unless stated otherwise.
+ent UID PARENT..      queues an entity with its uid and the uids of its parents; prints nothing
+build                 replaces the store with the queued entities
+add                   adds the queued entities; an entity that already exists must be equal
+upsert                adds the queued entities; an entity that already exists is replaced
+remove UID..          removes these entities, also from the parents of other entities
+slice UID..           keeps only these entities and their ancestors
+anc UID               prints the ancestors of an entity, or \"no entity\"
 ";
 
 /// The commands on policy sets: the output for the line `help policies`.
 pub const POLICY_HELP: &str = "\
-static ID EFFECT      a static policy joins the current set; EFFECT is permit or forbid
-template ID SLOTS     a template joins; SLOTS is none, principal, action, resource, both or all
-link ID ID BINDING..  a link of the template with the first id joins under the second;
-                      BINDING is principal=UID, action=UID or resource=UID
-unlink ID             the link with this id goes
-other                 the set aside becomes the current one, and that one goes aside
-merge HOW             the set aside is merged into the current one; HOW is keep or rename
-ids                   asks for the ids of the current set
+Commands on two policy sets, the current and the other set. Each prints \"ok\" unless stated otherwise.
+static ID EFFECT      adds a static policy to the current set; EFFECT is permit or forbid
+template ID SLOTS     adds a template; SLOTS is none, principal, action, resource, all or
+                      both (principal and resource)
+link ID NEW BINDING.. links the template ID under the new id NEW, with one binding for each slot:
+                      principal=UID, action=UID or resource=UID
+unlink ID             removes a link
+other                 makes the other set the current one
+merge HOW             adds the other set to the current one; if an id has different policies in the
+                      two sets, HOW=keep reports an error and HOW=rename changes the id
+ids                   prints the ids of the current set
 ";
 
 /// The format of a line: the output for the line `help fields`.
 pub const FIELD_HELP: &str = "\
-Fields are parted by one tab each. UID is a uid as A::\"a\", and ID any text without a tab.
-An empty line does nothing.
-A line help store, help policies or help fields tells a part of this, and help all of it.
+Fields of a line are separated by one tab each, not by spaces. An empty line does nothing.
+UID is the type and the id of an entity, for example User::\"alice\". ID is any printable ASCII text.
+A command that fails prints \"refused:\" and the reason. If build, add or upsert fails, the store is emptied.
+Any other line prints \"line N: not a command\". With --strict it also ends the program.
+help prints this text. help store, help policies and help fields print one part of it.
 ";
 
 /// Returns the three texts of the help. One after another they are the output for the line `help`, and of the program's

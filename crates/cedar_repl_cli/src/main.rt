@@ -94,7 +94,7 @@ fn main(rt: HostRuntime) -> ExitCode {
         Action::Talk(manner) => held(&rt, manner),
         Action::Help => helped(&rt),
         Action::Unknown => {
-            let _ = eprintln!(rt; "usage: talk [--strict | --help]");
+            let _ = eprintln!(rt; "usage: repl [--strict | --help]");
             ExitCode::from(2)
         }
     }

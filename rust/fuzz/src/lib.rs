@@ -10,25 +10,25 @@ unsafe extern "C" {
         seed: u64,
         key: u64,
         out: *mut u8,
-        room: usize,
-        told: *mut usize,
-        ended: *mut u32,
+        capacity: usize,
+        written: *mut usize,
+        exit_status: *mut u32,
     ) -> u32;
 }
 
 /// Returns the output and the status of the proved program.
-fn proved(lines: &[u8], room: usize) -> (Vec<u8>, u32) {
-    let (mut out, mut told, mut ended) = (vec![0; room], 0, 0);
+fn run_proved(lines: &[u8], capacity: usize) -> (Vec<u8>, u32) {
+    let (mut out, mut written, mut exit_status) = (vec![0; capacity], 0, 0);
     // SAFETY: the pointers point to arrays with the given lengths, and nothing else uses them during the call
     let status = unsafe {
-        cedar_run(lines.as_ptr(), lines.len(), 7, 11, out.as_mut_ptr(), out.len(), &raw mut told, &raw mut ended)
+        cedar_run(lines.as_ptr(), lines.len(), 7, 11, out.as_mut_ptr(), out.len(), &raw mut written, &raw mut exit_status)
     };
     assert_eq!(status, 0, "an allocation of the proved program failed");
-    if told > room {
-        return proved(lines, told);
+    if written > capacity {
+        return run_proved(lines, written);
     }
-    out.truncate(told);
-    (out, ended)
+    out.truncate(written);
+    (out, exit_status)
 }
 
 /// Asserts that both programs write the same for these lines.
@@ -45,7 +45,7 @@ pub unsafe extern "C" fn LLVMFuzzerTestOneInput(data: *const u8, len: usize) -> 
     };
     let mut written = Vec::new();
     let status = cedar_store::program::run(&mut &lines[..], &mut written).expect("reading and writing memory never fails");
-    let due = proved(lines, written.len());
-    assert_eq!((written, u32::from(status)), due, "{:?}", String::from_utf8_lossy(lines));
+    let expected = run_proved(lines, written.len());
+    assert_eq!((written, u32::from(status)), expected, "{:?}", String::from_utf8_lossy(lines));
     0
 }

@@ -35,7 +35,7 @@ fn part_for<S: BuildHasher + Clone>(store: &Entities<S>, list: &[Arc<Entity>]) -
 /// # #[allow(unused)]
 /// # fn uid(text: &str) -> EntityUID { EntityUID::from_normalized_str(text).unwrap() }
 /// # #[allow(unused)]
-/// # fn under(own: &str, parents: &[&str]) -> Entity {
+/// # fn entity_with(own: &str, parents: &[&str]) -> Entity {
 /// #     let mut entity = Entity::with_uid(uid(own));
 /// #     parents.iter().for_each(|parent| entity.add_parent(uid(parent)));
 /// #     entity
@@ -51,8 +51,8 @@ fn part_for<S: BuildHasher + Clone>(store: &Entities<S>, list: &[Arc<Entity>]) -
 /// # }
 /// use cedar_store::{have_no_indirect, would_add, would_upsert};
 /// # use std::sync::Arc;
-/// let store = Entities::from_entities([under(r#"A::"a""#, &[r#"A::"b""#])], TCComputation::ComputeNow)?;
-/// let other = [Arc::new(under(r#"A::"a""#, &[r#"A::"c""#]))];
+/// let store = Entities::from_entities([entity_with(r#"A::"a""#, &[r#"A::"b""#])], TCComputation::ComputeNow)?;
+/// let other = [Arc::new(entity_with(r#"A::"a""#, &[r#"A::"c""#]))];
 /// assert!(have_no_indirect(&other));
 /// // another entity with this uid is stored, and would be replaced
 /// assert!(matches!(would_add(&store, &other), Err(EntitiesError::Duplicate(_))));
@@ -81,7 +81,7 @@ pub fn would_add<S: BuildHasher + Clone>(store: &Entities<S>, list: &[Arc<Entity
 /// # #[allow(unused)]
 /// # fn uid(text: &str) -> EntityUID { EntityUID::from_normalized_str(text).unwrap() }
 /// # #[allow(unused)]
-/// # fn under(own: &str, parents: &[&str]) -> Entity {
+/// # fn entity_with(own: &str, parents: &[&str]) -> Entity {
 /// #     let mut entity = Entity::with_uid(uid(own));
 /// #     parents.iter().for_each(|parent| entity.add_parent(uid(parent)));
 /// #     entity
@@ -97,8 +97,8 @@ pub fn would_add<S: BuildHasher + Clone>(store: &Entities<S>, list: &[Arc<Entity
 /// # }
 /// use cedar_store::{have_no_indirect, would_add, would_upsert};
 /// # use std::sync::Arc;
-/// let store = Entities::from_entities([under(r#"A::"a""#, &[r#"A::"b""#])], TCComputation::ComputeNow)?;
-/// let other = [Arc::new(under(r#"A::"a""#, &[r#"A::"c""#]))];
+/// let store = Entities::from_entities([entity_with(r#"A::"a""#, &[r#"A::"b""#])], TCComputation::ComputeNow)?;
+/// let other = [Arc::new(entity_with(r#"A::"a""#, &[r#"A::"c""#]))];
 /// assert!(have_no_indirect(&other));
 /// // another entity with this uid is stored, and would be replaced
 /// assert!(matches!(would_add(&store, &other), Err(EntitiesError::Duplicate(_))));
@@ -128,7 +128,7 @@ fn has_no_indirect(entity: &Entity) -> bool {
 /// # #[allow(unused)]
 /// # fn uid(text: &str) -> EntityUID { EntityUID::from_normalized_str(text).unwrap() }
 /// # #[allow(unused)]
-/// # fn under(own: &str, parents: &[&str]) -> Entity {
+/// # fn entity_with(own: &str, parents: &[&str]) -> Entity {
 /// #     let mut entity = Entity::with_uid(uid(own));
 /// #     parents.iter().for_each(|parent| entity.add_parent(uid(parent)));
 /// #     entity
@@ -144,8 +144,8 @@ fn has_no_indirect(entity: &Entity) -> bool {
 /// # }
 /// use cedar_store::{have_no_indirect, would_add, would_upsert};
 /// # use std::sync::Arc;
-/// let store = Entities::from_entities([under(r#"A::"a""#, &[r#"A::"b""#])], TCComputation::ComputeNow)?;
-/// let other = [Arc::new(under(r#"A::"a""#, &[r#"A::"c""#]))];
+/// let store = Entities::from_entities([entity_with(r#"A::"a""#, &[r#"A::"b""#])], TCComputation::ComputeNow)?;
+/// let other = [Arc::new(entity_with(r#"A::"a""#, &[r#"A::"c""#]))];
 /// assert!(have_no_indirect(&other));
 /// // another entity with this uid is stored, and would be replaced
 /// assert!(matches!(would_add(&store, &other), Err(EntitiesError::Duplicate(_))));

@@ -16,7 +16,7 @@ impl Entities {
     /// # #[allow(unused)]
     /// # fn uid(text: &str) -> EntityUID { EntityUID::from_normalized_str(text).unwrap() }
     /// # #[allow(unused)]
-    /// # fn under(own: &str, parents: &[&str]) -> Entity {
+    /// # fn entity_with(own: &str, parents: &[&str]) -> Entity {
     /// #     let mut entity = Entity::with_uid(uid(own));
     /// #     parents.iter().for_each(|parent| entity.add_parent(uid(parent)));
     /// #     entity
@@ -31,13 +31,13 @@ impl Entities {
     /// #     StaticPolicy::try_from(template(name, PrincipalConstraint::any())).unwrap()
     /// # }
     /// # use std::sync::Arc;
-    /// let one = Arc::new(under(r#"User::"alice""#, &[r#"Group::"staff""#]));
+    /// let one = Arc::new(entity_with(r#"User::"alice""#, &[r#"Group::"staff""#]));
     /// let store = Entities::new().add_entities([Arc::clone(&one)], TCComputation::ComputeNow)?;
     /// // an equal entity changes nothing, and a different one is an error
     /// let store = store.add_entities([one], TCComputation::ComputeNow)?;
-    /// let other = Arc::new(under(r#"User::"alice""#, &[]));
-    /// let refusal = store.add_entities([other], TCComputation::ComputeNow).unwrap_err();
-    /// assert_eq!(refusal.to_string(), r#"duplicate entity `User::"alice"`"#);
+    /// let other = Arc::new(entity_with(r#"User::"alice""#, &[]));
+    /// let error = store.add_entities([other], TCComputation::ComputeNow).unwrap_err();
+    /// assert_eq!(error.to_string(), r#"duplicate entity `User::"alice"`"#);
     /// # Ok::<(), Box<dyn std::error::Error>>(())
     /// ```
     pub fn new() -> Self {
@@ -55,7 +55,7 @@ impl Entities {
     /// # #[allow(unused)]
     /// # fn uid(text: &str) -> EntityUID { EntityUID::from_normalized_str(text).unwrap() }
     /// # #[allow(unused)]
-    /// # fn under(own: &str, parents: &[&str]) -> Entity {
+    /// # fn entity_with(own: &str, parents: &[&str]) -> Entity {
     /// #     let mut entity = Entity::with_uid(uid(own));
     /// #     parents.iter().for_each(|parent| entity.add_parent(uid(parent)));
     /// #     entity
@@ -70,7 +70,7 @@ impl Entities {
     /// #     StaticPolicy::try_from(template(name, PrincipalConstraint::any())).unwrap()
     /// # }
     /// let store = Entities::from_entities(
-    ///     [under(r#"User::"alice""#, &[r#"Group::"staff""#]), under(r#"Group::"staff""#, &[r#"Group::"all""#])],
+    ///     [entity_with(r#"User::"alice""#, &[r#"Group::"staff""#]), entity_with(r#"Group::"staff""#, &[r#"Group::"all""#])],
     ///     TCComputation::ComputeNow,
     /// )?;
     /// assert_eq!((store.len(), store.is_empty()), (2, false));

@@ -35,7 +35,7 @@ impl<'a, T> Dereference<'a, T> {
     /// # #[allow(unused)]
     /// # fn uid(text: &str) -> EntityUID { EntityUID::from_normalized_str(text).unwrap() }
     /// # #[allow(unused)]
-    /// # fn under(own: &str, parents: &[&str]) -> Entity {
+    /// # fn entity_with(own: &str, parents: &[&str]) -> Entity {
     /// #     let mut entity = Entity::with_uid(uid(own));
     /// #     parents.iter().for_each(|parent| entity.add_parent(uid(parent)));
     /// #     entity
@@ -49,7 +49,7 @@ impl<'a, T> Dereference<'a, T> {
     /// # fn permit(name: &str) -> StaticPolicy {
     /// #     StaticPolicy::try_from(template(name, PrincipalConstraint::any())).unwrap()
     /// # }
-    /// let store = Entities::from_entities([under(r#"A::"a""#, &[])], TCComputation::ComputeNow)?;
+    /// let store = Entities::from_entities([entity_with(r#"A::"a""#, &[])], TCComputation::ComputeNow)?;
     /// let a = uid(r#"A::"a""#);
     /// assert_eq!(store.entity(&a).unwrap().uid(), store.entity(&a).expect("it is present").uid());
     /// # Ok::<(), Box<dyn std::error::Error>>(())
@@ -75,7 +75,7 @@ impl<'a, T> Dereference<'a, T> {
     /// # #[allow(unused)]
     /// # fn uid(text: &str) -> EntityUID { EntityUID::from_normalized_str(text).unwrap() }
     /// # #[allow(unused)]
-    /// # fn under(own: &str, parents: &[&str]) -> Entity {
+    /// # fn entity_with(own: &str, parents: &[&str]) -> Entity {
     /// #     let mut entity = Entity::with_uid(uid(own));
     /// #     parents.iter().for_each(|parent| entity.add_parent(uid(parent)));
     /// #     entity
@@ -89,7 +89,7 @@ impl<'a, T> Dereference<'a, T> {
     /// # fn permit(name: &str) -> StaticPolicy {
     /// #     StaticPolicy::try_from(template(name, PrincipalConstraint::any())).unwrap()
     /// # }
-    /// let store = Entities::from_entities([under(r#"A::"a""#, &[])], TCComputation::ComputeNow)?;
+    /// let store = Entities::from_entities([entity_with(r#"A::"a""#, &[])], TCComputation::ComputeNow)?;
     /// let a = uid(r#"A::"a""#);
     /// assert_eq!(store.entity(&a).unwrap().uid(), store.entity(&a).expect("it is present").uid());
     /// # Ok::<(), Box<dyn std::error::Error>>(())

@@ -150,7 +150,7 @@ impl<S: BuildHasher + Clone> Entities<S> {
     /// # #[allow(unused)]
     /// # fn uid(text: &str) -> EntityUID { EntityUID::from_normalized_str(text).unwrap() }
     /// # #[allow(unused)]
-    /// # fn under(own: &str, parents: &[&str]) -> Entity {
+    /// # fn entity_with(own: &str, parents: &[&str]) -> Entity {
     /// #     let mut entity = Entity::with_uid(uid(own));
     /// #     parents.iter().for_each(|parent| entity.add_parent(uid(parent)));
     /// #     entity
@@ -167,7 +167,7 @@ impl<S: BuildHasher + Clone> Entities<S> {
     /// use cedar_store::KeyedState;
     /// let store = Entities::with_hasher(KeyedState::with_keys(1, 2));
     /// let hasher = store.hasher().clone();
-    /// let one = Entities::from_entities_with_hasher(hasher, [under(r#"A::"a""#, &[])], TCComputation::ComputeNow)?;
+    /// let one = Entities::from_entities_with_hasher(hasher, [entity_with(r#"A::"a""#, &[])], TCComputation::ComputeNow)?;
     /// assert_eq!(one.len(), 1);
     /// # Ok::<(), Box<dyn std::error::Error>>(())
     /// ```
@@ -186,7 +186,7 @@ impl<S: BuildHasher + Clone> Entities<S> {
     /// # #[allow(unused)]
     /// # fn uid(text: &str) -> EntityUID { EntityUID::from_normalized_str(text).unwrap() }
     /// # #[allow(unused)]
-    /// # fn under(own: &str, parents: &[&str]) -> Entity {
+    /// # fn entity_with(own: &str, parents: &[&str]) -> Entity {
     /// #     let mut entity = Entity::with_uid(uid(own));
     /// #     parents.iter().for_each(|parent| entity.add_parent(uid(parent)));
     /// #     entity
@@ -203,7 +203,7 @@ impl<S: BuildHasher + Clone> Entities<S> {
     /// use cedar_store::KeyedState;
     /// let store = Entities::with_hasher(KeyedState::with_keys(1, 2));
     /// let hasher = store.hasher().clone();
-    /// let one = Entities::from_entities_with_hasher(hasher, [under(r#"A::"a""#, &[])], TCComputation::ComputeNow)?;
+    /// let one = Entities::from_entities_with_hasher(hasher, [entity_with(r#"A::"a""#, &[])], TCComputation::ComputeNow)?;
     /// assert_eq!(one.len(), 1);
     /// # Ok::<(), Box<dyn std::error::Error>>(())
     /// ```
@@ -218,7 +218,7 @@ impl<S: BuildHasher + Clone> Entities<S> {
     /// # #[allow(unused)]
     /// # fn uid(text: &str) -> EntityUID { EntityUID::from_normalized_str(text).unwrap() }
     /// # #[allow(unused)]
-    /// # fn under(own: &str, parents: &[&str]) -> Entity {
+    /// # fn entity_with(own: &str, parents: &[&str]) -> Entity {
     /// #     let mut entity = Entity::with_uid(uid(own));
     /// #     parents.iter().for_each(|parent| entity.add_parent(uid(parent)));
     /// #     entity
@@ -269,7 +269,7 @@ impl<S: BuildHasher + Clone> Entities<S> {
     /// # #[allow(unused)]
     /// # fn uid(text: &str) -> EntityUID { EntityUID::from_normalized_str(text).unwrap() }
     /// # #[allow(unused)]
-    /// # fn under(own: &str, parents: &[&str]) -> Entity {
+    /// # fn entity_with(own: &str, parents: &[&str]) -> Entity {
     /// #     let mut entity = Entity::with_uid(uid(own));
     /// #     parents.iter().for_each(|parent| entity.add_parent(uid(parent)));
     /// #     entity
@@ -306,7 +306,7 @@ impl<S: BuildHasher + Clone> Entities<S> {
     /// # #[allow(unused)]
     /// # fn uid(text: &str) -> EntityUID { EntityUID::from_normalized_str(text).unwrap() }
     /// # #[allow(unused)]
-    /// # fn under(own: &str, parents: &[&str]) -> Entity {
+    /// # fn entity_with(own: &str, parents: &[&str]) -> Entity {
     /// #     let mut entity = Entity::with_uid(uid(own));
     /// #     parents.iter().for_each(|parent| entity.add_parent(uid(parent)));
     /// #     entity
@@ -323,7 +323,7 @@ impl<S: BuildHasher + Clone> Entities<S> {
     /// use cedar_store::KeyedState;
     /// let store = Entities::with_hasher(KeyedState::with_keys(1, 2));
     /// let hasher = store.hasher().clone();
-    /// let one = Entities::from_entities_with_hasher(hasher, [under(r#"A::"a""#, &[])], TCComputation::ComputeNow)?;
+    /// let one = Entities::from_entities_with_hasher(hasher, [entity_with(r#"A::"a""#, &[])], TCComputation::ComputeNow)?;
     /// assert_eq!(one.len(), 1);
     /// # Ok::<(), Box<dyn std::error::Error>>(())
     /// ```
@@ -361,7 +361,7 @@ impl<S: BuildHasher + Clone> Entities<S> {
     /// # #[allow(unused)]
     /// # fn uid(text: &str) -> EntityUID { EntityUID::from_normalized_str(text).unwrap() }
     /// # #[allow(unused)]
-    /// # fn under(own: &str, parents: &[&str]) -> Entity {
+    /// # fn entity_with(own: &str, parents: &[&str]) -> Entity {
     /// #     let mut entity = Entity::with_uid(uid(own));
     /// #     parents.iter().for_each(|parent| entity.add_parent(uid(parent)));
     /// #     entity
@@ -376,13 +376,13 @@ impl<S: BuildHasher + Clone> Entities<S> {
     /// #     StaticPolicy::try_from(template(name, PrincipalConstraint::any())).unwrap()
     /// # }
     /// # use std::sync::Arc;
-    /// let one = Arc::new(under(r#"User::"alice""#, &[r#"Group::"staff""#]));
+    /// let one = Arc::new(entity_with(r#"User::"alice""#, &[r#"Group::"staff""#]));
     /// let store = Entities::new().add_entities([Arc::clone(&one)], TCComputation::ComputeNow)?;
     /// // an equal entity changes nothing, and a different one is an error
     /// let store = store.add_entities([one], TCComputation::ComputeNow)?;
-    /// let other = Arc::new(under(r#"User::"alice""#, &[]));
-    /// let refusal = store.add_entities([other], TCComputation::ComputeNow).unwrap_err();
-    /// assert_eq!(refusal.to_string(), r#"duplicate entity `User::"alice"`"#);
+    /// let other = Arc::new(entity_with(r#"User::"alice""#, &[]));
+    /// let error = store.add_entities([other], TCComputation::ComputeNow).unwrap_err();
+    /// assert_eq!(error.to_string(), r#"duplicate entity `User::"alice"`"#);
     /// # Ok::<(), Box<dyn std::error::Error>>(())
     /// ```
     pub fn add_entities(
@@ -437,7 +437,7 @@ impl<S: BuildHasher + Clone> Entities<S> {
     /// # #[allow(unused)]
     /// # fn uid(text: &str) -> EntityUID { EntityUID::from_normalized_str(text).unwrap() }
     /// # #[allow(unused)]
-    /// # fn under(own: &str, parents: &[&str]) -> Entity {
+    /// # fn entity_with(own: &str, parents: &[&str]) -> Entity {
     /// #     let mut entity = Entity::with_uid(uid(own));
     /// #     parents.iter().for_each(|parent| entity.add_parent(uid(parent)));
     /// #     entity
@@ -452,9 +452,9 @@ impl<S: BuildHasher + Clone> Entities<S> {
     /// #     StaticPolicy::try_from(template(name, PrincipalConstraint::any())).unwrap()
     /// # }
     /// # use std::sync::Arc;
-    /// let store = Entities::from_entities([under(r#"A::"a""#, &[r#"A::"b""#])], TCComputation::ComputeNow)?;
+    /// let store = Entities::from_entities([entity_with(r#"A::"a""#, &[r#"A::"b""#])], TCComputation::ComputeNow)?;
     /// // the last entity with a uid is used, and its descendants are updated
-    /// let versions = [under(r#"A::"b""#, &[r#"A::"c""#]), under(r#"A::"b""#, &[r#"A::"d""#])].map(Arc::new);
+    /// let versions = [entity_with(r#"A::"b""#, &[r#"A::"c""#]), entity_with(r#"A::"b""#, &[r#"A::"d""#])].map(Arc::new);
     /// let store = store.upsert_entities(versions, TCComputation::ComputeNow)?;
     /// let above: Vec<_> = store.stored(&uid(r#"A::"a""#)).unwrap().ancestors().map(ToString::to_string).collect();
     /// assert_eq!(above, [r#"A::"b""#, r#"A::"d""#]);
@@ -504,7 +504,7 @@ impl<S: BuildHasher + Clone> Entities<S> {
     /// # #[allow(unused)]
     /// # fn uid(text: &str) -> EntityUID { EntityUID::from_normalized_str(text).unwrap() }
     /// # #[allow(unused)]
-    /// # fn under(own: &str, parents: &[&str]) -> Entity {
+    /// # fn entity_with(own: &str, parents: &[&str]) -> Entity {
     /// #     let mut entity = Entity::with_uid(uid(own));
     /// #     parents.iter().for_each(|parent| entity.add_parent(uid(parent)));
     /// #     entity
@@ -518,7 +518,7 @@ impl<S: BuildHasher + Clone> Entities<S> {
     /// # fn permit(name: &str) -> StaticPolicy {
     /// #     StaticPolicy::try_from(template(name, PrincipalConstraint::any())).unwrap()
     /// # }
-    /// let chain = [under(r#"A::"a""#, &[r#"A::"b""#]), under(r#"A::"b""#, &[r#"A::"c""#])];
+    /// let chain = [entity_with(r#"A::"a""#, &[r#"A::"b""#]), entity_with(r#"A::"b""#, &[r#"A::"c""#])];
     /// let store = Entities::from_entities(chain, TCComputation::ComputeNow)?;
     /// let store = store.remove_entities([uid(r#"A::"b""#)], TCComputation::ComputeNow)?;
     /// assert_eq!(store.stored(&uid(r#"A::"a""#)).unwrap().ancestors().count(), 0);
@@ -549,7 +549,7 @@ impl<S: BuildHasher + Clone> Entities<S> {
     /// # #[allow(unused)]
     /// # fn uid(text: &str) -> EntityUID { EntityUID::from_normalized_str(text).unwrap() }
     /// # #[allow(unused)]
-    /// # fn under(own: &str, parents: &[&str]) -> Entity {
+    /// # fn entity_with(own: &str, parents: &[&str]) -> Entity {
     /// #     let mut entity = Entity::with_uid(uid(own));
     /// #     parents.iter().for_each(|parent| entity.add_parent(uid(parent)));
     /// #     entity
@@ -564,7 +564,7 @@ impl<S: BuildHasher + Clone> Entities<S> {
     /// #     StaticPolicy::try_from(template(name, PrincipalConstraint::any())).unwrap()
     /// # }
     /// let store = Entities::from_entities(
-    ///     [under(r#"User::"alice""#, &[r#"Group::"staff""#]), under(r#"Group::"staff""#, &[r#"Group::"all""#])],
+    ///     [entity_with(r#"User::"alice""#, &[r#"Group::"staff""#]), entity_with(r#"Group::"staff""#, &[r#"Group::"all""#])],
     ///     TCComputation::ComputeNow,
     /// )?;
     /// assert_eq!((store.len(), store.is_empty()), (2, false));
@@ -584,7 +584,7 @@ impl<S: BuildHasher + Clone> Entities<S> {
     /// # #[allow(unused)]
     /// # fn uid(text: &str) -> EntityUID { EntityUID::from_normalized_str(text).unwrap() }
     /// # #[allow(unused)]
-    /// # fn under(own: &str, parents: &[&str]) -> Entity {
+    /// # fn entity_with(own: &str, parents: &[&str]) -> Entity {
     /// #     let mut entity = Entity::with_uid(uid(own));
     /// #     parents.iter().for_each(|parent| entity.add_parent(uid(parent)));
     /// #     entity
@@ -599,7 +599,7 @@ impl<S: BuildHasher + Clone> Entities<S> {
     /// #     StaticPolicy::try_from(template(name, PrincipalConstraint::any())).unwrap()
     /// # }
     /// let store = Entities::from_entities(
-    ///     [under(r#"User::"alice""#, &[r#"Group::"staff""#]), under(r#"Group::"staff""#, &[r#"Group::"all""#])],
+    ///     [entity_with(r#"User::"alice""#, &[r#"Group::"staff""#]), entity_with(r#"Group::"staff""#, &[r#"Group::"all""#])],
     ///     TCComputation::ComputeNow,
     /// )?;
     /// assert_eq!((store.len(), store.is_empty()), (2, false));
@@ -623,7 +623,7 @@ impl<S: BuildHasher + Clone> Entities<S> {
     /// # #[allow(unused)]
     /// # fn uid(text: &str) -> EntityUID { EntityUID::from_normalized_str(text).unwrap() }
     /// # #[allow(unused)]
-    /// # fn under(own: &str, parents: &[&str]) -> Entity {
+    /// # fn entity_with(own: &str, parents: &[&str]) -> Entity {
     /// #     let mut entity = Entity::with_uid(uid(own));
     /// #     parents.iter().for_each(|parent| entity.add_parent(uid(parent)));
     /// #     entity
@@ -638,7 +638,7 @@ impl<S: BuildHasher + Clone> Entities<S> {
     /// #     StaticPolicy::try_from(template(name, PrincipalConstraint::any())).unwrap()
     /// # }
     /// let store = Entities::from_entities(
-    ///     [under(r#"User::"alice""#, &[r#"Group::"staff""#]), under(r#"Group::"staff""#, &[r#"Group::"all""#])],
+    ///     [entity_with(r#"User::"alice""#, &[r#"Group::"staff""#]), entity_with(r#"Group::"staff""#, &[r#"Group::"all""#])],
     ///     TCComputation::ComputeNow,
     /// )?;
     /// assert_eq!((store.len(), store.is_empty()), (2, false));
@@ -659,7 +659,7 @@ impl<S: BuildHasher + Clone> Entities<S> {
     /// # #[allow(unused)]
     /// # fn uid(text: &str) -> EntityUID { EntityUID::from_normalized_str(text).unwrap() }
     /// # #[allow(unused)]
-    /// # fn under(own: &str, parents: &[&str]) -> Entity {
+    /// # fn entity_with(own: &str, parents: &[&str]) -> Entity {
     /// #     let mut entity = Entity::with_uid(uid(own));
     /// #     parents.iter().for_each(|parent| entity.add_parent(uid(parent)));
     /// #     entity
@@ -674,7 +674,7 @@ impl<S: BuildHasher + Clone> Entities<S> {
     /// #     StaticPolicy::try_from(template(name, PrincipalConstraint::any())).unwrap()
     /// # }
     /// let store = Entities::from_entities(
-    ///     [under(r#"User::"alice""#, &[r#"Group::"staff""#]), under(r#"Group::"staff""#, &[r#"Group::"all""#])],
+    ///     [entity_with(r#"User::"alice""#, &[r#"Group::"staff""#]), entity_with(r#"Group::"staff""#, &[r#"Group::"all""#])],
     ///     TCComputation::ComputeNow,
     /// )?;
     /// assert_eq!((store.len(), store.is_empty()), (2, false));
@@ -702,7 +702,7 @@ impl<S: BuildHasher + Clone> Entities<S> {
     /// # #[allow(unused)]
     /// # fn uid(text: &str) -> EntityUID { EntityUID::from_normalized_str(text).unwrap() }
     /// # #[allow(unused)]
-    /// # fn under(own: &str, parents: &[&str]) -> Entity {
+    /// # fn entity_with(own: &str, parents: &[&str]) -> Entity {
     /// #     let mut entity = Entity::with_uid(uid(own));
     /// #     parents.iter().for_each(|parent| entity.add_parent(uid(parent)));
     /// #     entity
@@ -716,7 +716,7 @@ impl<S: BuildHasher + Clone> Entities<S> {
     /// # fn permit(name: &str) -> StaticPolicy {
     /// #     StaticPolicy::try_from(template(name, PrincipalConstraint::any())).unwrap()
     /// # }
-    /// let both = || [under(r#"A::"a""#, &[]), under(r#"A::"b""#, &[r#"A::"a""#])];
+    /// let both = || [entity_with(r#"A::"a""#, &[]), entity_with(r#"A::"b""#, &[r#"A::"a""#])];
     /// let (store, other) = (
     ///     Entities::from_entities(both(), TCComputation::ComputeNow)?,
     ///     Entities::from_entities(both(), TCComputation::AssumeAlreadyComputed)?,
@@ -737,7 +737,7 @@ impl<S: BuildHasher + Clone> Entities<S> {
     /// # #[allow(unused)]
     /// # fn uid(text: &str) -> EntityUID { EntityUID::from_normalized_str(text).unwrap() }
     /// # #[allow(unused)]
-    /// # fn under(own: &str, parents: &[&str]) -> Entity {
+    /// # fn entity_with(own: &str, parents: &[&str]) -> Entity {
     /// #     let mut entity = Entity::with_uid(uid(own));
     /// #     parents.iter().for_each(|parent| entity.add_parent(uid(parent)));
     /// #     entity
@@ -751,7 +751,7 @@ impl<S: BuildHasher + Clone> Entities<S> {
     /// # fn permit(name: &str) -> StaticPolicy {
     /// #     StaticPolicy::try_from(template(name, PrincipalConstraint::any())).unwrap()
     /// # }
-    /// let both = || [under(r#"A::"a""#, &[]), under(r#"A::"b""#, &[r#"A::"a""#])];
+    /// let both = || [entity_with(r#"A::"a""#, &[]), entity_with(r#"A::"b""#, &[r#"A::"a""#])];
     /// let (store, other) = (
     ///     Entities::from_entities(both(), TCComputation::ComputeNow)?,
     ///     Entities::from_entities(both(), TCComputation::AssumeAlreadyComputed)?,
@@ -795,7 +795,7 @@ impl<S: BuildHasher + Clone> Entities<S> {
     /// # #[allow(unused)]
     /// # fn uid(text: &str) -> EntityUID { EntityUID::from_normalized_str(text).unwrap() }
     /// # #[allow(unused)]
-    /// # fn under(own: &str, parents: &[&str]) -> Entity {
+    /// # fn entity_with(own: &str, parents: &[&str]) -> Entity {
     /// #     let mut entity = Entity::with_uid(uid(own));
     /// #     parents.iter().for_each(|parent| entity.add_parent(uid(parent)));
     /// #     entity
@@ -809,7 +809,7 @@ impl<S: BuildHasher + Clone> Entities<S> {
     /// # fn permit(name: &str) -> StaticPolicy {
     /// #     StaticPolicy::try_from(template(name, PrincipalConstraint::any())).unwrap()
     /// # }
-    /// let own = under(r#"Action::"view""#, &[r#"User::"alice""#]);
+    /// let own = entity_with(r#"Action::"view""#, &[r#"User::"alice""#]);
     /// let store = Entities::from_entities([own], TCComputation::ComputeNow)?;
     /// match store.try_validate() {
     ///     Err(EntitiesError::ActionParentIsNotAction { parent, .. }) => assert_eq!(parent, uid(r#"User::"alice""#)),

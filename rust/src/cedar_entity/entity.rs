@@ -97,7 +97,7 @@ impl Entity {
     /// # #[allow(unused)]
     /// # fn uid(text: &str) -> EntityUID { EntityUID::from_normalized_str(text).unwrap() }
     /// # #[allow(unused)]
-    /// # fn under(own: &str, parents: &[&str]) -> Entity {
+    /// # fn entity_with(own: &str, parents: &[&str]) -> Entity {
     /// #     let mut entity = Entity::with_uid(uid(own));
     /// #     parents.iter().for_each(|parent| entity.add_parent(uid(parent)));
     /// #     entity
@@ -153,7 +153,7 @@ impl Entity {
     /// # #[allow(unused)]
     /// # fn uid(text: &str) -> EntityUID { EntityUID::from_normalized_str(text).unwrap() }
     /// # #[allow(unused)]
-    /// # fn under(own: &str, parents: &[&str]) -> Entity {
+    /// # fn entity_with(own: &str, parents: &[&str]) -> Entity {
     /// #     let mut entity = Entity::with_uid(uid(own));
     /// #     parents.iter().for_each(|parent| entity.add_parent(uid(parent)));
     /// #     entity
@@ -209,7 +209,7 @@ impl Entity {
     /// # #[allow(unused)]
     /// # fn uid(text: &str) -> EntityUID { EntityUID::from_normalized_str(text).unwrap() }
     /// # #[allow(unused)]
-    /// # fn under(own: &str, parents: &[&str]) -> Entity {
+    /// # fn entity_with(own: &str, parents: &[&str]) -> Entity {
     /// #     let mut entity = Entity::with_uid(uid(own));
     /// #     parents.iter().for_each(|parent| entity.add_parent(uid(parent)));
     /// #     entity
@@ -245,7 +245,7 @@ impl Entity {
     /// # #[allow(unused)]
     /// # fn uid(text: &str) -> EntityUID { EntityUID::from_normalized_str(text).unwrap() }
     /// # #[allow(unused)]
-    /// # fn under(own: &str, parents: &[&str]) -> Entity {
+    /// # fn entity_with(own: &str, parents: &[&str]) -> Entity {
     /// #     let mut entity = Entity::with_uid(uid(own));
     /// #     parents.iter().for_each(|parent| entity.add_parent(uid(parent)));
     /// #     entity
@@ -287,7 +287,7 @@ impl Entity {
     /// # #[allow(unused)]
     /// # fn uid(text: &str) -> EntityUID { EntityUID::from_normalized_str(text).unwrap() }
     /// # #[allow(unused)]
-    /// # fn under(own: &str, parents: &[&str]) -> Entity {
+    /// # fn entity_with(own: &str, parents: &[&str]) -> Entity {
     /// #     let mut entity = Entity::with_uid(uid(own));
     /// #     parents.iter().for_each(|parent| entity.add_parent(uid(parent)));
     /// #     entity
@@ -329,7 +329,7 @@ impl Entity {
     /// # #[allow(unused)]
     /// # fn uid(text: &str) -> EntityUID { EntityUID::from_normalized_str(text).unwrap() }
     /// # #[allow(unused)]
-    /// # fn under(own: &str, parents: &[&str]) -> Entity {
+    /// # fn entity_with(own: &str, parents: &[&str]) -> Entity {
     /// #     let mut entity = Entity::with_uid(uid(own));
     /// #     parents.iter().for_each(|parent| entity.add_parent(uid(parent)));
     /// #     entity
@@ -371,7 +371,7 @@ impl Entity {
     /// # #[allow(unused)]
     /// # fn uid(text: &str) -> EntityUID { EntityUID::from_normalized_str(text).unwrap() }
     /// # #[allow(unused)]
-    /// # fn under(own: &str, parents: &[&str]) -> Entity {
+    /// # fn entity_with(own: &str, parents: &[&str]) -> Entity {
     /// #     let mut entity = Entity::with_uid(uid(own));
     /// #     parents.iter().for_each(|parent| entity.add_parent(uid(parent)));
     /// #     entity
@@ -413,7 +413,7 @@ impl Entity {
     /// # #[allow(unused)]
     /// # fn uid(text: &str) -> EntityUID { EntityUID::from_normalized_str(text).unwrap() }
     /// # #[allow(unused)]
-    /// # fn under(own: &str, parents: &[&str]) -> Entity {
+    /// # fn entity_with(own: &str, parents: &[&str]) -> Entity {
     /// #     let mut entity = Entity::with_uid(uid(own));
     /// #     parents.iter().for_each(|parent| entity.add_parent(uid(parent)));
     /// #     entity
@@ -427,7 +427,7 @@ impl Entity {
     /// # fn permit(name: &str) -> StaticPolicy {
     /// #     StaticPolicy::try_from(template(name, PrincipalConstraint::any())).unwrap()
     /// # }
-    /// let mut entity = under(r#"A::"a""#, &[r#"A::"b""#]);
+    /// let mut entity = entity_with(r#"A::"a""#, &[r#"A::"b""#]);
     /// entity.add_indirect_ancestor(uid(r#"A::"c""#));
     /// let (b, c) = (uid(r#"A::"b""#), uid(r#"A::"c""#));
     /// assert!(entity.is_descendant_of(&b) && entity.is_descendant_of(&c));
@@ -445,7 +445,7 @@ impl Entity {
     /// # #[allow(unused)]
     /// # fn uid(text: &str) -> EntityUID { EntityUID::from_normalized_str(text).unwrap() }
     /// # #[allow(unused)]
-    /// # fn under(own: &str, parents: &[&str]) -> Entity {
+    /// # fn entity_with(own: &str, parents: &[&str]) -> Entity {
     /// #     let mut entity = Entity::with_uid(uid(own));
     /// #     parents.iter().for_each(|parent| entity.add_parent(uid(parent)));
     /// #     entity
@@ -459,7 +459,7 @@ impl Entity {
     /// # fn permit(name: &str) -> StaticPolicy {
     /// #     StaticPolicy::try_from(template(name, PrincipalConstraint::any())).unwrap()
     /// # }
-    /// let mut entity = under(r#"A::"a""#, &[r#"A::"b""#]);
+    /// let mut entity = entity_with(r#"A::"a""#, &[r#"A::"b""#]);
     /// entity.add_indirect_ancestor(uid(r#"A::"c""#));
     /// let (b, c) = (uid(r#"A::"b""#), uid(r#"A::"c""#));
     /// assert!(entity.is_descendant_of(&b) && entity.is_descendant_of(&c));
@@ -477,7 +477,7 @@ impl Entity {
     /// # #[allow(unused)]
     /// # fn uid(text: &str) -> EntityUID { EntityUID::from_normalized_str(text).unwrap() }
     /// # #[allow(unused)]
-    /// # fn under(own: &str, parents: &[&str]) -> Entity {
+    /// # fn entity_with(own: &str, parents: &[&str]) -> Entity {
     /// #     let mut entity = Entity::with_uid(uid(own));
     /// #     parents.iter().for_each(|parent| entity.add_parent(uid(parent)));
     /// #     entity
@@ -491,7 +491,7 @@ impl Entity {
     /// # fn permit(name: &str) -> StaticPolicy {
     /// #     StaticPolicy::try_from(template(name, PrincipalConstraint::any())).unwrap()
     /// # }
-    /// let mut entity = under(r#"A::"a""#, &[r#"A::"b""#]);
+    /// let mut entity = entity_with(r#"A::"a""#, &[r#"A::"b""#]);
     /// entity.add_indirect_ancestor(uid(r#"A::"c""#));
     /// let (b, c) = (uid(r#"A::"b""#), uid(r#"A::"c""#));
     /// assert!(entity.is_descendant_of(&b) && entity.is_descendant_of(&c));
@@ -523,7 +523,7 @@ impl Entity {
     /// # #[allow(unused)]
     /// # fn uid(text: &str) -> EntityUID { EntityUID::from_normalized_str(text).unwrap() }
     /// # #[allow(unused)]
-    /// # fn under(own: &str, parents: &[&str]) -> Entity {
+    /// # fn entity_with(own: &str, parents: &[&str]) -> Entity {
     /// #     let mut entity = Entity::with_uid(uid(own));
     /// #     parents.iter().for_each(|parent| entity.add_parent(uid(parent)));
     /// #     entity
@@ -565,7 +565,7 @@ impl Entity {
     /// # #[allow(unused)]
     /// # fn uid(text: &str) -> EntityUID { EntityUID::from_normalized_str(text).unwrap() }
     /// # #[allow(unused)]
-    /// # fn under(own: &str, parents: &[&str]) -> Entity {
+    /// # fn entity_with(own: &str, parents: &[&str]) -> Entity {
     /// #     let mut entity = Entity::with_uid(uid(own));
     /// #     parents.iter().for_each(|parent| entity.add_parent(uid(parent)));
     /// #     entity
@@ -607,7 +607,7 @@ impl Entity {
     /// # #[allow(unused)]
     /// # fn uid(text: &str) -> EntityUID { EntityUID::from_normalized_str(text).unwrap() }
     /// # #[allow(unused)]
-    /// # fn under(own: &str, parents: &[&str]) -> Entity {
+    /// # fn entity_with(own: &str, parents: &[&str]) -> Entity {
     /// #     let mut entity = Entity::with_uid(uid(own));
     /// #     parents.iter().for_each(|parent| entity.add_parent(uid(parent)));
     /// #     entity
@@ -649,7 +649,7 @@ impl Entity {
     /// # #[allow(unused)]
     /// # fn uid(text: &str) -> EntityUID { EntityUID::from_normalized_str(text).unwrap() }
     /// # #[allow(unused)]
-    /// # fn under(own: &str, parents: &[&str]) -> Entity {
+    /// # fn entity_with(own: &str, parents: &[&str]) -> Entity {
     /// #     let mut entity = Entity::with_uid(uid(own));
     /// #     parents.iter().for_each(|parent| entity.add_parent(uid(parent)));
     /// #     entity
@@ -691,7 +691,7 @@ impl Entity {
     /// # #[allow(unused)]
     /// # fn uid(text: &str) -> EntityUID { EntityUID::from_normalized_str(text).unwrap() }
     /// # #[allow(unused)]
-    /// # fn under(own: &str, parents: &[&str]) -> Entity {
+    /// # fn entity_with(own: &str, parents: &[&str]) -> Entity {
     /// #     let mut entity = Entity::with_uid(uid(own));
     /// #     parents.iter().for_each(|parent| entity.add_parent(uid(parent)));
     /// #     entity
@@ -727,7 +727,7 @@ impl Entity {
     /// # #[allow(unused)]
     /// # fn uid(text: &str) -> EntityUID { EntityUID::from_normalized_str(text).unwrap() }
     /// # #[allow(unused)]
-    /// # fn under(own: &str, parents: &[&str]) -> Entity {
+    /// # fn entity_with(own: &str, parents: &[&str]) -> Entity {
     /// #     let mut entity = Entity::with_uid(uid(own));
     /// #     parents.iter().for_each(|parent| entity.add_parent(uid(parent)));
     /// #     entity
@@ -764,7 +764,7 @@ impl Entity {
     /// # #[allow(unused)]
     /// # fn uid(text: &str) -> EntityUID { EntityUID::from_normalized_str(text).unwrap() }
     /// # #[allow(unused)]
-    /// # fn under(own: &str, parents: &[&str]) -> Entity {
+    /// # fn entity_with(own: &str, parents: &[&str]) -> Entity {
     /// #     let mut entity = Entity::with_uid(uid(own));
     /// #     parents.iter().for_each(|parent| entity.add_parent(uid(parent)));
     /// #     entity
@@ -824,7 +824,7 @@ impl Entity {
     /// # #[allow(unused)]
     /// # fn uid(text: &str) -> EntityUID { EntityUID::from_normalized_str(text).unwrap() }
     /// # #[allow(unused)]
-    /// # fn under(own: &str, parents: &[&str]) -> Entity {
+    /// # fn entity_with(own: &str, parents: &[&str]) -> Entity {
     /// #     let mut entity = Entity::with_uid(uid(own));
     /// #     parents.iter().for_each(|parent| entity.add_parent(uid(parent)));
     /// #     entity
@@ -866,7 +866,7 @@ impl Entity {
     /// # #[allow(unused)]
     /// # fn uid(text: &str) -> EntityUID { EntityUID::from_normalized_str(text).unwrap() }
     /// # #[allow(unused)]
-    /// # fn under(own: &str, parents: &[&str]) -> Entity {
+    /// # fn entity_with(own: &str, parents: &[&str]) -> Entity {
     /// #     let mut entity = Entity::with_uid(uid(own));
     /// #     parents.iter().for_each(|parent| entity.add_parent(uid(parent)));
     /// #     entity
@@ -880,7 +880,7 @@ impl Entity {
     /// # fn permit(name: &str) -> StaticPolicy {
     /// #     StaticPolicy::try_from(template(name, PrincipalConstraint::any())).unwrap()
     /// # }
-    /// let mut one = under(r#"A::"a""#, &[r#"A::"b""#]);
+    /// let mut one = entity_with(r#"A::"a""#, &[r#"A::"b""#]);
     /// let mut other = Entity::with_uid(uid(r#"A::"a""#));
     /// other.add_indirect_ancestor(uid(r#"A::"b""#));
     /// // `deep_eq` does not compare which ancestors are parents, and `==` compares only the uid
@@ -916,7 +916,7 @@ impl Entity {
     /// # #[allow(unused)]
     /// # fn uid(text: &str) -> EntityUID { EntityUID::from_normalized_str(text).unwrap() }
     /// # #[allow(unused)]
-    /// # fn under(own: &str, parents: &[&str]) -> Entity {
+    /// # fn entity_with(own: &str, parents: &[&str]) -> Entity {
     /// #     let mut entity = Entity::with_uid(uid(own));
     /// #     parents.iter().for_each(|parent| entity.add_parent(uid(parent)));
     /// #     entity
@@ -930,7 +930,7 @@ impl Entity {
     /// # fn permit(name: &str) -> StaticPolicy {
     /// #     StaticPolicy::try_from(template(name, PrincipalConstraint::any())).unwrap()
     /// # }
-    /// let mut one = under(r#"A::"a""#, &[r#"A::"b""#]);
+    /// let mut one = entity_with(r#"A::"a""#, &[r#"A::"b""#]);
     /// let mut other = Entity::with_uid(uid(r#"A::"a""#));
     /// other.add_indirect_ancestor(uid(r#"A::"b""#));
     /// // `deep_eq` does not compare which ancestors are parents, and `==` compares only the uid
@@ -1057,7 +1057,7 @@ impl Entity {
     /// # #[allow(unused)]
     /// # fn uid(text: &str) -> EntityUID { EntityUID::from_normalized_str(text).unwrap() }
     /// # #[allow(unused)]
-    /// # fn under(own: &str, parents: &[&str]) -> Entity {
+    /// # fn entity_with(own: &str, parents: &[&str]) -> Entity {
     /// #     let mut entity = Entity::with_uid(uid(own));
     /// #     parents.iter().for_each(|parent| entity.add_parent(uid(parent)));
     /// #     entity
@@ -1071,10 +1071,10 @@ impl Entity {
     /// # fn permit(name: &str) -> StaticPolicy {
     /// #     StaticPolicy::try_from(template(name, PrincipalConstraint::any())).unwrap()
     /// # }
-    /// let own = under(r#"A::"a""#, &[r#"A::"a""#]);
+    /// let own = entity_with(r#"A::"a""#, &[r#"A::"a""#]);
     /// assert!(!own.is_valid());
     /// assert!(matches!(own.validate(), Err(EntitiesError::SelfAncestor { .. })));
-    /// assert!(under(r#"A::"a""#, &[r#"A::"b""#]).try_validate().is_ok());
+    /// assert!(entity_with(r#"A::"a""#, &[r#"A::"b""#]).try_validate().is_ok());
     /// ```
     pub fn validate(&self) -> Result<(), EntitiesError> {
         match self.fault() {
@@ -1092,7 +1092,7 @@ impl Entity {
     /// # #[allow(unused)]
     /// # fn uid(text: &str) -> EntityUID { EntityUID::from_normalized_str(text).unwrap() }
     /// # #[allow(unused)]
-    /// # fn under(own: &str, parents: &[&str]) -> Entity {
+    /// # fn entity_with(own: &str, parents: &[&str]) -> Entity {
     /// #     let mut entity = Entity::with_uid(uid(own));
     /// #     parents.iter().for_each(|parent| entity.add_parent(uid(parent)));
     /// #     entity
@@ -1106,10 +1106,10 @@ impl Entity {
     /// # fn permit(name: &str) -> StaticPolicy {
     /// #     StaticPolicy::try_from(template(name, PrincipalConstraint::any())).unwrap()
     /// # }
-    /// let own = under(r#"A::"a""#, &[r#"A::"a""#]);
+    /// let own = entity_with(r#"A::"a""#, &[r#"A::"a""#]);
     /// assert!(!own.is_valid());
     /// assert!(matches!(own.validate(), Err(EntitiesError::SelfAncestor { .. })));
-    /// assert!(under(r#"A::"a""#, &[r#"A::"b""#]).try_validate().is_ok());
+    /// assert!(entity_with(r#"A::"a""#, &[r#"A::"b""#]).try_validate().is_ok());
     /// ```
     pub fn is_valid(&self) -> bool {
         self.fault().is_none()
@@ -1126,7 +1126,7 @@ impl Entity {
     /// # #[allow(unused)]
     /// # fn uid(text: &str) -> EntityUID { EntityUID::from_normalized_str(text).unwrap() }
     /// # #[allow(unused)]
-    /// # fn under(own: &str, parents: &[&str]) -> Entity {
+    /// # fn entity_with(own: &str, parents: &[&str]) -> Entity {
     /// #     let mut entity = Entity::with_uid(uid(own));
     /// #     parents.iter().for_each(|parent| entity.add_parent(uid(parent)));
     /// #     entity
@@ -1140,10 +1140,10 @@ impl Entity {
     /// # fn permit(name: &str) -> StaticPolicy {
     /// #     StaticPolicy::try_from(template(name, PrincipalConstraint::any())).unwrap()
     /// # }
-    /// let own = under(r#"A::"a""#, &[r#"A::"a""#]);
+    /// let own = entity_with(r#"A::"a""#, &[r#"A::"a""#]);
     /// assert!(!own.is_valid());
     /// assert!(matches!(own.validate(), Err(EntitiesError::SelfAncestor { .. })));
-    /// assert!(under(r#"A::"a""#, &[r#"A::"b""#]).try_validate().is_ok());
+    /// assert!(entity_with(r#"A::"a""#, &[r#"A::"b""#]).try_validate().is_ok());
     /// ```
     pub fn try_validate(self) -> Result<Self, EntitiesError> {
         self.validate()?;
@@ -1179,7 +1179,7 @@ impl Entity {
     /// # #[allow(unused)]
     /// # fn uid(text: &str) -> EntityUID { EntityUID::from_normalized_str(text).unwrap() }
     /// # #[allow(unused)]
-    /// # fn under(own: &str, parents: &[&str]) -> Entity {
+    /// # fn entity_with(own: &str, parents: &[&str]) -> Entity {
     /// #     let mut entity = Entity::with_uid(uid(own));
     /// #     parents.iter().for_each(|parent| entity.add_parent(uid(parent)));
     /// #     entity
@@ -1216,7 +1216,7 @@ impl Entity {
     /// # #[allow(unused)]
     /// # fn uid(text: &str) -> EntityUID { EntityUID::from_normalized_str(text).unwrap() }
     /// # #[allow(unused)]
-    /// # fn under(own: &str, parents: &[&str]) -> Entity {
+    /// # fn entity_with(own: &str, parents: &[&str]) -> Entity {
     /// #     let mut entity = Entity::with_uid(uid(own));
     /// #     parents.iter().for_each(|parent| entity.add_parent(uid(parent)));
     /// #     entity
@@ -1260,7 +1260,7 @@ impl Entity {
     /// # #[allow(unused)]
     /// # fn uid(text: &str) -> EntityUID { EntityUID::from_normalized_str(text).unwrap() }
     /// # #[allow(unused)]
-    /// # fn under(own: &str, parents: &[&str]) -> Entity {
+    /// # fn entity_with(own: &str, parents: &[&str]) -> Entity {
     /// #     let mut entity = Entity::with_uid(uid(own));
     /// #     parents.iter().for_each(|parent| entity.add_parent(uid(parent)));
     /// #     entity
@@ -1274,7 +1274,7 @@ impl Entity {
     /// # fn permit(name: &str) -> StaticPolicy {
     /// #     StaticPolicy::try_from(template(name, PrincipalConstraint::any())).unwrap()
     /// # }
-    /// let mut entity = under(r#"A::"a""#, &[r#"A::"b""#]);
+    /// let mut entity = entity_with(r#"A::"a""#, &[r#"A::"b""#]);
     /// entity.add_indirect_ancestor(uid(r#"A::"c""#));
     /// entity.add_indirect_ancestor(uid(r#"A::"d""#));
     /// entity.remove_parent(&uid(r#"A::"b""#));
@@ -1294,7 +1294,7 @@ impl Entity {
     /// # #[allow(unused)]
     /// # fn uid(text: &str) -> EntityUID { EntityUID::from_normalized_str(text).unwrap() }
     /// # #[allow(unused)]
-    /// # fn under(own: &str, parents: &[&str]) -> Entity {
+    /// # fn entity_with(own: &str, parents: &[&str]) -> Entity {
     /// #     let mut entity = Entity::with_uid(uid(own));
     /// #     parents.iter().for_each(|parent| entity.add_parent(uid(parent)));
     /// #     entity
@@ -1308,7 +1308,7 @@ impl Entity {
     /// # fn permit(name: &str) -> StaticPolicy {
     /// #     StaticPolicy::try_from(template(name, PrincipalConstraint::any())).unwrap()
     /// # }
-    /// let mut entity = under(r#"A::"a""#, &[r#"A::"b""#]);
+    /// let mut entity = entity_with(r#"A::"a""#, &[r#"A::"b""#]);
     /// entity.add_indirect_ancestor(uid(r#"A::"c""#));
     /// entity.add_indirect_ancestor(uid(r#"A::"d""#));
     /// entity.remove_parent(&uid(r#"A::"b""#));
@@ -1344,7 +1344,7 @@ impl Entity {
     /// # #[allow(unused)]
     /// # fn uid(text: &str) -> EntityUID { EntityUID::from_normalized_str(text).unwrap() }
     /// # #[allow(unused)]
-    /// # fn under(own: &str, parents: &[&str]) -> Entity {
+    /// # fn entity_with(own: &str, parents: &[&str]) -> Entity {
     /// #     let mut entity = Entity::with_uid(uid(own));
     /// #     parents.iter().for_each(|parent| entity.add_parent(uid(parent)));
     /// #     entity
@@ -1358,7 +1358,7 @@ impl Entity {
     /// # fn permit(name: &str) -> StaticPolicy {
     /// #     StaticPolicy::try_from(template(name, PrincipalConstraint::any())).unwrap()
     /// # }
-    /// let mut entity = under(r#"A::"a""#, &[r#"A::"b""#]);
+    /// let mut entity = entity_with(r#"A::"a""#, &[r#"A::"b""#]);
     /// entity.add_indirect_ancestor(uid(r#"A::"c""#));
     /// entity.add_indirect_ancestor(uid(r#"A::"d""#));
     /// entity.remove_parent(&uid(r#"A::"b""#));

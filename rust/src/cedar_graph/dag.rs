@@ -86,7 +86,7 @@ fn refuse_loop<K: Clone + Eq + Hash + Debug + Display, S: BuildHasher>(
 /// # #[allow(unused)]
 /// # fn uid(text: &str) -> EntityUID { EntityUID::from_normalized_str(text).unwrap() }
 /// # #[allow(unused)]
-/// # fn under(own: &str, parents: &[&str]) -> Entity {
+/// # fn entity_with(own: &str, parents: &[&str]) -> Entity {
 /// #     let mut entity = Entity::with_uid(uid(own));
 /// #     parents.iter().for_each(|parent| entity.add_parent(uid(parent)));
 /// #     entity
@@ -102,12 +102,12 @@ fn refuse_loop<K: Clone + Eq + Hash + Debug + Display, S: BuildHasher>(
 /// # }
 /// use cedar_store::transitive_closure::{TcError, close_dag, repair_dag};
 /// # use std::collections::{HashMap, HashSet};
-/// let ring = [under(r#"A::"a""#, &[r#"A::"b""#]), under(r#"A::"b""#, &[r#"A::"a""#])];
+/// let ring = [entity_with(r#"A::"a""#, &[r#"A::"b""#]), entity_with(r#"A::"b""#, &[r#"A::"a""#])];
 /// let mut nodes: HashMap<_, _> = ring.into_iter().map(|entity| (entity.uid().clone(), entity)).collect();
 /// // a cycle is reported before any edge is written
 /// assert!(matches!(close_dag(&mut nodes), Err(TcError::HasCycle(_))));
 /// assert!(!nodes[&uid(r#"A::"a""#)].is_descendant_of(&uid(r#"A::"a""#)));
-/// nodes.insert(uid(r#"A::"b""#), under(r#"A::"b""#, &[r#"A::"c""#]));
+/// nodes.insert(uid(r#"A::"b""#), entity_with(r#"A::"b""#, &[r#"A::"c""#]));
 /// repair_dag(&HashSet::from([uid(r#"A::"a""#)]), &mut nodes)?;
 /// assert!(nodes[&uid(r#"A::"a""#)].is_descendant_of(&uid(r#"A::"c""#)));
 /// # Ok::<(), Box<dyn std::error::Error>>(())
@@ -156,7 +156,7 @@ pub fn close_dag<K: Clone + Eq + Hash + Debug + Display, V: TCNode<K>, S: BuildH
 /// # #[allow(unused)]
 /// # fn uid(text: &str) -> EntityUID { EntityUID::from_normalized_str(text).unwrap() }
 /// # #[allow(unused)]
-/// # fn under(own: &str, parents: &[&str]) -> Entity {
+/// # fn entity_with(own: &str, parents: &[&str]) -> Entity {
 /// #     let mut entity = Entity::with_uid(uid(own));
 /// #     parents.iter().for_each(|parent| entity.add_parent(uid(parent)));
 /// #     entity
@@ -172,12 +172,12 @@ pub fn close_dag<K: Clone + Eq + Hash + Debug + Display, V: TCNode<K>, S: BuildH
 /// # }
 /// use cedar_store::transitive_closure::{TcError, close_dag, repair_dag};
 /// # use std::collections::{HashMap, HashSet};
-/// let ring = [under(r#"A::"a""#, &[r#"A::"b""#]), under(r#"A::"b""#, &[r#"A::"a""#])];
+/// let ring = [entity_with(r#"A::"a""#, &[r#"A::"b""#]), entity_with(r#"A::"b""#, &[r#"A::"a""#])];
 /// let mut nodes: HashMap<_, _> = ring.into_iter().map(|entity| (entity.uid().clone(), entity)).collect();
 /// // a cycle is reported before any edge is written
 /// assert!(matches!(close_dag(&mut nodes), Err(TcError::HasCycle(_))));
 /// assert!(!nodes[&uid(r#"A::"a""#)].is_descendant_of(&uid(r#"A::"a""#)));
-/// nodes.insert(uid(r#"A::"b""#), under(r#"A::"b""#, &[r#"A::"c""#]));
+/// nodes.insert(uid(r#"A::"b""#), entity_with(r#"A::"b""#, &[r#"A::"c""#]));
 /// repair_dag(&HashSet::from([uid(r#"A::"a""#)]), &mut nodes)?;
 /// assert!(nodes[&uid(r#"A::"a""#)].is_descendant_of(&uid(r#"A::"c""#)));
 /// # Ok::<(), Box<dyn std::error::Error>>(())

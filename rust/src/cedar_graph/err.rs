@@ -36,7 +36,7 @@ impl<K> HasCycle<K> {
     /// # #[allow(unused)]
     /// # fn uid(text: &str) -> EntityUID { EntityUID::from_normalized_str(text).unwrap() }
     /// # #[allow(unused)]
-    /// # fn under(own: &str, parents: &[&str]) -> Entity {
+    /// # fn entity_with(own: &str, parents: &[&str]) -> Entity {
     /// #     let mut entity = Entity::with_uid(uid(own));
     /// #     parents.iter().for_each(|parent| entity.add_parent(uid(parent)));
     /// #     entity
@@ -66,7 +66,7 @@ impl<K> HasCycle<K> {
     /// # #[allow(unused)]
     /// # fn uid(text: &str) -> EntityUID { EntityUID::from_normalized_str(text).unwrap() }
     /// # #[allow(unused)]
-    /// # fn under(own: &str, parents: &[&str]) -> Entity {
+    /// # fn entity_with(own: &str, parents: &[&str]) -> Entity {
     /// #     let mut entity = Entity::with_uid(uid(own));
     /// #     parents.iter().for_each(|parent| entity.add_parent(uid(parent)));
     /// #     entity
@@ -96,7 +96,7 @@ impl<K> HasCycle<K> {
     /// # #[allow(unused)]
     /// # fn uid(text: &str) -> EntityUID { EntityUID::from_normalized_str(text).unwrap() }
     /// # #[allow(unused)]
-    /// # fn under(own: &str, parents: &[&str]) -> Entity {
+    /// # fn entity_with(own: &str, parents: &[&str]) -> Entity {
     /// #     let mut entity = Entity::with_uid(uid(own));
     /// #     parents.iter().for_each(|parent| entity.add_parent(uid(parent)));
     /// #     entity

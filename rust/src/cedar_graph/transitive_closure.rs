@@ -158,7 +158,7 @@ pub struct Work {
 /// # #[allow(unused)]
 /// # fn uid(text: &str) -> EntityUID { EntityUID::from_normalized_str(text).unwrap() }
 /// # #[allow(unused)]
-/// # fn under(own: &str, parents: &[&str]) -> Entity {
+/// # fn entity_with(own: &str, parents: &[&str]) -> Entity {
 /// #     let mut entity = Entity::with_uid(uid(own));
 /// #     parents.iter().for_each(|parent| entity.add_parent(uid(parent)));
 /// #     entity
@@ -174,7 +174,7 @@ pub struct Work {
 /// # }
 /// use cedar_store::transitive_closure::{TcError, compute_tc, enforce_tc_and_dag};
 /// # use std::collections::HashMap;
-/// let chain = [under(r#"A::"a""#, &[r#"A::"b""#]), under(r#"A::"b""#, &[r#"A::"c""#])];
+/// let chain = [entity_with(r#"A::"a""#, &[r#"A::"b""#]), entity_with(r#"A::"b""#, &[r#"A::"c""#])];
 /// let mut nodes: HashMap<_, _> = chain.into_iter().map(|entity| (entity.uid().clone(), entity)).collect();
 /// assert!(matches!(enforce_tc_and_dag(&nodes), Err(TcError::MissingTcEdge(_))));
 /// compute_tc(&mut nodes, true)?;
@@ -211,7 +211,7 @@ pub fn compute_tc<K: Clone + Eq + Hash + Debug + Display, V: TCNode<K>, S: Build
 /// # #[allow(unused)]
 /// # fn uid(text: &str) -> EntityUID { EntityUID::from_normalized_str(text).unwrap() }
 /// # #[allow(unused)]
-/// # fn under(own: &str, parents: &[&str]) -> Entity {
+/// # fn entity_with(own: &str, parents: &[&str]) -> Entity {
 /// #     let mut entity = Entity::with_uid(uid(own));
 /// #     parents.iter().for_each(|parent| entity.add_parent(uid(parent)));
 /// #     entity
@@ -227,7 +227,7 @@ pub fn compute_tc<K: Clone + Eq + Hash + Debug + Display, V: TCNode<K>, S: Build
 /// # }
 /// use cedar_store::transitive_closure::{compute_tc_counted, repair_tc, repair_tc_counted};
 /// # use std::collections::{HashMap, HashSet};
-/// let chain = [under(r#"A::"a""#, &[r#"A::"b""#]), under(r#"A::"b""#, &[r#"A::"c""#])];
+/// let chain = [entity_with(r#"A::"a""#, &[r#"A::"b""#]), entity_with(r#"A::"b""#, &[r#"A::"c""#])];
 /// let mut nodes: HashMap<_, _> = chain.into_iter().map(|entity| (entity.uid().clone(), entity)).collect();
 /// let work = compute_tc_counted(&mut nodes, true)?;
 /// assert_eq!((work.reads, work.closings), (2, 2));
@@ -283,7 +283,7 @@ pub fn compute_tc_counted<K: Clone + Eq + Hash + Debug + Display, V: TCNode<K>, 
 /// # #[allow(unused)]
 /// # fn uid(text: &str) -> EntityUID { EntityUID::from_normalized_str(text).unwrap() }
 /// # #[allow(unused)]
-/// # fn under(own: &str, parents: &[&str]) -> Entity {
+/// # fn entity_with(own: &str, parents: &[&str]) -> Entity {
 /// #     let mut entity = Entity::with_uid(uid(own));
 /// #     parents.iter().for_each(|parent| entity.add_parent(uid(parent)));
 /// #     entity
@@ -299,7 +299,7 @@ pub fn compute_tc_counted<K: Clone + Eq + Hash + Debug + Display, V: TCNode<K>, 
 /// # }
 /// use cedar_store::transitive_closure::{compute_tc_counted, repair_tc, repair_tc_counted};
 /// # use std::collections::{HashMap, HashSet};
-/// let chain = [under(r#"A::"a""#, &[r#"A::"b""#]), under(r#"A::"b""#, &[r#"A::"c""#])];
+/// let chain = [entity_with(r#"A::"a""#, &[r#"A::"b""#]), entity_with(r#"A::"b""#, &[r#"A::"c""#])];
 /// let mut nodes: HashMap<_, _> = chain.into_iter().map(|entity| (entity.uid().clone(), entity)).collect();
 /// let work = compute_tc_counted(&mut nodes, true)?;
 /// assert_eq!((work.reads, work.closings), (2, 2));
@@ -341,7 +341,7 @@ pub fn repair_tc<K: Clone + Eq + Hash + Debug + Display, V: TCNode<K>, S: BuildH
 /// # #[allow(unused)]
 /// # fn uid(text: &str) -> EntityUID { EntityUID::from_normalized_str(text).unwrap() }
 /// # #[allow(unused)]
-/// # fn under(own: &str, parents: &[&str]) -> Entity {
+/// # fn entity_with(own: &str, parents: &[&str]) -> Entity {
 /// #     let mut entity = Entity::with_uid(uid(own));
 /// #     parents.iter().for_each(|parent| entity.add_parent(uid(parent)));
 /// #     entity
@@ -357,7 +357,7 @@ pub fn repair_tc<K: Clone + Eq + Hash + Debug + Display, V: TCNode<K>, S: BuildH
 /// # }
 /// use cedar_store::transitive_closure::{compute_tc_counted, repair_tc, repair_tc_counted};
 /// # use std::collections::{HashMap, HashSet};
-/// let chain = [under(r#"A::"a""#, &[r#"A::"b""#]), under(r#"A::"b""#, &[r#"A::"c""#])];
+/// let chain = [entity_with(r#"A::"a""#, &[r#"A::"b""#]), entity_with(r#"A::"b""#, &[r#"A::"c""#])];
 /// let mut nodes: HashMap<_, _> = chain.into_iter().map(|entity| (entity.uid().clone(), entity)).collect();
 /// let work = compute_tc_counted(&mut nodes, true)?;
 /// assert_eq!((work.reads, work.closings), (2, 2));
@@ -409,7 +409,7 @@ pub fn repair_tc_counted<
 /// # #[allow(unused)]
 /// # fn uid(text: &str) -> EntityUID { EntityUID::from_normalized_str(text).unwrap() }
 /// # #[allow(unused)]
-/// # fn under(own: &str, parents: &[&str]) -> Entity {
+/// # fn entity_with(own: &str, parents: &[&str]) -> Entity {
 /// #     let mut entity = Entity::with_uid(uid(own));
 /// #     parents.iter().for_each(|parent| entity.add_parent(uid(parent)));
 /// #     entity
@@ -425,7 +425,7 @@ pub fn repair_tc_counted<
 /// # }
 /// use cedar_store::transitive_closure::{TcError, compute_tc, enforce_tc_and_dag};
 /// # use std::collections::HashMap;
-/// let chain = [under(r#"A::"a""#, &[r#"A::"b""#]), under(r#"A::"b""#, &[r#"A::"c""#])];
+/// let chain = [entity_with(r#"A::"a""#, &[r#"A::"b""#]), entity_with(r#"A::"b""#, &[r#"A::"c""#])];
 /// let mut nodes: HashMap<_, _> = chain.into_iter().map(|entity| (entity.uid().clone(), entity)).collect();
 /// assert!(matches!(enforce_tc_and_dag(&nodes), Err(TcError::MissingTcEdge(_))));
 /// compute_tc(&mut nodes, true)?;

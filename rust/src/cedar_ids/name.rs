@@ -61,7 +61,7 @@ impl Name {
     /// # #[allow(unused)]
     /// # fn uid(text: &str) -> EntityUID { EntityUID::from_normalized_str(text).unwrap() }
     /// # #[allow(unused)]
-    /// # fn under(own: &str, parents: &[&str]) -> Entity {
+    /// # fn entity_with(own: &str, parents: &[&str]) -> Entity {
     /// #     let mut entity = Entity::with_uid(uid(own));
     /// #     parents.iter().for_each(|parent| entity.add_parent(uid(parent)));
     /// #     entity
@@ -109,7 +109,7 @@ impl Name {
     /// # #[allow(unused)]
     /// # fn uid(text: &str) -> EntityUID { EntityUID::from_normalized_str(text).unwrap() }
     /// # #[allow(unused)]
-    /// # fn under(own: &str, parents: &[&str]) -> Entity {
+    /// # fn entity_with(own: &str, parents: &[&str]) -> Entity {
     /// #     let mut entity = Entity::with_uid(uid(own));
     /// #     parents.iter().for_each(|parent| entity.add_parent(uid(parent)));
     /// #     entity
@@ -145,7 +145,7 @@ impl Name {
     /// # #[allow(unused)]
     /// # fn uid(text: &str) -> EntityUID { EntityUID::from_normalized_str(text).unwrap() }
     /// # #[allow(unused)]
-    /// # fn under(own: &str, parents: &[&str]) -> Entity {
+    /// # fn entity_with(own: &str, parents: &[&str]) -> Entity {
     /// #     let mut entity = Entity::with_uid(uid(own));
     /// #     parents.iter().for_each(|parent| entity.add_parent(uid(parent)));
     /// #     entity
@@ -179,7 +179,7 @@ impl Name {
     /// # #[allow(unused)]
     /// # fn uid(text: &str) -> EntityUID { EntityUID::from_normalized_str(text).unwrap() }
     /// # #[allow(unused)]
-    /// # fn under(own: &str, parents: &[&str]) -> Entity {
+    /// # fn entity_with(own: &str, parents: &[&str]) -> Entity {
     /// #     let mut entity = Entity::with_uid(uid(own));
     /// #     parents.iter().for_each(|parent| entity.add_parent(uid(parent)));
     /// #     entity
@@ -213,7 +213,7 @@ impl Name {
     /// # #[allow(unused)]
     /// # fn uid(text: &str) -> EntityUID { EntityUID::from_normalized_str(text).unwrap() }
     /// # #[allow(unused)]
-    /// # fn under(own: &str, parents: &[&str]) -> Entity {
+    /// # fn entity_with(own: &str, parents: &[&str]) -> Entity {
     /// #     let mut entity = Entity::with_uid(uid(own));
     /// #     parents.iter().for_each(|parent| entity.add_parent(uid(parent)));
     /// #     entity
@@ -261,7 +261,7 @@ impl Name {
     /// # #[allow(unused)]
     /// # fn uid(text: &str) -> EntityUID { EntityUID::from_normalized_str(text).unwrap() }
     /// # #[allow(unused)]
-    /// # fn under(own: &str, parents: &[&str]) -> Entity {
+    /// # fn entity_with(own: &str, parents: &[&str]) -> Entity {
     /// #     let mut entity = Entity::with_uid(uid(own));
     /// #     parents.iter().for_each(|parent| entity.add_parent(uid(parent)));
     /// #     entity

@@ -43,7 +43,7 @@ impl StaticPolicy {
     /// # #[allow(unused)]
     /// # fn uid(text: &str) -> EntityUID { EntityUID::from_normalized_str(text).unwrap() }
     /// # #[allow(unused)]
-    /// # fn under(own: &str, parents: &[&str]) -> Entity {
+    /// # fn entity_with(own: &str, parents: &[&str]) -> Entity {
     /// #     let mut entity = Entity::with_uid(uid(own));
     /// #     parents.iter().for_each(|parent| entity.add_parent(uid(parent)));
     /// #     entity
@@ -100,7 +100,7 @@ impl StaticPolicy {
     /// # #[allow(unused)]
     /// # fn uid(text: &str) -> EntityUID { EntityUID::from_normalized_str(text).unwrap() }
     /// # #[allow(unused)]
-    /// # fn under(own: &str, parents: &[&str]) -> Entity {
+    /// # fn entity_with(own: &str, parents: &[&str]) -> Entity {
     /// #     let mut entity = Entity::with_uid(uid(own));
     /// #     parents.iter().for_each(|parent| entity.add_parent(uid(parent)));
     /// #     entity
@@ -138,7 +138,7 @@ impl StaticPolicy {
     /// # #[allow(unused)]
     /// # fn uid(text: &str) -> EntityUID { EntityUID::from_normalized_str(text).unwrap() }
     /// # #[allow(unused)]
-    /// # fn under(own: &str, parents: &[&str]) -> Entity {
+    /// # fn entity_with(own: &str, parents: &[&str]) -> Entity {
     /// #     let mut entity = Entity::with_uid(uid(own));
     /// #     parents.iter().for_each(|parent| entity.add_parent(uid(parent)));
     /// #     entity
@@ -180,7 +180,7 @@ impl StaticPolicy {
     /// # #[allow(unused)]
     /// # fn uid(text: &str) -> EntityUID { EntityUID::from_normalized_str(text).unwrap() }
     /// # #[allow(unused)]
-    /// # fn under(own: &str, parents: &[&str]) -> Entity {
+    /// # fn entity_with(own: &str, parents: &[&str]) -> Entity {
     /// #     let mut entity = Entity::with_uid(uid(own));
     /// #     parents.iter().for_each(|parent| entity.add_parent(uid(parent)));
     /// #     entity
@@ -220,7 +220,7 @@ impl StaticPolicy {
     /// # #[allow(unused)]
     /// # fn uid(text: &str) -> EntityUID { EntityUID::from_normalized_str(text).unwrap() }
     /// # #[allow(unused)]
-    /// # fn under(own: &str, parents: &[&str]) -> Entity {
+    /// # fn entity_with(own: &str, parents: &[&str]) -> Entity {
     /// #     let mut entity = Entity::with_uid(uid(own));
     /// #     parents.iter().for_each(|parent| entity.add_parent(uid(parent)));
     /// #     entity
@@ -262,7 +262,7 @@ impl StaticPolicy {
     /// # #[allow(unused)]
     /// # fn uid(text: &str) -> EntityUID { EntityUID::from_normalized_str(text).unwrap() }
     /// # #[allow(unused)]
-    /// # fn under(own: &str, parents: &[&str]) -> Entity {
+    /// # fn entity_with(own: &str, parents: &[&str]) -> Entity {
     /// #     let mut entity = Entity::with_uid(uid(own));
     /// #     parents.iter().for_each(|parent| entity.add_parent(uid(parent)));
     /// #     entity
@@ -300,7 +300,7 @@ impl StaticPolicy {
     /// # #[allow(unused)]
     /// # fn uid(text: &str) -> EntityUID { EntityUID::from_normalized_str(text).unwrap() }
     /// # #[allow(unused)]
-    /// # fn under(own: &str, parents: &[&str]) -> Entity {
+    /// # fn entity_with(own: &str, parents: &[&str]) -> Entity {
     /// #     let mut entity = Entity::with_uid(uid(own));
     /// #     parents.iter().for_each(|parent| entity.add_parent(uid(parent)));
     /// #     entity
@@ -338,7 +338,7 @@ impl StaticPolicy {
     /// # #[allow(unused)]
     /// # fn uid(text: &str) -> EntityUID { EntityUID::from_normalized_str(text).unwrap() }
     /// # #[allow(unused)]
-    /// # fn under(own: &str, parents: &[&str]) -> Entity {
+    /// # fn entity_with(own: &str, parents: &[&str]) -> Entity {
     /// #     let mut entity = Entity::with_uid(uid(own));
     /// #     parents.iter().for_each(|parent| entity.add_parent(uid(parent)));
     /// #     entity
@@ -370,7 +370,7 @@ impl StaticPolicy {
     /// # #[allow(unused)]
     /// # fn uid(text: &str) -> EntityUID { EntityUID::from_normalized_str(text).unwrap() }
     /// # #[allow(unused)]
-    /// # fn under(own: &str, parents: &[&str]) -> Entity {
+    /// # fn entity_with(own: &str, parents: &[&str]) -> Entity {
     /// #     let mut entity = Entity::with_uid(uid(own));
     /// #     parents.iter().for_each(|parent| entity.add_parent(uid(parent)));
     /// #     entity
@@ -402,7 +402,7 @@ impl StaticPolicy {
     /// # #[allow(unused)]
     /// # fn uid(text: &str) -> EntityUID { EntityUID::from_normalized_str(text).unwrap() }
     /// # #[allow(unused)]
-    /// # fn under(own: &str, parents: &[&str]) -> Entity {
+    /// # fn entity_with(own: &str, parents: &[&str]) -> Entity {
     /// #     let mut entity = Entity::with_uid(uid(own));
     /// #     parents.iter().for_each(|parent| entity.add_parent(uid(parent)));
     /// #     entity
@@ -434,7 +434,7 @@ impl StaticPolicy {
     /// # #[allow(unused)]
     /// # fn uid(text: &str) -> EntityUID { EntityUID::from_normalized_str(text).unwrap() }
     /// # #[allow(unused)]
-    /// # fn under(own: &str, parents: &[&str]) -> Entity {
+    /// # fn entity_with(own: &str, parents: &[&str]) -> Entity {
     /// #     let mut entity = Entity::with_uid(uid(own));
     /// #     parents.iter().for_each(|parent| entity.add_parent(uid(parent)));
     /// #     entity
@@ -466,7 +466,7 @@ impl StaticPolicy {
     /// # #[allow(unused)]
     /// # fn uid(text: &str) -> EntityUID { EntityUID::from_normalized_str(text).unwrap() }
     /// # #[allow(unused)]
-    /// # fn under(own: &str, parents: &[&str]) -> Entity {
+    /// # fn entity_with(own: &str, parents: &[&str]) -> Entity {
     /// #     let mut entity = Entity::with_uid(uid(own));
     /// #     parents.iter().for_each(|parent| entity.add_parent(uid(parent)));
     /// #     entity
@@ -498,7 +498,7 @@ impl StaticPolicy {
     /// # #[allow(unused)]
     /// # fn uid(text: &str) -> EntityUID { EntityUID::from_normalized_str(text).unwrap() }
     /// # #[allow(unused)]
-    /// # fn under(own: &str, parents: &[&str]) -> Entity {
+    /// # fn entity_with(own: &str, parents: &[&str]) -> Entity {
     /// #     let mut entity = Entity::with_uid(uid(own));
     /// #     parents.iter().for_each(|parent| entity.add_parent(uid(parent)));
     /// #     entity
@@ -530,7 +530,7 @@ impl StaticPolicy {
     /// # #[allow(unused)]
     /// # fn uid(text: &str) -> EntityUID { EntityUID::from_normalized_str(text).unwrap() }
     /// # #[allow(unused)]
-    /// # fn under(own: &str, parents: &[&str]) -> Entity {
+    /// # fn entity_with(own: &str, parents: &[&str]) -> Entity {
     /// #     let mut entity = Entity::with_uid(uid(own));
     /// #     parents.iter().for_each(|parent| entity.add_parent(uid(parent)));
     /// #     entity
@@ -562,7 +562,7 @@ impl StaticPolicy {
     /// # #[allow(unused)]
     /// # fn uid(text: &str) -> EntityUID { EntityUID::from_normalized_str(text).unwrap() }
     /// # #[allow(unused)]
-    /// # fn under(own: &str, parents: &[&str]) -> Entity {
+    /// # fn entity_with(own: &str, parents: &[&str]) -> Entity {
     /// #     let mut entity = Entity::with_uid(uid(own));
     /// #     parents.iter().for_each(|parent| entity.add_parent(uid(parent)));
     /// #     entity

@@ -45,7 +45,7 @@ impl Template {
     /// # #[allow(unused)]
     /// # fn uid(text: &str) -> EntityUID { EntityUID::from_normalized_str(text).unwrap() }
     /// # #[allow(unused)]
-    /// # fn under(own: &str, parents: &[&str]) -> Entity {
+    /// # fn entity_with(own: &str, parents: &[&str]) -> Entity {
     /// #     let mut entity = Entity::with_uid(uid(own));
     /// #     parents.iter().for_each(|parent| entity.add_parent(uid(parent)));
     /// #     entity
@@ -111,7 +111,7 @@ impl Template {
     /// # #[allow(unused)]
     /// # fn uid(text: &str) -> EntityUID { EntityUID::from_normalized_str(text).unwrap() }
     /// # #[allow(unused)]
-    /// # fn under(own: &str, parents: &[&str]) -> Entity {
+    /// # fn entity_with(own: &str, parents: &[&str]) -> Entity {
     /// #     let mut entity = Entity::with_uid(uid(own));
     /// #     parents.iter().for_each(|parent| entity.add_parent(uid(parent)));
     /// #     entity
@@ -178,7 +178,7 @@ impl Template {
     /// # #[allow(unused)]
     /// # fn uid(text: &str) -> EntityUID { EntityUID::from_normalized_str(text).unwrap() }
     /// # #[allow(unused)]
-    /// # fn under(own: &str, parents: &[&str]) -> Entity {
+    /// # fn entity_with(own: &str, parents: &[&str]) -> Entity {
     /// #     let mut entity = Entity::with_uid(uid(own));
     /// #     parents.iter().for_each(|parent| entity.add_parent(uid(parent)));
     /// #     entity
@@ -226,7 +226,7 @@ impl Template {
     /// # #[allow(unused)]
     /// # fn uid(text: &str) -> EntityUID { EntityUID::from_normalized_str(text).unwrap() }
     /// # #[allow(unused)]
-    /// # fn under(own: &str, parents: &[&str]) -> Entity {
+    /// # fn entity_with(own: &str, parents: &[&str]) -> Entity {
     /// #     let mut entity = Entity::with_uid(uid(own));
     /// #     parents.iter().for_each(|parent| entity.add_parent(uid(parent)));
     /// #     entity
@@ -267,7 +267,7 @@ impl Template {
     /// # #[allow(unused)]
     /// # fn uid(text: &str) -> EntityUID { EntityUID::from_normalized_str(text).unwrap() }
     /// # #[allow(unused)]
-    /// # fn under(own: &str, parents: &[&str]) -> Entity {
+    /// # fn entity_with(own: &str, parents: &[&str]) -> Entity {
     /// #     let mut entity = Entity::with_uid(uid(own));
     /// #     parents.iter().for_each(|parent| entity.add_parent(uid(parent)));
     /// #     entity
@@ -310,7 +310,7 @@ impl Template {
     /// # #[allow(unused)]
     /// # fn uid(text: &str) -> EntityUID { EntityUID::from_normalized_str(text).unwrap() }
     /// # #[allow(unused)]
-    /// # fn under(own: &str, parents: &[&str]) -> Entity {
+    /// # fn entity_with(own: &str, parents: &[&str]) -> Entity {
     /// #     let mut entity = Entity::with_uid(uid(own));
     /// #     parents.iter().for_each(|parent| entity.add_parent(uid(parent)));
     /// #     entity
@@ -357,7 +357,7 @@ impl Template {
     /// # #[allow(unused)]
     /// # fn uid(text: &str) -> EntityUID { EntityUID::from_normalized_str(text).unwrap() }
     /// # #[allow(unused)]
-    /// # fn under(own: &str, parents: &[&str]) -> Entity {
+    /// # fn entity_with(own: &str, parents: &[&str]) -> Entity {
     /// #     let mut entity = Entity::with_uid(uid(own));
     /// #     parents.iter().for_each(|parent| entity.add_parent(uid(parent)));
     /// #     entity
@@ -403,7 +403,7 @@ impl Template {
     /// # #[allow(unused)]
     /// # fn uid(text: &str) -> EntityUID { EntityUID::from_normalized_str(text).unwrap() }
     /// # #[allow(unused)]
-    /// # fn under(own: &str, parents: &[&str]) -> Entity {
+    /// # fn entity_with(own: &str, parents: &[&str]) -> Entity {
     /// #     let mut entity = Entity::with_uid(uid(own));
     /// #     parents.iter().for_each(|parent| entity.add_parent(uid(parent)));
     /// #     entity
@@ -450,7 +450,7 @@ impl Template {
     /// # #[allow(unused)]
     /// # fn uid(text: &str) -> EntityUID { EntityUID::from_normalized_str(text).unwrap() }
     /// # #[allow(unused)]
-    /// # fn under(own: &str, parents: &[&str]) -> Entity {
+    /// # fn entity_with(own: &str, parents: &[&str]) -> Entity {
     /// #     let mut entity = Entity::with_uid(uid(own));
     /// #     parents.iter().for_each(|parent| entity.add_parent(uid(parent)));
     /// #     entity
@@ -493,7 +493,7 @@ impl Template {
     /// # #[allow(unused)]
     /// # fn uid(text: &str) -> EntityUID { EntityUID::from_normalized_str(text).unwrap() }
     /// # #[allow(unused)]
-    /// # fn under(own: &str, parents: &[&str]) -> Entity {
+    /// # fn entity_with(own: &str, parents: &[&str]) -> Entity {
     /// #     let mut entity = Entity::with_uid(uid(own));
     /// #     parents.iter().for_each(|parent| entity.add_parent(uid(parent)));
     /// #     entity
@@ -536,7 +536,7 @@ impl Template {
     /// # #[allow(unused)]
     /// # fn uid(text: &str) -> EntityUID { EntityUID::from_normalized_str(text).unwrap() }
     /// # #[allow(unused)]
-    /// # fn under(own: &str, parents: &[&str]) -> Entity {
+    /// # fn entity_with(own: &str, parents: &[&str]) -> Entity {
     /// #     let mut entity = Entity::with_uid(uid(own));
     /// #     parents.iter().for_each(|parent| entity.add_parent(uid(parent)));
     /// #     entity
@@ -579,7 +579,7 @@ impl Template {
     /// # #[allow(unused)]
     /// # fn uid(text: &str) -> EntityUID { EntityUID::from_normalized_str(text).unwrap() }
     /// # #[allow(unused)]
-    /// # fn under(own: &str, parents: &[&str]) -> Entity {
+    /// # fn entity_with(own: &str, parents: &[&str]) -> Entity {
     /// #     let mut entity = Entity::with_uid(uid(own));
     /// #     parents.iter().for_each(|parent| entity.add_parent(uid(parent)));
     /// #     entity
@@ -622,7 +622,7 @@ impl Template {
     /// # #[allow(unused)]
     /// # fn uid(text: &str) -> EntityUID { EntityUID::from_normalized_str(text).unwrap() }
     /// # #[allow(unused)]
-    /// # fn under(own: &str, parents: &[&str]) -> Entity {
+    /// # fn entity_with(own: &str, parents: &[&str]) -> Entity {
     /// #     let mut entity = Entity::with_uid(uid(own));
     /// #     parents.iter().for_each(|parent| entity.add_parent(uid(parent)));
     /// #     entity
@@ -665,7 +665,7 @@ impl Template {
     /// # #[allow(unused)]
     /// # fn uid(text: &str) -> EntityUID { EntityUID::from_normalized_str(text).unwrap() }
     /// # #[allow(unused)]
-    /// # fn under(own: &str, parents: &[&str]) -> Entity {
+    /// # fn entity_with(own: &str, parents: &[&str]) -> Entity {
     /// #     let mut entity = Entity::with_uid(uid(own));
     /// #     parents.iter().for_each(|parent| entity.add_parent(uid(parent)));
     /// #     entity
@@ -708,7 +708,7 @@ impl Template {
     /// # #[allow(unused)]
     /// # fn uid(text: &str) -> EntityUID { EntityUID::from_normalized_str(text).unwrap() }
     /// # #[allow(unused)]
-    /// # fn under(own: &str, parents: &[&str]) -> Entity {
+    /// # fn entity_with(own: &str, parents: &[&str]) -> Entity {
     /// #     let mut entity = Entity::with_uid(uid(own));
     /// #     parents.iter().for_each(|parent| entity.add_parent(uid(parent)));
     /// #     entity
@@ -751,7 +751,7 @@ impl Template {
     /// # #[allow(unused)]
     /// # fn uid(text: &str) -> EntityUID { EntityUID::from_normalized_str(text).unwrap() }
     /// # #[allow(unused)]
-    /// # fn under(own: &str, parents: &[&str]) -> Entity {
+    /// # fn entity_with(own: &str, parents: &[&str]) -> Entity {
     /// #     let mut entity = Entity::with_uid(uid(own));
     /// #     parents.iter().for_each(|parent| entity.add_parent(uid(parent)));
     /// #     entity
@@ -794,7 +794,7 @@ impl Template {
     /// # #[allow(unused)]
     /// # fn uid(text: &str) -> EntityUID { EntityUID::from_normalized_str(text).unwrap() }
     /// # #[allow(unused)]
-    /// # fn under(own: &str, parents: &[&str]) -> Entity {
+    /// # fn entity_with(own: &str, parents: &[&str]) -> Entity {
     /// #     let mut entity = Entity::with_uid(uid(own));
     /// #     parents.iter().for_each(|parent| entity.add_parent(uid(parent)));
     /// #     entity
@@ -839,7 +839,7 @@ impl Template {
     /// # #[allow(unused)]
     /// # fn uid(text: &str) -> EntityUID { EntityUID::from_normalized_str(text).unwrap() }
     /// # #[allow(unused)]
-    /// # fn under(own: &str, parents: &[&str]) -> Entity {
+    /// # fn entity_with(own: &str, parents: &[&str]) -> Entity {
     /// #     let mut entity = Entity::with_uid(uid(own));
     /// #     parents.iter().for_each(|parent| entity.add_parent(uid(parent)));
     /// #     entity
@@ -878,7 +878,7 @@ impl Template {
     /// # #[allow(unused)]
     /// # fn uid(text: &str) -> EntityUID { EntityUID::from_normalized_str(text).unwrap() }
     /// # #[allow(unused)]
-    /// # fn under(own: &str, parents: &[&str]) -> Entity {
+    /// # fn entity_with(own: &str, parents: &[&str]) -> Entity {
     /// #     let mut entity = Entity::with_uid(uid(own));
     /// #     parents.iter().for_each(|parent| entity.add_parent(uid(parent)));
     /// #     entity
@@ -928,7 +928,7 @@ impl Template {
     /// # #[allow(unused)]
     /// # fn uid(text: &str) -> EntityUID { EntityUID::from_normalized_str(text).unwrap() }
     /// # #[allow(unused)]
-    /// # fn under(own: &str, parents: &[&str]) -> Entity {
+    /// # fn entity_with(own: &str, parents: &[&str]) -> Entity {
     /// #     let mut entity = Entity::with_uid(uid(own));
     /// #     parents.iter().for_each(|parent| entity.add_parent(uid(parent)));
     /// #     entity
@@ -973,7 +973,7 @@ impl Template {
     /// # #[allow(unused)]
     /// # fn uid(text: &str) -> EntityUID { EntityUID::from_normalized_str(text).unwrap() }
     /// # #[allow(unused)]
-    /// # fn under(own: &str, parents: &[&str]) -> Entity {
+    /// # fn entity_with(own: &str, parents: &[&str]) -> Entity {
     /// #     let mut entity = Entity::with_uid(uid(own));
     /// #     parents.iter().for_each(|parent| entity.add_parent(uid(parent)));
     /// #     entity
@@ -1034,7 +1034,7 @@ impl Template {
     /// # #[allow(unused)]
     /// # fn uid(text: &str) -> EntityUID { EntityUID::from_normalized_str(text).unwrap() }
     /// # #[allow(unused)]
-    /// # fn under(own: &str, parents: &[&str]) -> Entity {
+    /// # fn entity_with(own: &str, parents: &[&str]) -> Entity {
     /// #     let mut entity = Entity::with_uid(uid(own));
     /// #     parents.iter().for_each(|parent| entity.add_parent(uid(parent)));
     /// #     entity
@@ -1067,7 +1067,7 @@ impl Template {
     /// # #[allow(unused)]
     /// # fn uid(text: &str) -> EntityUID { EntityUID::from_normalized_str(text).unwrap() }
     /// # #[allow(unused)]
-    /// # fn under(own: &str, parents: &[&str]) -> Entity {
+    /// # fn entity_with(own: &str, parents: &[&str]) -> Entity {
     /// #     let mut entity = Entity::with_uid(uid(own));
     /// #     parents.iter().for_each(|parent| entity.add_parent(uid(parent)));
     /// #     entity
@@ -1124,7 +1124,7 @@ impl Template {
     /// # #[allow(unused)]
     /// # fn uid(text: &str) -> EntityUID { EntityUID::from_normalized_str(text).unwrap() }
     /// # #[allow(unused)]
-    /// # fn under(own: &str, parents: &[&str]) -> Entity {
+    /// # fn entity_with(own: &str, parents: &[&str]) -> Entity {
     /// #     let mut entity = Entity::with_uid(uid(own));
     /// #     parents.iter().for_each(|parent| entity.add_parent(uid(parent)));
     /// #     entity

@@ -25,7 +25,7 @@ impl<S: BuildHasher + Copy> PolicySet<S> {
     /// # #[allow(unused)]
     /// # fn uid(text: &str) -> EntityUID { EntityUID::from_normalized_str(text).unwrap() }
     /// # #[allow(unused)]
-    /// # fn under(own: &str, parents: &[&str]) -> Entity {
+    /// # fn entity_with(own: &str, parents: &[&str]) -> Entity {
     /// #     let mut entity = Entity::with_uid(uid(own));
     /// #     parents.iter().for_each(|parent| entity.add_parent(uid(parent)));
     /// #     entity
@@ -88,7 +88,7 @@ impl<S: BuildHasher + Copy> PolicySet<S> {
     /// # #[allow(unused)]
     /// # fn uid(text: &str) -> EntityUID { EntityUID::from_normalized_str(text).unwrap() }
     /// # #[allow(unused)]
-    /// # fn under(own: &str, parents: &[&str]) -> Entity {
+    /// # fn entity_with(own: &str, parents: &[&str]) -> Entity {
     /// #     let mut entity = Entity::with_uid(uid(own));
     /// #     parents.iter().for_each(|parent| entity.add_parent(uid(parent)));
     /// #     entity
@@ -110,8 +110,8 @@ impl<S: BuildHasher + Copy> PolicySet<S> {
     /// assert!(set.get_template(&PolicyID::from_string("t")).is_some());
     /// assert!(set.get_template_arc(&PolicyID::from_string("p")).is_some());
     /// // an id can be bound only once
-    /// let refusal = set.add_static(permit("t")).unwrap_err();
-    /// assert_eq!(refusal.to_string(), "duplicate template or policy id `t`");
+    /// let error = set.add_static(permit("t")).unwrap_err();
+    /// assert_eq!(error.to_string(), "duplicate template or policy id `t`");
     /// # Ok::<(), Box<dyn std::error::Error>>(())
     /// ```
     pub fn add_static(&mut self, policy: StaticPolicy) -> Result<(), PolicySetError> {
@@ -138,7 +138,7 @@ impl<S: BuildHasher + Copy> PolicySet<S> {
     /// # #[allow(unused)]
     /// # fn uid(text: &str) -> EntityUID { EntityUID::from_normalized_str(text).unwrap() }
     /// # #[allow(unused)]
-    /// # fn under(own: &str, parents: &[&str]) -> Entity {
+    /// # fn entity_with(own: &str, parents: &[&str]) -> Entity {
     /// #     let mut entity = Entity::with_uid(uid(own));
     /// #     parents.iter().for_each(|parent| entity.add_parent(uid(parent)));
     /// #     entity
@@ -160,8 +160,8 @@ impl<S: BuildHasher + Copy> PolicySet<S> {
     /// assert!(set.get_template(&PolicyID::from_string("t")).is_some());
     /// assert!(set.get_template_arc(&PolicyID::from_string("p")).is_some());
     /// // an id can be bound only once
-    /// let refusal = set.add_static(permit("t")).unwrap_err();
-    /// assert_eq!(refusal.to_string(), "duplicate template or policy id `t`");
+    /// let error = set.add_static(permit("t")).unwrap_err();
+    /// assert_eq!(error.to_string(), "duplicate template or policy id `t`");
     /// # Ok::<(), Box<dyn std::error::Error>>(())
     /// ```
     pub fn add_template(&mut self, template: Template) -> Result<(), PolicySetError> {
@@ -200,7 +200,7 @@ impl<S: BuildHasher + Copy> PolicySet<S> {
     /// # #[allow(unused)]
     /// # fn uid(text: &str) -> EntityUID { EntityUID::from_normalized_str(text).unwrap() }
     /// # #[allow(unused)]
-    /// # fn under(own: &str, parents: &[&str]) -> Entity {
+    /// # fn entity_with(own: &str, parents: &[&str]) -> Entity {
     /// #     let mut entity = Entity::with_uid(uid(own));
     /// #     parents.iter().for_each(|parent| entity.add_parent(uid(parent)));
     /// #     entity

@@ -49,7 +49,7 @@ impl<S: BuildHasher + Copy> PolicySet<S> {
     /// # #[allow(unused)]
     /// # fn uid(text: &str) -> EntityUID { EntityUID::from_normalized_str(text).unwrap() }
     /// # #[allow(unused)]
-    /// # fn under(own: &str, parents: &[&str]) -> Entity {
+    /// # fn entity_with(own: &str, parents: &[&str]) -> Entity {
     /// #     let mut entity = Entity::with_uid(uid(own));
     /// #     parents.iter().for_each(|parent| entity.add_parent(uid(parent)));
     /// #     entity
@@ -80,7 +80,7 @@ impl<S: BuildHasher + Copy> PolicySet<S> {
     /// # #[allow(unused)]
     /// # fn uid(text: &str) -> EntityUID { EntityUID::from_normalized_str(text).unwrap() }
     /// # #[allow(unused)]
-    /// # fn under(own: &str, parents: &[&str]) -> Entity {
+    /// # fn entity_with(own: &str, parents: &[&str]) -> Entity {
     /// #     let mut entity = Entity::with_uid(uid(own));
     /// #     parents.iter().for_each(|parent| entity.add_parent(uid(parent)));
     /// #     entity
@@ -109,7 +109,7 @@ impl<S: BuildHasher + Copy> PolicySet<S> {
     /// # #[allow(unused)]
     /// # fn uid(text: &str) -> EntityUID { EntityUID::from_normalized_str(text).unwrap() }
     /// # #[allow(unused)]
-    /// # fn under(own: &str, parents: &[&str]) -> Entity {
+    /// # fn entity_with(own: &str, parents: &[&str]) -> Entity {
     /// #     let mut entity = Entity::with_uid(uid(own));
     /// #     parents.iter().for_each(|parent| entity.add_parent(uid(parent)));
     /// #     entity
@@ -131,8 +131,8 @@ impl<S: BuildHasher + Copy> PolicySet<S> {
     /// assert!(set.get_template(&PolicyID::from_string("t")).is_some());
     /// assert!(set.get_template_arc(&PolicyID::from_string("p")).is_some());
     /// // an id can be bound only once
-    /// let refusal = set.add_static(permit("t")).unwrap_err();
-    /// assert_eq!(refusal.to_string(), "duplicate template or policy id `t`");
+    /// let error = set.add_static(permit("t")).unwrap_err();
+    /// assert_eq!(error.to_string(), "duplicate template or policy id `t`");
     /// # Ok::<(), Box<dyn std::error::Error>>(())
     /// ```
     pub fn is_empty(&self) -> bool {
@@ -146,7 +146,7 @@ impl<S: BuildHasher + Copy> PolicySet<S> {
     /// # #[allow(unused)]
     /// # fn uid(text: &str) -> EntityUID { EntityUID::from_normalized_str(text).unwrap() }
     /// # #[allow(unused)]
-    /// # fn under(own: &str, parents: &[&str]) -> Entity {
+    /// # fn entity_with(own: &str, parents: &[&str]) -> Entity {
     /// #     let mut entity = Entity::with_uid(uid(own));
     /// #     parents.iter().for_each(|parent| entity.add_parent(uid(parent)));
     /// #     entity
@@ -168,8 +168,8 @@ impl<S: BuildHasher + Copy> PolicySet<S> {
     /// assert!(set.get_template(&PolicyID::from_string("t")).is_some());
     /// assert!(set.get_template_arc(&PolicyID::from_string("p")).is_some());
     /// // an id can be bound only once
-    /// let refusal = set.add_static(permit("t")).unwrap_err();
-    /// assert_eq!(refusal.to_string(), "duplicate template or policy id `t`");
+    /// let error = set.add_static(permit("t")).unwrap_err();
+    /// assert_eq!(error.to_string(), "duplicate template or policy id `t`");
     /// # Ok::<(), Box<dyn std::error::Error>>(())
     /// ```
     pub fn get(&self, id: &PolicyID) -> Option<&Policy> {
@@ -187,7 +187,7 @@ impl<S: BuildHasher + Copy> PolicySet<S> {
     /// # #[allow(unused)]
     /// # fn uid(text: &str) -> EntityUID { EntityUID::from_normalized_str(text).unwrap() }
     /// # #[allow(unused)]
-    /// # fn under(own: &str, parents: &[&str]) -> Entity {
+    /// # fn entity_with(own: &str, parents: &[&str]) -> Entity {
     /// #     let mut entity = Entity::with_uid(uid(own));
     /// #     parents.iter().for_each(|parent| entity.add_parent(uid(parent)));
     /// #     entity
@@ -209,8 +209,8 @@ impl<S: BuildHasher + Copy> PolicySet<S> {
     /// assert!(set.get_template(&PolicyID::from_string("t")).is_some());
     /// assert!(set.get_template_arc(&PolicyID::from_string("p")).is_some());
     /// // an id can be bound only once
-    /// let refusal = set.add_static(permit("t")).unwrap_err();
-    /// assert_eq!(refusal.to_string(), "duplicate template or policy id `t`");
+    /// let error = set.add_static(permit("t")).unwrap_err();
+    /// assert_eq!(error.to_string(), "duplicate template or policy id `t`");
     /// # Ok::<(), Box<dyn std::error::Error>>(())
     /// ```
     pub fn get_template_arc(&self, id: &PolicyID) -> Option<Arc<Template>> {
@@ -224,7 +224,7 @@ impl<S: BuildHasher + Copy> PolicySet<S> {
     /// # #[allow(unused)]
     /// # fn uid(text: &str) -> EntityUID { EntityUID::from_normalized_str(text).unwrap() }
     /// # #[allow(unused)]
-    /// # fn under(own: &str, parents: &[&str]) -> Entity {
+    /// # fn entity_with(own: &str, parents: &[&str]) -> Entity {
     /// #     let mut entity = Entity::with_uid(uid(own));
     /// #     parents.iter().for_each(|parent| entity.add_parent(uid(parent)));
     /// #     entity
@@ -246,8 +246,8 @@ impl<S: BuildHasher + Copy> PolicySet<S> {
     /// assert!(set.get_template(&PolicyID::from_string("t")).is_some());
     /// assert!(set.get_template_arc(&PolicyID::from_string("p")).is_some());
     /// // an id can be bound only once
-    /// let refusal = set.add_static(permit("t")).unwrap_err();
-    /// assert_eq!(refusal.to_string(), "duplicate template or policy id `t`");
+    /// let error = set.add_static(permit("t")).unwrap_err();
+    /// assert_eq!(error.to_string(), "duplicate template or policy id `t`");
     /// # Ok::<(), Box<dyn std::error::Error>>(())
     /// ```
     pub fn get_template(&self, id: &PolicyID) -> Option<&Template> {
@@ -261,7 +261,7 @@ impl<S: BuildHasher + Copy> PolicySet<S> {
     /// # #[allow(unused)]
     /// # fn uid(text: &str) -> EntityUID { EntityUID::from_normalized_str(text).unwrap() }
     /// # #[allow(unused)]
-    /// # fn under(own: &str, parents: &[&str]) -> Entity {
+    /// # fn entity_with(own: &str, parents: &[&str]) -> Entity {
     /// #     let mut entity = Entity::with_uid(uid(own));
     /// #     parents.iter().for_each(|parent| entity.add_parent(uid(parent)));
     /// #     entity
@@ -295,7 +295,7 @@ impl<S: BuildHasher + Copy> PolicySet<S> {
     /// # #[allow(unused)]
     /// # fn uid(text: &str) -> EntityUID { EntityUID::from_normalized_str(text).unwrap() }
     /// # #[allow(unused)]
-    /// # fn under(own: &str, parents: &[&str]) -> Entity {
+    /// # fn entity_with(own: &str, parents: &[&str]) -> Entity {
     /// #     let mut entity = Entity::with_uid(uid(own));
     /// #     parents.iter().for_each(|parent| entity.add_parent(uid(parent)));
     /// #     entity
@@ -330,7 +330,7 @@ impl<S: BuildHasher + Copy> PolicySet<S> {
     /// # #[allow(unused)]
     /// # fn uid(text: &str) -> EntityUID { EntityUID::from_normalized_str(text).unwrap() }
     /// # #[allow(unused)]
-    /// # fn under(own: &str, parents: &[&str]) -> Entity {
+    /// # fn entity_with(own: &str, parents: &[&str]) -> Entity {
     /// #     let mut entity = Entity::with_uid(uid(own));
     /// #     parents.iter().for_each(|parent| entity.add_parent(uid(parent)));
     /// #     entity
@@ -364,7 +364,7 @@ impl<S: BuildHasher + Copy> PolicySet<S> {
     /// # #[allow(unused)]
     /// # fn uid(text: &str) -> EntityUID { EntityUID::from_normalized_str(text).unwrap() }
     /// # #[allow(unused)]
-    /// # fn under(own: &str, parents: &[&str]) -> Entity {
+    /// # fn entity_with(own: &str, parents: &[&str]) -> Entity {
     /// #     let mut entity = Entity::with_uid(uid(own));
     /// #     parents.iter().for_each(|parent| entity.add_parent(uid(parent)));
     /// #     entity
@@ -398,7 +398,7 @@ impl<S: BuildHasher + Copy> PolicySet<S> {
     /// # #[allow(unused)]
     /// # fn uid(text: &str) -> EntityUID { EntityUID::from_normalized_str(text).unwrap() }
     /// # #[allow(unused)]
-    /// # fn under(own: &str, parents: &[&str]) -> Entity {
+    /// # fn entity_with(own: &str, parents: &[&str]) -> Entity {
     /// #     let mut entity = Entity::with_uid(uid(own));
     /// #     parents.iter().for_each(|parent| entity.add_parent(uid(parent)));
     /// #     entity
@@ -441,7 +441,7 @@ impl<S: BuildHasher + Copy> PolicySet<S> {
     /// # #[allow(unused)]
     /// # fn uid(text: &str) -> EntityUID { EntityUID::from_normalized_str(text).unwrap() }
     /// # #[allow(unused)]
-    /// # fn under(own: &str, parents: &[&str]) -> Entity {
+    /// # fn entity_with(own: &str, parents: &[&str]) -> Entity {
     /// #     let mut entity = Entity::with_uid(uid(own));
     /// #     parents.iter().for_each(|parent| entity.add_parent(uid(parent)));
     /// #     entity

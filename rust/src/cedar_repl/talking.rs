@@ -112,7 +112,7 @@ fn converse<S: BuildHasher + Copy, R: Read, W: Write>(
 /// # #[allow(unused)]
 /// # fn uid(text: &str) -> EntityUID { EntityUID::from_normalized_str(text).unwrap() }
 /// # #[allow(unused)]
-/// # fn under(own: &str, parents: &[&str]) -> Entity {
+/// # fn entity_with(own: &str, parents: &[&str]) -> Entity {
 /// #     let mut entity = Entity::with_uid(uid(own));
 /// #     parents.iter().for_each(|parent| entity.add_parent(uid(parent)));
 /// #     entity
@@ -128,9 +128,9 @@ fn converse<S: BuildHasher + Copy, R: Read, W: Write>(
 /// # }
 /// use cedar_store::program::{ErrorMode, help_texts, talk};
 /// let key = cedar_store::KeyedState::with_keys(1, 2);
-/// let (mut lines, mut told) = (&b"build\nfrob\nhelp store\n"[..], Vec::new());
-/// assert_eq!(talk(key, ErrorMode::Lenient, &mut lines, &mut told)?, 0);
-/// assert_eq!(told, [b"ok 0\nline 2: not a command\n", help_texts().0.as_bytes()].concat());
+/// let (mut lines, mut written) = (&b"build\nfrob\nhelp store\n"[..], Vec::new());
+/// assert_eq!(talk(key, ErrorMode::Lenient, &mut lines, &mut written)?, 0);
+/// assert_eq!(written, [b"ok 0\nline 2: not a command\n", help_texts().0.as_bytes()].concat());
 /// # Ok::<(), Box<dyn std::error::Error>>(())
 /// ```
 pub fn talk<S: BuildHasher + Copy, R: Read, W: Write>(

@@ -67,7 +67,7 @@ fn replay_one<S: BuildHasher + Copy>(store: Entities<S>, call: EntityCall) -> Re
 /// # #[allow(unused)]
 /// # fn uid(text: &str) -> EntityUID { EntityUID::from_normalized_str(text).unwrap() }
 /// # #[allow(unused)]
-/// # fn under(own: &str, parents: &[&str]) -> Entity {
+/// # fn entity_with(own: &str, parents: &[&str]) -> Entity {
 /// #     let mut entity = Entity::with_uid(uid(own));
 /// #     parents.iter().for_each(|parent| entity.add_parent(uid(parent)));
 /// #     entity
@@ -83,7 +83,7 @@ fn replay_one<S: BuildHasher + Copy>(store: Entities<S>, call: EntityCall) -> Re
 /// # }
 /// use cedar_store::replay::{EntityCall, replay_entities, replay_entities_with_hasher};
 /// let calls = || {
-///     let chain = vec![under(r#"A::"a""#, &[r#"A::"b""#]), under(r#"A::"b""#, &[])];
+///     let chain = vec![entity_with(r#"A::"a""#, &[r#"A::"b""#]), entity_with(r#"A::"b""#, &[])];
 ///     vec![EntityCall::From(chain), EntityCall::Remove(vec![uid(r#"A::"b""#)])]
 /// };
 /// let store = replay_entities(calls()).expect("every call succeeds");
@@ -106,7 +106,7 @@ pub fn replay_entities(calls: impl IntoIterator<Item = EntityCall>) -> Result<En
 /// # #[allow(unused)]
 /// # fn uid(text: &str) -> EntityUID { EntityUID::from_normalized_str(text).unwrap() }
 /// # #[allow(unused)]
-/// # fn under(own: &str, parents: &[&str]) -> Entity {
+/// # fn entity_with(own: &str, parents: &[&str]) -> Entity {
 /// #     let mut entity = Entity::with_uid(uid(own));
 /// #     parents.iter().for_each(|parent| entity.add_parent(uid(parent)));
 /// #     entity
@@ -122,7 +122,7 @@ pub fn replay_entities(calls: impl IntoIterator<Item = EntityCall>) -> Result<En
 /// # }
 /// use cedar_store::replay::{EntityCall, replay_entities, replay_entities_with_hasher};
 /// let calls = || {
-///     let chain = vec![under(r#"A::"a""#, &[r#"A::"b""#]), under(r#"A::"b""#, &[])];
+///     let chain = vec![entity_with(r#"A::"a""#, &[r#"A::"b""#]), entity_with(r#"A::"b""#, &[])];
 ///     vec![EntityCall::From(chain), EntityCall::Remove(vec![uid(r#"A::"b""#)])]
 /// };
 /// let store = replay_entities(calls()).expect("every call succeeds");

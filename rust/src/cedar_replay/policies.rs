@@ -54,7 +54,7 @@ fn append<S: BuildHasher>(answers: &mut Vec<Answer<S>>, answer: Answer<S>) {
 /// # #[allow(unused)]
 /// # fn uid(text: &str) -> EntityUID { EntityUID::from_normalized_str(text).unwrap() }
 /// # #[allow(unused)]
-/// # fn under(own: &str, parents: &[&str]) -> Entity {
+/// # fn entity_with(own: &str, parents: &[&str]) -> Entity {
 /// #     let mut entity = Entity::with_uid(uid(own));
 /// #     parents.iter().for_each(|parent| entity.add_parent(uid(parent)));
 /// #     entity
@@ -71,8 +71,8 @@ fn append<S: BuildHasher>(answers: &mut Vec<Answer<S>>, answer: Answer<S>) {
 /// use cedar_store::replay::{Answer, PolicyCall, replay_policies};
 /// let mut set = PolicySet::new();
 /// let calls = vec![PolicyCall::AddStatic(permit("p")), PolicyCall::AddStatic(permit("p"))];
-/// let answers = replay_policies(&mut set, calls);
-/// assert!(matches!(answers[..], [Answer::AddStatic(Ok(())), Answer::AddStatic(Err(_))]));
+/// let results = replay_policies(&mut set, calls);
+/// assert!(matches!(results[..], [Answer::AddStatic(Ok(())), Answer::AddStatic(Err(_))]));
 /// ```
 pub fn replay_policies<S: BuildHasher + Copy>(set: &mut PolicySet<S>, calls: Vec<PolicyCall<S>>) -> Vec<Answer<S>> {
     let mut answers = Vec::with_capacity(calls.len());

@@ -85,7 +85,7 @@ fn part_of<S: BuildHasher + Clone>(store: &Entities<S>, uids: &[EntityUID]) -> E
 /// # #[allow(unused)]
 /// # fn uid(text: &str) -> EntityUID { EntityUID::from_normalized_str(text).unwrap() }
 /// # #[allow(unused)]
-/// # fn under(own: &str, parents: &[&str]) -> Entity {
+/// # fn entity_with(own: &str, parents: &[&str]) -> Entity {
 /// #     let mut entity = Entity::with_uid(uid(own));
 /// #     parents.iter().for_each(|parent| entity.add_parent(uid(parent)));
 /// #     entity
@@ -100,7 +100,7 @@ fn part_of<S: BuildHasher + Clone>(store: &Entities<S>, uids: &[EntityUID]) -> E
 /// #     StaticPolicy::try_from(template(name, PrincipalConstraint::any())).unwrap()
 /// # }
 /// use cedar_store::slice;
-/// let all = [under(r#"A::"a""#, &[r#"A::"b""#]), under(r#"A::"b""#, &[]), under(r#"A::"z""#, &[r#"A::"b""#])];
+/// let all = [entity_with(r#"A::"a""#, &[r#"A::"b""#]), entity_with(r#"A::"b""#, &[]), entity_with(r#"A::"z""#, &[r#"A::"b""#])];
 /// let store = Entities::from_entities(all, TCComputation::ComputeNow)?;
 /// // the requested entities and their ancestors
 /// let part = slice(&store, &[uid(r#"A::"a""#)]);

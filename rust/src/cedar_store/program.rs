@@ -140,7 +140,7 @@ fn run_by<S: BuildHasher + Copy, R: Read, W: Write>(
 /// # #[allow(unused)]
 /// # fn uid(text: &str) -> EntityUID { EntityUID::from_normalized_str(text).unwrap() }
 /// # #[allow(unused)]
-/// # fn under(own: &str, parents: &[&str]) -> Entity {
+/// # fn entity_with(own: &str, parents: &[&str]) -> Entity {
 /// #     let mut entity = Entity::with_uid(uid(own));
 /// #     parents.iter().for_each(|parent| entity.add_parent(uid(parent)));
 /// #     entity
@@ -183,7 +183,7 @@ pub fn run<R: Read, W: Write>(reader: &mut R, writer: &mut W) -> Result<u8, RunE
 /// # #[allow(unused)]
 /// # fn uid(text: &str) -> EntityUID { EntityUID::from_normalized_str(text).unwrap() }
 /// # #[allow(unused)]
-/// # fn under(own: &str, parents: &[&str]) -> Entity {
+/// # fn entity_with(own: &str, parents: &[&str]) -> Entity {
 /// #     let mut entity = Entity::with_uid(uid(own));
 /// #     parents.iter().for_each(|parent| entity.add_parent(uid(parent)));
 /// #     entity
@@ -236,7 +236,7 @@ pub fn run_with<S: BuildHasher + Copy, R: Read, W: Write>(
 /// # #[allow(unused)]
 /// # fn uid(text: &str) -> EntityUID { EntityUID::from_normalized_str(text).unwrap() }
 /// # #[allow(unused)]
-/// # fn under(own: &str, parents: &[&str]) -> Entity {
+/// # fn entity_with(own: &str, parents: &[&str]) -> Entity {
 /// #     let mut entity = Entity::with_uid(uid(own));
 /// #     parents.iter().for_each(|parent| entity.add_parent(uid(parent)));
 /// #     entity
@@ -279,7 +279,7 @@ pub fn run_and_leave<R: Read, W: Write>(reader: &mut R, writer: &mut W) -> Resul
 /// # #[allow(unused)]
 /// # fn uid(text: &str) -> EntityUID { EntityUID::from_normalized_str(text).unwrap() }
 /// # #[allow(unused)]
-/// # fn under(own: &str, parents: &[&str]) -> Entity {
+/// # fn entity_with(own: &str, parents: &[&str]) -> Entity {
 /// #     let mut entity = Entity::with_uid(uid(own));
 /// #     parents.iter().for_each(|parent| entity.add_parent(uid(parent)));
 /// #     entity

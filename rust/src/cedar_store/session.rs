@@ -34,7 +34,7 @@ pub struct Session<S: BuildHasher = KeyedState> {
 /// # #[allow(unused)]
 /// # fn uid(text: &str) -> EntityUID { EntityUID::from_normalized_str(text).unwrap() }
 /// # #[allow(unused)]
-/// # fn under(own: &str, parents: &[&str]) -> Entity {
+/// # fn entity_with(own: &str, parents: &[&str]) -> Entity {
 /// #     let mut entity = Entity::with_uid(uid(own));
 /// #     parents.iter().for_each(|parent| entity.add_parent(uid(parent)));
 /// #     entity
@@ -79,7 +79,7 @@ impl Session {
     /// # #[allow(unused)]
     /// # fn uid(text: &str) -> EntityUID { EntityUID::from_normalized_str(text).unwrap() }
     /// # #[allow(unused)]
-    /// # fn under(own: &str, parents: &[&str]) -> Entity {
+    /// # fn entity_with(own: &str, parents: &[&str]) -> Entity {
     /// #     let mut entity = Entity::with_uid(uid(own));
     /// #     parents.iter().for_each(|parent| entity.add_parent(uid(parent)));
     /// #     entity
@@ -115,7 +115,7 @@ impl<S: BuildHasher + Copy> Session<S> {
     /// # #[allow(unused)]
     /// # fn uid(text: &str) -> EntityUID { EntityUID::from_normalized_str(text).unwrap() }
     /// # #[allow(unused)]
-    /// # fn under(own: &str, parents: &[&str]) -> Entity {
+    /// # fn entity_with(own: &str, parents: &[&str]) -> Entity {
     /// #     let mut entity = Entity::with_uid(uid(own));
     /// #     parents.iter().for_each(|parent| entity.add_parent(uid(parent)));
     /// #     entity
@@ -215,7 +215,7 @@ impl<S: BuildHasher + Copy> Session<S> {
     /// # #[allow(unused)]
     /// # fn uid(text: &str) -> EntityUID { EntityUID::from_normalized_str(text).unwrap() }
     /// # #[allow(unused)]
-    /// # fn under(own: &str, parents: &[&str]) -> Entity {
+    /// # fn entity_with(own: &str, parents: &[&str]) -> Entity {
     /// #     let mut entity = Entity::with_uid(uid(own));
     /// #     parents.iter().for_each(|parent| entity.add_parent(uid(parent)));
     /// #     entity

@@ -1,5 +1,6 @@
 //! Code that is written by hand. It is not generated from the sources of the layer.
 mod conversions;
+mod dot;
 pub(crate) mod ordered_map;
 #[cfg(test)]
 mod ordered_map_tests;

@@ -5,6 +5,15 @@ use cedar_store::ast::{Entity, EntityUID, PolicyID, SlotEnv, SlotId};
 use std::collections::HashMap;
 use std::sync::Arc;
 
+/// Returns the number of rounds of a random test: `all`, or a twentieth of it if `CEDAR_QUICK_TESTS` is set.
+pub fn rounds(all: u64) -> u64 {
+    if std::env::var_os("CEDAR_QUICK_TESTS").is_some() {
+        all / 20
+    } else {
+        all
+    }
+}
+
 /// Parses a uid.
 pub fn uid(text: &str) -> EntityUID {
     EntityUID::from_normalized_str(text).expect("a valid uid")
@@ -25,8 +34,9 @@ pub fn child(eid: &str, parents: &[&str]) -> Entity {
 }
 
 /// Returns entities under their uids. Each has an eid and the eids of its parents.
-pub fn graph(rows: &[(&str, &[&str])]) -> HashMap<EntityUID, Entity> {
-    rows.iter()
+pub fn graph(nodes: &[(&str, &[&str])]) -> HashMap<EntityUID, Entity> {
+    nodes
+        .iter()
         .map(|(eid, parents)| (with_eid(eid), child(eid, parents)))
         .collect()
 }
@@ -45,19 +55,19 @@ pub fn resource(uid: EntityUID) -> SlotEnv {
     SlotEnv::from([(SlotId::resource(), uid)])
 }
 
-pub fn shared<T>(thing: T) -> Arc<T> {
-    Arc::new(thing)
+pub fn shared<T>(value: T) -> Arc<T> {
+    Arc::new(value)
 }
 
 /// A generator of pseudorandom numbers. The same seed always gives the same numbers.
-pub struct Drawn(u64);
+pub struct Random(u64);
 
-impl Drawn {
-    pub fn new(seed: u64) -> Drawn {
-        Drawn(seed.wrapping_mul(0x9E37_79B9_7F4A_7C15) | 1)
+impl Random {
+    pub fn new(seed: u64) -> Random {
+        Random(seed.wrapping_mul(0x9E37_79B9_7F4A_7C15) | 1)
     }
 
-    pub fn number(&mut self) -> u64 {
+    pub fn next_u64(&mut self) -> u64 {
         self.0 ^= self.0 << 13;
         self.0 ^= self.0 >> 7;
         self.0 ^= self.0 << 17;
@@ -66,16 +76,16 @@ impl Drawn {
 
     /// Returns a number below `limit`.
     pub fn below(&mut self, limit: usize) -> usize {
-        usize::try_from(self.number() >> 33).expect("31 bits") % limit
+        usize::try_from(self.next_u64() >> 33).expect("31 bits") % limit
     }
 
     /// Returns an item of a list.
-    pub fn one_of<'a, T>(&mut self, all: &'a [T]) -> &'a T {
-        &all[self.below(all.len())]
+    pub fn choose<'a, T>(&mut self, items: &'a [T]) -> &'a T {
+        &items[self.below(items.len())]
     }
 
-    /// Returns true once in `times` calls on average.
-    pub fn once_in(&mut self, times: usize) -> bool {
-        self.below(times) == 0
+    /// Returns true in one of `count` calls, on average.
+    pub fn one_in(&mut self, count: usize) -> bool {
+        self.below(count) == 0
     }
 }

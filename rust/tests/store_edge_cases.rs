@@ -7,7 +7,7 @@ use common::uid;
 use std::sync::Arc;
 
 #[test]
-fn stores_are_equal_where_their_uids_and_modes_are() {
+fn stores_with_equal_uids_and_modes_are_equal() {
     let store = |texts: &[&str]| {
         let entities = texts.iter().map(|text| Entity::with_uid(uid(text)));
         Entities::from_entities(entities, TCComputation::ComputeNow).unwrap()
@@ -18,16 +18,16 @@ fn stores_are_equal_where_their_uids_and_modes_are() {
         store(&[r#"A::"a""#, r#"A::"b""#]),
     );
     assert!(one == one.clone());
-    for unlike in [&other, &more, &one.clone().partial()] {
-        assert!(one != *unlike);
-        assert!(*unlike != one);
+    for different in [&other, &more, &one.clone().partial()] {
+        assert!(one != *different);
+        assert!(*different != one);
     }
 }
 
 /// Entities with indirect ancestors of their own: an edit must find affected entities by their ancestors, because a
 /// search down from the uids would miss some.
 #[test]
-fn what_comes_with_indirect_ancestors_is_edited_by_what_is_held() {
+fn edits_find_entities_by_their_indirect_ancestors() {
     let name = |number: usize| uid(&format!(r#"A::"{number}""#));
     let entities: Vec<Entity> = (0..100)
         .map(|number| {

@@ -5,8 +5,8 @@ use std::collections::{BTreeSet, HashMap};
 /// A service with its direct dependencies and its indirect dependencies.
 struct Service {
     name: String,
-    needs: BTreeSet<String>,
-    over_others: BTreeSet<String>,
+    direct: BTreeSet<String>,
+    indirect: BTreeSet<String>,
 }
 
 impl TCNode<String> for Service {
@@ -15,53 +15,56 @@ impl TCNode<String> for Service {
     }
 
     fn add_edge_to(&mut self, name: String) {
-        if !self.needs.contains(&name) {
-            self.over_others.insert(name);
+        if !self.direct.contains(&name) {
+            self.indirect.insert(name);
         }
     }
 
     fn out_edges(&self) -> Box<dyn Iterator<Item = &String> + '_> {
-        Box::new(self.needs.iter().chain(&self.over_others))
+        Box::new(self.direct.iter().chain(&self.indirect))
     }
 
     fn has_edge_to(&self, name: &String) -> bool {
-        self.needs.contains(name) || self.over_others.contains(name)
+        self.direct.contains(name) || self.indirect.contains(name)
     }
 
     fn direct_edges(&self) -> Box<dyn Iterator<Item = &String> + '_> {
-        Box::new(self.needs.iter())
+        Box::new(self.direct.iter())
     }
 
     fn reset_edges(&mut self) {
-        self.over_others.clear();
+        self.indirect.clear();
     }
 }
 
-fn services(rows: &[(&str, &[&str])]) -> HashMap<String, Service> {
-    let service = |(name, needs): &(&str, &[&str])| Service {
+fn services(dependencies: &[(&str, &[&str])]) -> HashMap<String, Service> {
+    let service = |(name, direct): &(&str, &[&str])| Service {
         name: (*name).to_string(),
-        needs: needs.iter().map(ToString::to_string).collect(),
-        over_others: BTreeSet::new(),
+        direct: direct.iter().map(ToString::to_string).collect(),
+        indirect: BTreeSet::new(),
     };
-    rows.iter().map(|row| (row.0.to_string(), service(row))).collect()
+    dependencies
+        .iter()
+        .map(|entry| (entry.0.to_string(), service(entry)))
+        .collect()
 }
 
 fn main() {
-    let mut all = services(&[
+    let mut services_by_name = services(&[
         ("shop", &["orders"]),
         ("orders", &["database", "mail"]),
         ("mail", &["queue"]),
     ]);
-    println!("closed before: {}", enforce_tc_and_dag(&all).is_ok());
-    compute_tc(&mut all, true).expect("there is no cycle");
-    println!("closed now: {}", enforce_tc_and_dag(&all).is_ok());
+    println!("closed before: {}", enforce_tc_and_dag(&services_by_name).is_ok());
+    compute_tc(&mut services_by_name, true).expect("there is no cycle");
+    println!("closed now: {}", enforce_tc_and_dag(&services_by_name).is_ok());
     println!(
         "shop needs {:?} directly and {:?} indirectly",
-        all["shop"].needs, all["shop"].over_others
+        services_by_name["shop"].direct, services_by_name["shop"].indirect
     );
 
-    let mut ring = services(&[("one", &["other"]), ("other", &["one"])]);
-    match compute_tc(&mut ring, true) {
+    let mut cycle_of_two = services(&[("one", &["other"]), ("other", &["one"])]);
+    match compute_tc(&mut cycle_of_two, true) {
         Err(TcError::HasCycle(cycle)) => {
             println!(
                 "a cycle through one or other: {}",

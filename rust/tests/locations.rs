@@ -23,21 +23,21 @@ fn start(loc: Option<&Loc>) -> Option<usize> {
 }
 
 /// Returns a uid with a location.
-fn placed(text: &str, start: usize) -> EntityUID {
+fn uid_at(text: &str, start: usize) -> EntityUID {
     let (ty, eid) = uid(text).components();
     EntityUID::from_components(ty, eid, at(start))
 }
 
-fn notes() -> Annotations {
+fn annotations() -> Annotations {
     let key = AnyId::from_normalized_str("k").unwrap();
-    let note = Annotation {
+    let annotation = Annotation {
         val: "v".into(),
         loc: at(4),
     };
-    Annotations::try_from_iter([(key, note)])
+    Annotations::try_from_iter([(key, annotation)])
 }
 
-fn slot(start: usize) -> PrincipalOrResourceConstraint {
+fn slot_constraint(start: usize) -> PrincipalOrResourceConstraint {
     PrincipalOrResourceConstraint::Eq(EntityReference::Slot(at(start)))
 }
 
@@ -47,11 +47,11 @@ fn template(clause: Option<Expr>) -> Template {
     Template::new(
         id("t"),
         at(1),
-        notes(),
+        annotations(),
         Effect::Permit,
-        PrincipalConstraint::new(slot(3)),
+        PrincipalConstraint::new(slot_constraint(3)),
         ActionConstraint::EqSlot(at(6)),
-        ResourceConstraint::new(slot(5)),
+        ResourceConstraint::new(slot_constraint(5)),
         clause,
     )
 }
@@ -61,20 +61,20 @@ fn principal_slot(start: usize) -> Expr {
 }
 
 /// Returns the locations of the annotation, of the slot in a constraint, and of the template.
-fn starts_of(template: &Template) -> [Option<usize>; 3] {
+fn starts(template: &Template) -> [Option<usize>; 3] {
     let key = AnyId::from_normalized_str("k").unwrap();
-    let note = template.annotation(&key).and_then(|note| note.loc.as_ref());
+    let annotation_start = template.annotation(&key).and_then(|annotation| annotation.loc.as_ref());
     let reference = match template.principal_constraint().as_inner() {
         PrincipalOrResourceConstraint::Eq(EntityReference::Slot(loc)) => start(loc.as_ref()),
         _ => None,
     };
-    [start(template.loc()), start(note), reference]
+    [start(template.loc()), start(annotation_start), reference]
 }
 
 #[test]
-fn templates_keep_places_whatever_is_made_of_them() {
+fn templates_keep_locations_in_copies_and_conversions() {
     let one = template(Some(principal_slot(7)));
-    let due = [Some(1), Some(4), Some(3)];
+    let expected = [Some(1), Some(4), Some(3)];
     let body = TemplateBody::from(one.clone());
     assert_eq!(start(body.loc()), Some(1));
     for other in [
@@ -83,7 +83,7 @@ fn templates_keep_places_whatever_is_made_of_them() {
         Template::from_body(body.clone()),
         Template::from_body(body.new_id(id("u"))),
     ] {
-        assert_eq!(starts_of(&other), due);
+        assert_eq!(starts(&other), expected);
         let slots: Vec<_> = other.slots().map(|slot| (slot.id, start(slot.loc.as_ref()))).collect();
         assert_eq!(
             slots,
@@ -99,25 +99,26 @@ fn templates_keep_places_whatever_is_made_of_them() {
 }
 
 #[test]
-fn what_is_made_of_shared_parts_and_of_a_clause_has_its_location() {
-    let annotations = shared(notes());
+fn constructors_keep_the_locations_of_shared_parts_and_clauses() {
+    let shared_annotations = shared(annotations());
     let one = Template::new_shared(
         id("t"),
         at(1),
-        annotations.clone(),
+        shared_annotations.clone(),
         Effect::Permit,
-        PrincipalConstraint::new(slot(3)),
+        PrincipalConstraint::new(slot_constraint(3)),
         ActionConstraint::EqSlot(at(6)),
-        ResourceConstraint::new(slot(5)),
+        ResourceConstraint::new(slot_constraint(5)),
         Some(shared(principal_slot(7))),
     );
-    assert_eq!(starts_of(&one), [Some(1), Some(4), Some(3)]);
+    assert_eq!(starts(&one), [Some(1), Some(4), Some(3)]);
     let slots: Vec<_> = one.slots().map(|slot| start(slot.loc.as_ref())).collect();
     assert_eq!(slots, [Some(7), Some(5), Some(6), Some(3)]);
     let clause = || Expr::val(true).with_maybe_source_loc(at(8));
-    let bare = Policy::from_when_clause(Effect::Forbid, clause(), id("p"), at(2));
-    let noted = Policy::from_when_clause_annos(Effect::Forbid, shared(clause()), id("p"), at(2), annotations);
-    for policy in [&bare, &noted] {
+    let unannotated = Policy::from_when_clause(Effect::Forbid, clause(), id("p"), at(2));
+    let annotated =
+        Policy::from_when_clause_annos(Effect::Forbid, shared(clause()), id("p"), at(2), shared_annotations);
+    for policy in [&unannotated, &annotated] {
         assert_eq!((policy.id(), policy.effect()), (&id("p"), Effect::Forbid));
         assert_eq!(
             (start(policy.loc()), start(policy.template().loc())),
@@ -126,8 +127,8 @@ fn what_is_made_of_shared_parts_and_of_a_clause_has_its_location() {
         let clause = policy.non_scope_constraints().expect("it has a clause");
         assert_eq!(start(clause.source_loc()), Some(8));
     }
-    assert_eq!(starts_of(noted.template()), [Some(2), Some(4), None]);
-    assert_eq!(starts_of(bare.template()), [Some(2), None, None]);
+    assert_eq!(starts(annotated.template()), [Some(2), Some(4), None]);
+    assert_eq!(starts(unannotated.template()), [Some(2), None, None]);
     assert_eq!(
         start(Policy::from_when_clause(Effect::Permit, clause(), id("p"), None).loc()),
         None
@@ -135,12 +136,12 @@ fn what_is_made_of_shared_parts_and_of_a_clause_has_its_location() {
 }
 
 #[test]
-fn places_count_in_no_comparison_and_parts_do() {
-    let unplaced = || {
+fn comparisons_ignore_locations() {
+    let without_locations = || {
         Template::new(
             id("t"),
             None,
-            notes(),
+            annotations(),
             Effect::Permit,
             PrincipalConstraint::is_eq_slot(),
             ActionConstraint::is_eq_slot(),
@@ -148,10 +149,10 @@ fn places_count_in_no_comparison_and_parts_do() {
             None,
         )
     };
-    assert_eq!(template(None), unplaced());
+    assert_eq!(template(None), without_locations());
     let other =
         |effect: Effect, principal: PrincipalConstraint, action: ActionConstraint, resource: ResourceConstraint| {
-            Template::new(id("t"), None, notes(), effect, principal, action, resource, None)
+            Template::new(id("t"), None, annotations(), effect, principal, action, resource, None)
         };
     let (principal, action, resource) = (
         PrincipalConstraint::is_eq_slot,
@@ -159,8 +160,8 @@ fn places_count_in_no_comparison_and_parts_do() {
         ResourceConstraint::is_eq_slot,
     );
     let all = [
-        unplaced(),
-        unplaced().new_id(id("u")),
+        without_locations(),
+        without_locations().new_id(id("u")),
         template(Some(principal_slot(7))),
         other(Effect::Forbid, principal(), action(), resource()),
         other(Effect::Permit, PrincipalConstraint::is_in_slot(), action(), resource()),
@@ -186,28 +187,28 @@ fn places_count_in_no_comparison_and_parts_do() {
 
 fn bindings() -> SlotEnv {
     SlotEnv::from([
-        (SlotId::principal(), placed(r#"A::"p""#, 12)),
-        (SlotId::action(), placed(r#"N::Action::"é""#, 14)),
-        (SlotId::resource(), placed(r#"A::"r""#, 13)),
+        (SlotId::principal(), uid_at(r#"A::"p""#, 12)),
+        (SlotId::action(), uid_at(r#"N::Action::"é""#, 14)),
+        (SlotId::resource(), uid_at(r#"A::"r""#, 13)),
     ])
 }
 
-fn filled(constraint: &PrincipalOrResourceConstraint) -> (String, Option<usize>) {
+fn filled_uid(constraint: &PrincipalOrResourceConstraint) -> (String, Option<usize>) {
     let euid = constraint.get_euid().expect("it is filled");
     (euid.to_string(), start(euid.loc()))
 }
 
 #[test]
-fn links_have_the_places_of_what_their_slots_are_bound_to() {
+fn links_have_the_locations_of_the_bound_uids() {
     let link = Template::link(shared(template(None)), id("l"), bindings()).expect("all slots are bound");
     for link in [link.clone(), link.new_id(id("l"))] {
         assert_eq!(start(link.loc()), Some(1));
         assert_eq!(
-            filled(link.principal_constraint().as_inner()),
+            filled_uid(link.principal_constraint().as_inner()),
             (r#"A::"p""#.into(), Some(12))
         );
         assert_eq!(
-            filled(link.resource_constraint().as_inner()),
+            filled_uid(link.resource_constraint().as_inner()),
             (r#"A::"r""#.into(), Some(13))
         );
         match link.action_constraint() {
@@ -224,40 +225,43 @@ fn links_have_the_places_of_what_their_slots_are_bound_to() {
             r#"Template Instance of t, slots: [?principal -> A::"p",?action -> N::Action::"é",?resource -> A::"r"]"#
         );
     }
-    let moved = link.clone().new_template_id(id("u")).expect("it is a link");
-    assert_eq!((moved.template().id(), moved.id()), (&id("u"), &id("l")));
-    let (own, name, values) = link.clone().into_components();
-    assert_eq!((own.id(), name, values.len()), (&id("t"), Some(id("l")), 3));
+    let with_new_template_id = link.clone().new_template_id(id("u")).expect("it is a link");
+    assert_eq!(
+        (with_new_template_id.template().id(), with_new_template_id.id()),
+        (&id("u"), &id("l"))
+    );
+    let (link_template, name, values) = link.clone().into_components();
+    assert_eq!((link_template.id(), name, values.len()), (&id("t"), Some(id("l")), 3));
     // equal if the template, the id and the bindings are equal, for any locations
-    let elsewhere = SlotEnv::from([
+    let unlocated = SlotEnv::from([
         (SlotId::resource(), uid(r#"A::"r""#)),
         (SlotId::action(), uid(r#"N::Action::"é""#)),
         (SlotId::principal(), uid(r#"A::"p""#)),
     ]);
     assert_eq!(
         link,
-        Template::link(shared(template(None)), id("l"), elsewhere.clone()).unwrap()
+        Template::link(shared(template(None)), id("l"), unlocated.clone()).unwrap()
     );
     for (slot, text) in [
         (SlotId::principal(), r#"A::"x""#),
         (SlotId::action(), r#"Action::"é""#),
         (SlotId::resource(), r#"B::"r""#),
     ] {
-        let mut values = elsewhere.clone();
+        let mut values = unlocated.clone();
         values.insert(slot, uid(text));
         assert_ne!(link, Template::link(shared(template(None)), id("l"), values).unwrap());
     }
     assert_ne!(
         link,
-        Template::link(shared(template(None)), id("m"), elsewhere).unwrap()
+        Template::link(shared(template(None)), id("m"), unlocated).unwrap()
     );
 }
 
-fn unlinked(effect: Effect, clause: Option<Expr>) -> Result<StaticPolicy, UnexpectedSlotError> {
+fn static_policy(effect: Effect, clause: Option<Expr>) -> Result<StaticPolicy, UnexpectedSlotError> {
     StaticPolicy::new(
         id("p"),
         at(9),
-        notes(),
+        annotations(),
         effect,
         PrincipalConstraint::any(),
         ActionConstraint::any(),
@@ -267,8 +271,8 @@ fn unlinked(effect: Effect, clause: Option<Expr>) -> Result<StaticPolicy, Unexpe
 }
 
 #[test]
-fn static_policies_keep_places() {
-    let one = unlinked(Effect::Forbid, Some(Expr::val(1).with_maybe_source_loc(at(8)))).expect("no slot");
+fn static_policies_keep_locations() {
+    let one = static_policy(Effect::Forbid, Some(Expr::val(1).with_maybe_source_loc(at(8)))).expect("no slot");
     for policy in [
         one.clone(),
         one.new_id(id("p")),
@@ -288,13 +292,13 @@ fn static_policies_keep_places() {
     assert_eq!(start(policy.condition().source_loc()), Some(9));
     let renamed = policy.new_id(id("m"));
     assert_eq!((renamed.id(), renamed.template().id()), (&id("m"), &id("m")));
-    let (own, name, values) = renamed.into_components();
-    assert_eq!((own.id(), name, values.len()), (&id("m"), None, 0));
+    let (link_template, name, values) = renamed.into_components();
+    assert_eq!((link_template.id(), name, values.len()), (&id("m"), None, 0));
 }
 
 #[test]
-fn refusals_name_the_slot_where_it_stands() {
-    let found = |made: Template| match StaticPolicy::try_from(made) {
+fn errors_report_the_location_of_the_slot() {
+    let found = |template: Template| match StaticPolicy::try_from(template) {
         Err(UnexpectedSlotError::FoundSlot(slot)) => (slot.id, start(slot.loc.as_ref())),
         Ok(policy) => panic!("{policy}"),
     };
@@ -311,17 +315,20 @@ fn refusals_name_the_slot_where_it_stands() {
         other => panic!("{other:?}"),
     }
     let mut values = bindings();
-    values.insert(SlotId::action(), placed(r#"A::"x""#, 15));
+    values.insert(SlotId::action(), uid_at(r#"A::"x""#, 15));
     match Template::link(shared(template(None)), id("l"), values) {
-        Err(LinkingError::NotAnAction { uid: told }) => {
-            assert_eq!((told.clone(), start(told.loc())), (uid(r#"A::"x""#), Some(15)));
+        Err(LinkingError::NotAnAction { uid: reported_uid }) => {
+            assert_eq!(
+                (reported_uid.clone(), start(reported_uid.loc())),
+                (uid(r#"A::"x""#), Some(15))
+            );
         }
         other => panic!("{other:?}"),
     }
 }
 
 /// Returns a template without slots at a location.
-fn thing_at(name: &str, start: usize) -> Template {
+fn template_at(name: &str, start: usize) -> Template {
     Template::new(
         id(name),
         at(start),
@@ -337,17 +344,19 @@ fn thing_at(name: &str, start: usize) -> Template {
 /// A merge takes over the value of the other set for equal items: a static policy, a template, and a template with its
 /// link.
 #[test]
-fn merging_takes_the_others_places() {
-    fn thing(start: usize) -> Template {
-        thing_at("t", start)
+fn merge_uses_the_locations_of_the_other_set() {
+    fn slotless_template(start: usize) -> Template {
+        template_at("t", start)
     }
     fn set_at(kind: &str, start: usize) -> PolicySet {
         let mut set = PolicySet::new();
         match kind {
-            "static" => set.add(Template::try_as_policy(shared(thing(start))).unwrap()).unwrap(),
-            "template" => set.add_template(thing(start)).unwrap(),
+            "static" => set
+                .add(Template::try_as_policy(shared(slotless_template(start))).unwrap())
+                .unwrap(),
+            "template" => set.add_template(slotless_template(start)).unwrap(),
             _ => set
-                .add(Template::link(shared(thing(start)), id("l"), SlotEnv::new()).unwrap())
+                .add(Template::link(shared(slotless_template(start)), id("l"), SlotEnv::new()).unwrap())
                 .unwrap(),
         }
         set
@@ -360,27 +369,28 @@ fn merging_takes_the_others_places() {
             start(set.get(&id("l")).and_then(Policy::loc)),
         ]
     };
-    for (kind, held) in [
+    for (kind, present) in [
         ("static", [true, true, false]),
         ("template", [true, false, false]),
         ("link", [true, false, true]),
     ] {
         let (mut set, other) = (set_at(kind, 3), set_at(kind, 7));
-        assert_eq!(starts(&set), held.map(|is| is.then_some(3)));
+        assert_eq!(starts(&set), present.map(|is| is.then_some(3)));
         assert!(set.merge_policyset(&other, false).expect("they are equal").is_empty());
-        assert_eq!(starts(&set), held.map(|is| is.then_some(7)));
-        assert_eq!(starts(&other), held.map(|is| is.then_some(7)));
+        assert_eq!(starts(&set), present.map(|is| is.then_some(7)));
+        assert_eq!(starts(&other), present.map(|is| is.then_some(7)));
     }
 }
 
 /// Each of several policies takes over the location of the policy with its id, for any orders of the two sets.
 #[test]
-fn each_policy_takes_the_others_place_for_its_own_id() {
+fn merge_uses_the_location_of_the_policy_with_the_same_id() {
     fn set_of(ids: [&str; 3], first: usize) -> PolicySet {
         let mut set = PolicySet::new();
         for name in ids {
-            let thing = thing_at(name, first + name.len());
-            set.add(Template::try_as_policy(shared(thing)).unwrap()).unwrap();
+            let slotless_template = template_at(name, first + name.len());
+            set.add(Template::try_as_policy(shared(slotless_template)).unwrap())
+                .unwrap();
         }
         set
     }
@@ -398,15 +408,15 @@ fn span(loc: Option<&Loc>) -> Option<(usize, usize, String)> {
 }
 
 #[test]
-fn a_uid_that_is_read_stands_in_its_whole_text_and_its_type_before_the_eid() {
+fn parsed_uid_has_the_locations_of_its_text_and_its_type() {
     let text = r#"Photos::User::"é""#;
-    let read = uid(text);
-    assert_eq!(span(read.loc()), Some((0, text.len(), text.to_string())));
-    assert_eq!(span(read.entity_type().loc()), Some((0, 12, text.to_string())));
+    let parsed = uid(text);
+    assert_eq!(span(parsed.loc()), Some((0, text.len(), text.to_string())));
+    assert_eq!(span(parsed.entity_type().loc()), Some((0, 12, text.to_string())));
 }
 
 #[test]
-fn a_name_that_is_qualified_stays_where_it_stands() {
+fn qualified_name_keeps_its_location() {
     let user = Name::from_normalized_str("User").unwrap();
     let photos = Name::from_normalized_str("Photos").unwrap();
     let qualified = user.qualify_with_name(Some(&photos));
@@ -417,9 +427,9 @@ fn a_name_that_is_qualified_stays_where_it_stands() {
 /// Equal links of a template that both sets share: the bound uid and its type take over the locations of the other set,
 /// for any kind of difference.
 #[test]
-fn merging_takes_the_others_place_of_a_uid_that_is_bound() {
+fn merge_uses_the_location_of_a_bound_uid() {
     let text: std::sync::Arc<str> = r#"User::"x" in more"#.into();
-    let places = [
+    let locations = [
         None,
         Some(Loc::new(0, 9, text.clone())),
         Some(Loc::new(0, 8, text.clone())),
@@ -427,7 +437,7 @@ fn merging_takes_the_others_place_of_a_uid_that_is_bound() {
         Some(Loc::new(0, 9, r#"User::"x" elsewhere"#.into())),
     ];
     let mut base = PolicySet::new();
-    let principal = PrincipalConstraint::new(slot(3));
+    let principal = PrincipalConstraint::new(slot_constraint(3));
     let (action, resource) = (ActionConstraint::any(), ResourceConstraint::any());
     let one = Template::new(
         id("t"),
@@ -441,20 +451,20 @@ fn merging_takes_the_others_place_of_a_uid_that_is_bound() {
     );
     base.add_template(one).unwrap();
     let user = uid(r#"User::"x""#);
-    let linked = |place: &Option<Loc>, of_type: &Option<Loc>| {
+    let linked = |location: &Option<Loc>, type_location: &Option<Loc>| {
         let (ty, eid) = user.clone().components();
         let mut values = SlotEnv::new();
         values.insert(
             SlotId::principal(),
-            EntityUID::from_components(ty.with_loc(of_type.as_ref()), eid, place.clone()),
+            EntityUID::from_components(ty.with_loc(type_location.as_ref()), eid, location.clone()),
         );
         let mut set = base.clone();
         set.link(id("t"), id("l"), values).unwrap();
         set
     };
-    for (here, there) in places
+    for (here, there) in locations
         .iter()
-        .flat_map(|here| places.iter().map(move |there| (here, there)))
+        .flat_map(|here| locations.iter().map(move |there| (here, there)))
     {
         let mut set = linked(here, &None);
         assert!(set.merge_policyset(&linked(there, &None), false).unwrap().is_empty());

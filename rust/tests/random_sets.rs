@@ -10,7 +10,7 @@ use cedar_store::ast::{
     PolicySetPolicyRemovalError, PolicySetTemplateRemovalError, PolicySetUnlinkError, PrincipalConstraint,
     ResourceConstraint, SlotEnv, SlotId, StaticPolicy, Template,
 };
-use common::{Drawn, id};
+use common::{Random, id};
 use std::collections::BTreeMap;
 use std::sync::Arc;
 
@@ -32,77 +32,77 @@ enum Binding {
 }
 
 /// The result of a call. An error is its kind with the id that it names.
-type Answer = Result<Vec<(String, String)>, (&'static str, String)>;
+type CallResult = Result<Vec<(String, String)>, (&'static str, String)>;
 
 #[derive(Clone, Debug, Default, PartialEq)]
-struct Board(Vec<(String, Binding)>);
+struct Model(Vec<(String, Binding)>);
 
-impl Board {
-    fn at(&self, name: &str) -> Option<&Binding> {
-        self.0.iter().find(|(held, _)| held == name).map(|(_, binding)| binding)
+impl Model {
+    fn get(&self, name: &str) -> Option<&Binding> {
+        self.0.iter().find(|(key, _)| key == name).map(|(_, binding)| binding)
     }
 
     fn template(&self, name: &str) -> Option<Body> {
-        match self.at(name) {
+        match self.get(name) {
             Some(Binding::Template(body)) => Some(*body),
             _ => None,
         }
     }
 
-    fn put(&mut self, name: &str, binding: Binding) -> Answer {
-        if self.at(name).is_some() {
+    fn insert(&mut self, name: &str, binding: Binding) -> CallResult {
+        if self.get(name).is_some() {
             return Err(("occupied", name.into()));
         }
         self.0.push((name.into(), binding));
         Ok(vec![])
     }
 
-    fn add_link(&mut self, template: &str, body: Body, name: &str, bound: Bound) -> Answer {
-        match self.at(template) {
+    fn add_link(&mut self, template: &str, body: Body, name: &str, bound: Bound) -> CallResult {
+        match self.get(template) {
             None => {}
-            Some(Binding::Template(held)) if *held == body => {}
+            Some(Binding::Template(stored)) if *stored == body => {}
             Some(_) => return Err(("occupied", template.into())),
         }
-        if self.at(name).is_some() || name == template {
+        if self.get(name).is_some() || name == template {
             return Err(("occupied", name.into()));
         }
-        if self.at(template).is_none() {
+        if self.get(template).is_none() {
             self.0.push((template.into(), Binding::Template(body)));
         }
         self.0.push((name.into(), Binding::Link(template.into(), bound)));
         Ok(vec![])
     }
 
-    fn link(&mut self, template: &str, name: &str, bound: Bound) -> Answer {
+    fn link(&mut self, template: &str, name: &str, bound: Bound) -> CallResult {
         let Some(body) = self.template(template) else {
             return Err(("no template", template.into()));
         };
         if (bound.0.is_some(), bound.1.is_some()) != body.slots {
             return Err(("arity", String::new()));
         }
-        if self.at(name).is_some() {
+        if self.get(name).is_some() {
             return Err(("occupied", name.into()));
         }
         self.0.push((name.into(), Binding::Link(template.into(), bound)));
         Ok(vec![])
     }
 
-    fn take(&mut self, name: &str) -> Answer {
-        self.0.retain(|(held, _)| held != name);
+    fn remove(&mut self, name: &str) -> CallResult {
+        self.0.retain(|(key, _)| key != name);
         Ok(vec![])
     }
 
-    fn unlink(&mut self, name: &str) -> Answer {
-        match self.at(name) {
-            Some(Binding::Link(..)) => self.take(name),
+    fn unlink(&mut self, name: &str) -> CallResult {
+        match self.get(name) {
+            Some(Binding::Link(..)) => self.remove(name),
             Some(_) => Err(("not a link", name.into())),
             None => Err(("no link", name.into())),
         }
     }
 
-    fn remove_static(&mut self, name: &str) -> Answer {
-        match self.at(name) {
-            Some(Binding::Static(_)) => self.take(name),
+    fn remove_static(&mut self, name: &str) -> CallResult {
+        match self.get(name) {
+            Some(Binding::Static(_)) => self.remove(name),
             Some(Binding::Link(..)) => Err(("no body", name.into())),
             Some(Binding::Template(_)) | None => Err(("no policy", name.into())),
         }
@@ -115,28 +115,30 @@ impl Board {
             .map(|(name, _)| name)
     }
 
-    fn remove_template(&mut self, name: &str) -> Answer {
-        match self.at(name) {
+    fn remove_template(&mut self, name: &str) -> CallResult {
+        match self.get(name) {
             Some(Binding::Template(_)) if self.links_of(name).next().is_some() => Err(("links", name.into())),
-            Some(Binding::Template(_)) => self.take(name),
+            Some(Binding::Template(_)) => self.remove(name),
             Some(_) => Err(("not a template", name.into())),
             None => Err(("no body", name.into())),
         }
     }
 
-    fn conflicts(&self, other: &Board, name: &str) -> bool {
-        match (self.at(name), other.at(name)) {
-            (Some(Binding::Link(one, bound)), Some(Binding::Link(another, coming))) => {
-                one != another || bound != coming || self.template(one) != other.template(another)
+    fn conflicts(&self, other: &Model, name: &str) -> bool {
+        match (self.get(name), other.get(name)) {
+            (Some(Binding::Link(template, bound)), Some(Binding::Link(other_template, other_bound))) => {
+                template != other_template
+                    || bound != other_bound
+                    || self.template(template) != other.template(other_template)
             }
-            (Some(one), Some(another)) => one != another,
+            (Some(binding), Some(other_binding)) => binding != other_binding,
             _ => false,
         }
     }
 
     /// Returns the ids that conflict: bodies in both sets, policies in both sets, and templates in one set that are
     /// links in the other.
-    fn conflicting(&self, other: &Board) -> Vec<String> {
+    fn conflicting(&self, other: &Model) -> Vec<String> {
         let body = |it: &Binding| !matches!(it, Binding::Link(..));
         let policy = |it: &Binding| !matches!(it, Binding::Template(_));
         let groups: [&dyn Fn(&Binding, &Binding) -> bool; 4] = [
@@ -146,10 +148,10 @@ impl Board {
             &|here, there| !policy(here) && !body(there),
         ];
         let mut all: Vec<String> = Vec::new();
-        for is_in in groups {
+        for in_group in groups {
             for (name, there) in &other.0 {
-                let Some(here) = self.at(name) else { continue };
-                if is_in(here, there) && self.conflicts(other, name) && !all.contains(name) {
+                let Some(here) = self.get(name) else { continue };
+                if in_group(here, there) && self.conflicts(other, name) && !all.contains(name) {
                     all.push(name.clone());
                 }
             }
@@ -157,32 +159,32 @@ impl Board {
         all
     }
 
-    fn merge(&mut self, other: &Board, rename: bool) -> Answer {
+    fn merge(&mut self, other: &Model, rename: bool) -> CallResult {
         let conflicting = self.conflicting(other);
         if let (false, Some(first)) = (rename, conflicting.first()) {
             return Err(("occupied", first.clone()));
         }
         let mut free = (0..)
             .map(|number| format!("policy{number}"))
-            .filter(|name| self.at(name).is_none() && other.at(name).is_none());
+            .filter(|name| self.get(name).is_none() && other.get(name).is_none());
         let renaming: Vec<(String, String)> = conflicting
             .into_iter()
             .map(|name| (name, free.next().expect("there are enough numbers")))
             .collect();
         drop(free);
-        let sent = |name: &String| {
+        let renamed = |name: &String| {
             renaming
                 .iter()
                 .find(|(old, _)| old == name)
                 .map_or_else(|| name.clone(), |(_, new)| new.clone())
         };
         for (name, binding) in &other.0 {
-            if self.at(&sent(name)).is_none() {
+            if self.get(&renamed(name)).is_none() {
                 let binding = match binding {
-                    Binding::Link(template, bound) => Binding::Link(sent(template), *bound),
+                    Binding::Link(template, bound) => Binding::Link(renamed(template), *bound),
                     body => body.clone(),
                 };
-                self.0.push((sent(name), binding));
+                self.0.push((renamed(name), binding));
             }
         }
         Ok(renaming)
@@ -223,14 +225,14 @@ fn bindings((principal, resource): Bound) -> SlotEnv {
 }
 
 /// Asserts that the set is equal to the model: both orders, each binding, and the links of each template.
-fn is_that_of(set: &PolicySet, board: &Board) {
+fn assert_equals_model(set: &PolicySet, model: &Model) {
     let bodies: Vec<_> = set.all_templates().map(|body| body.id().to_string()).collect();
-    let due = board.0.iter().filter(|(_, it)| !matches!(it, Binding::Link(..)));
-    assert_eq!(bodies, due.map(|(name, _)| name.clone()).collect::<Vec<_>>());
+    let expected = model.0.iter().filter(|(_, it)| !matches!(it, Binding::Link(..)));
+    assert_eq!(bodies, expected.map(|(name, _)| name.clone()).collect::<Vec<_>>());
     let policies: Vec<_> = set.policies().map(|policy| policy.id().to_string()).collect();
-    let due = board.0.iter().filter(|(_, it)| !matches!(it, Binding::Template(_)));
-    assert_eq!(policies, due.map(|(name, _)| name.clone()).collect::<Vec<_>>());
-    for (name, binding) in &board.0 {
+    let expected = model.0.iter().filter(|(_, it)| !matches!(it, Binding::Template(_)));
+    assert_eq!(policies, expected.map(|(name, _)| name.clone()).collect::<Vec<_>>());
+    for (name, binding) in &model.0 {
         match binding {
             Binding::Static(body) => {
                 assert!(set.get(&id(name)).expect("it is present").is_static());
@@ -240,7 +242,7 @@ fn is_that_of(set: &PolicySet, board: &Board) {
             Binding::Template(body) => {
                 assert!(set.get(&id(name)).is_none());
                 assert_eq!(set.get_template(&id(name)), Some(&template(name, *body)));
-                assert_eq!(linked(set, name), board.links_of(name).cloned().collect::<Vec<_>>());
+                assert_eq!(linked(set, name), model.links_of(name).cloned().collect::<Vec<_>>());
             }
             Binding::Link(of, bound) => {
                 let link = set.get(&id(name)).expect("it is present");
@@ -263,14 +265,14 @@ fn linked(set: &PolicySet, name: &str) -> Vec<String> {
         .collect()
 }
 
-fn by_set(error: PolicySetError) -> (&'static str, String) {
+fn policy_set_error(error: PolicySetError) -> (&'static str, String) {
     match error {
         PolicySetError::Occupied { id } => ("occupied", id.to_string()),
         other => panic!("{other}"),
     }
 }
 
-fn by_linking(error: LinkingError) -> (&'static str, String) {
+fn linking_error(error: LinkingError) -> (&'static str, String) {
     match error {
         LinkingError::ArityError { .. } => ("arity", String::new()),
         LinkingError::NoSuchTemplate { id } => ("no template", id.to_string()),
@@ -279,7 +281,7 @@ fn by_linking(error: LinkingError) -> (&'static str, String) {
     }
 }
 
-fn by_unlinking(error: PolicySetUnlinkError) -> (&'static str, String) {
+fn unlinking_error(error: PolicySetUnlinkError) -> (&'static str, String) {
     match error {
         PolicySetUnlinkError::UnlinkingError(id) => ("no link", id.to_string()),
         PolicySetUnlinkError::NotLinkError(id) => ("not a link", id.to_string()),
@@ -287,7 +289,7 @@ fn by_unlinking(error: PolicySetUnlinkError) -> (&'static str, String) {
     }
 }
 
-fn by_removal(error: PolicySetPolicyRemovalError) -> (&'static str, String) {
+fn removal_error(error: PolicySetPolicyRemovalError) -> (&'static str, String) {
     match error {
         PolicySetPolicyRemovalError::RemovePolicyNoLinkError(id) => ("no policy", id.to_string()),
         PolicySetPolicyRemovalError::RemovePolicyNoTemplateError(id) => ("no body", id.to_string()),
@@ -295,7 +297,7 @@ fn by_removal(error: PolicySetPolicyRemovalError) -> (&'static str, String) {
     }
 }
 
-fn by_template_removal(error: PolicySetTemplateRemovalError) -> (&'static str, String) {
+fn template_removal_error(error: PolicySetTemplateRemovalError) -> (&'static str, String) {
     match error {
         PolicySetTemplateRemovalError::RemovePolicyNoTemplateError(id) => ("no body", id.to_string()),
         PolicySetTemplateRemovalError::RemoveTemplateWithLinksError(id) => ("links", id.to_string()),
@@ -304,122 +306,128 @@ fn by_template_removal(error: PolicySetTemplateRemovalError) -> (&'static str, S
     }
 }
 
-fn drawn_body(drawn: &mut Drawn) -> Body {
+fn random_body(random: &mut Random) -> Body {
     Body {
-        slots: (!drawn.once_in(3), drawn.once_in(2)),
-        number: i64::from(drawn.once_in(4)),
+        slots: (!random.one_in(3), random.one_in(2)),
+        number: i64::from(random.one_in(4)),
     }
 }
 
-fn drawn_bound(drawn: &mut Drawn, body: Option<Body>) -> Bound {
+fn random_bound(random: &mut Random, body: Option<Body>) -> Bound {
     let slots = body
-        .filter(|_| !drawn.once_in(6))
-        .map_or_else(|| (drawn.once_in(2), drawn.once_in(2)), |it| it.slots);
-    let eid = |drawn: &mut Drawn| if drawn.once_in(3) { 1 } else { 0 };
-    (slots.0.then(|| eid(drawn)), slots.1.then(|| eid(drawn)))
+        .filter(|_| !random.one_in(6))
+        .map_or_else(|| (random.one_in(2), random.one_in(2)), |it| it.slots);
+    let eid = |random: &mut Random| if random.one_in(3) { 1 } else { 0 };
+    (slots.0.then(|| eid(random)), slots.1.then(|| eid(random)))
 }
 
 /// Makes the same call on both, and compares the results.
-fn one_call(drawn: &mut Drawn, set: &mut PolicySet, board: &mut Board, names: &[&str]) {
-    let (one, two) = (*drawn.one_of(names), *drawn.one_of(names));
-    let none = |_| vec![];
-    let (due, told): (Answer, Answer) = match drawn.below(12) {
+fn check_random_call(random: &mut Random, set: &mut PolicySet, model: &mut Model, names: &[&str]) {
+    let (first, second) = (*random.choose(names), *random.choose(names));
+    let no_renaming = |_| vec![];
+    let (expected, result): (CallResult, CallResult) = match random.below(12) {
         0 | 1 => {
             let body = Body {
                 slots: (false, false),
-                ..drawn_body(drawn)
+                ..random_body(random)
             };
-            let policy = StaticPolicy::try_from(template(one, body)).expect("no slot");
-            let told = if drawn.once_in(2) {
+            let policy = StaticPolicy::try_from(template(first, body)).expect("no slot");
+            let result = if random.one_in(2) {
                 set.add_static(policy)
             } else {
                 set.add(policy.into())
             };
-            (board.put(one, Binding::Static(body)), told.map(none).map_err(by_set))
+            (
+                model.insert(first, Binding::Static(body)),
+                result.map(no_renaming).map_err(policy_set_error),
+            )
         }
         2 | 3 => {
-            let body = drawn_body(drawn);
-            let told = set.add_template(template(one, body));
-            (board.put(one, Binding::Template(body)), told.map(none).map_err(by_set))
+            let body = random_body(random);
+            let result = set.add_template(template(first, body));
+            (
+                model.insert(first, Binding::Template(body)),
+                result.map(no_renaming).map_err(policy_set_error),
+            )
         }
         4 | 5 => {
-            let body = board
-                .template(one)
-                .filter(|_| !drawn.once_in(5))
-                .unwrap_or_else(|| drawn_body(drawn));
+            let body = model
+                .template(first)
+                .filter(|_| !random.one_in(5))
+                .unwrap_or_else(|| random_body(random));
             let bound = (body.slots.0.then_some(0), body.slots.1.then_some(0));
-            let policy = Template::link(Arc::new(template(one, body)), id(two), bindings(bound)).expect("it fits");
+            let policy = Template::link(Arc::new(template(first, body)), id(second), bindings(bound)).expect("it fits");
             (
-                board.add_link(one, body, two, bound),
-                set.add(policy).map(none).map_err(by_set),
+                model.add_link(first, body, second, bound),
+                set.add(policy).map(no_renaming).map_err(policy_set_error),
             )
         }
         6..=8 => {
-            let bound = drawn_bound(drawn, board.template(one));
-            let told = set
-                .link(id(one), id(two), bindings(bound))
+            let bound = random_bound(random, model.template(first));
+            let result = set
+                .link(id(first), id(second), bindings(bound))
                 .map(|_| vec![])
-                .map_err(by_linking);
-            (board.link(one, two, bound), told)
+                .map_err(linking_error);
+            (model.link(first, second, bound), result)
         }
         9 => (
-            board.unlink(one),
-            set.unlink(&id(one)).map(|_| vec![]).map_err(by_unlinking),
+            model.unlink(first),
+            set.unlink(&id(first)).map(|_| vec![]).map_err(unlinking_error),
         ),
         10 => (
-            board.remove_static(one),
-            set.remove_static(&id(one)).map(|_| vec![]).map_err(by_removal),
+            model.remove_static(first),
+            set.remove_static(&id(first)).map(|_| vec![]).map_err(removal_error),
         ),
         _ => (
-            board.remove_template(one),
-            set.remove_template(&id(one))
+            model.remove_template(first),
+            set.remove_template(&id(first))
                 .map(|_| vec![])
-                .map_err(by_template_removal),
+                .map_err(template_removal_error),
         ),
     };
-    assert_eq!(told, due);
+    assert_eq!(result, expected);
 }
 
-fn drawn_set(drawn: &mut Drawn, calls: usize, names: &[&str]) -> (PolicySet, Board) {
-    let (mut set, mut board) = (PolicySet::new(), Board::default());
+fn random_set(random: &mut Random, calls: usize, names: &[&str]) -> (PolicySet, Model) {
+    let (mut set, mut model) = (PolicySet::new(), Model::default());
     for _ in 0..calls {
-        one_call(drawn, &mut set, &mut board, names);
-        is_that_of(&set, &board);
+        check_random_call(random, &mut set, &mut model, names);
+        assert_equals_model(&set, &model);
     }
-    (set, board)
+    (set, model)
 }
 
 const NAMES: [&str; 6] = ["a", "b", "c", "policy0", "policy1", "policy3"];
 
 #[test]
-fn lists_of_calls() {
-    for seed in 0..2_000 {
-        drawn_set(&mut Drawn::new(seed), 40, &NAMES);
+fn random_calls() {
+    for seed in 0..common::rounds(2_000) {
+        random_set(&mut Random::new(seed), 40, &NAMES);
     }
 }
 
 #[test]
-fn merges_of_drawn_sets() {
-    let (mut renamed, mut refused) = (0, 0);
-    for seed in 0..20_000 {
-        let mut drawn = Drawn::new(seed);
-        let (calls, others) = (drawn.below(9), drawn.below(9));
-        let (mut set, mut board) = drawn_set(&mut drawn, calls, &NAMES);
-        let (other, coming) = drawn_set(&mut drawn, others, &NAMES);
+fn merges_of_random_sets() {
+    let (mut renamed_count, mut failed_count) = (0, 0);
+    for seed in 0..common::rounds(20_000) {
+        let mut random = Random::new(seed);
+        let (calls, other_calls) = (random.below(9), random.below(9));
+        let (mut set, mut model) = random_set(&mut random, calls, &NAMES);
+        let (other, other_model) = random_set(&mut random, other_calls, &NAMES);
         for rename in [false, true] {
-            let due = board.merge(&coming, rename);
-            let told: Answer = match set.merge_policyset(&other, rename) {
+            let expected = model.merge(&other_model, rename);
+            let result: CallResult = match set.merge_policyset(&other, rename) {
                 Ok(renaming) => Ok(renaming
                     .iter()
                     .map(|(old, new)| (old.to_string(), new.to_string()))
                     .collect()),
-                Err(error) => Err(by_set(error)),
+                Err(error) => Err(policy_set_error(error)),
             };
-            assert_eq!(told, due, "seed {seed}");
-            is_that_of(&set, &board);
-            is_that_of(&other, &coming);
-            renamed += due.as_ref().map_or(0, Vec::len);
-            refused += usize::from(due.is_err());
+            assert_eq!(result, expected, "seed {seed}");
+            assert_equals_model(&set, &model);
+            assert_equals_model(&other, &other_model);
+            renamed_count += expected.as_ref().map_or(0, Vec::len);
+            failed_count += usize::from(expected.is_err());
         }
         // merging a set into itself changes nothing
         let same = set.clone();
@@ -427,8 +435,8 @@ fn merges_of_drawn_sets() {
         assert_eq!(set, same);
     }
     assert!(
-        renamed > 5_000 && refused > 5_000,
-        "{renamed} ids were renamed and {refused} merges failed"
+        renamed_count as u64 > common::rounds(5_000) && failed_count as u64 > common::rounds(5_000),
+        "{renamed_count} ids were renamed and {failed_count} merges failed"
     );
 }
 
@@ -437,65 +445,65 @@ fn merges_of_drawn_sets() {
 #[test]
 fn merges_of_all_small_sets() {
     let body = |slots, number| Body { slots, number };
-    let (empty, one, both) = ((false, false), (true, false), (true, true));
-    let kinds: Vec<Board> = vec![
-        Board::default(),
-        Board(vec![("x".into(), Binding::Static(body(empty, 0)))]),
-        Board(vec![("x".into(), Binding::Static(body(empty, 1)))]),
-        Board(vec![("x".into(), Binding::Template(body(empty, 0)))]),
-        Board(vec![("x".into(), Binding::Template(body(one, 0)))]),
-        Board(vec![("x".into(), Binding::Template(body(both, 0)))]),
-        Board(vec![
-            ("t".into(), Binding::Template(body(one, 0))),
+    let (no_slots, one_slot, two_slots) = ((false, false), (true, false), (true, true));
+    let kinds: Vec<Model> = vec![
+        Model::default(),
+        Model(vec![("x".into(), Binding::Static(body(no_slots, 0)))]),
+        Model(vec![("x".into(), Binding::Static(body(no_slots, 1)))]),
+        Model(vec![("x".into(), Binding::Template(body(no_slots, 0)))]),
+        Model(vec![("x".into(), Binding::Template(body(one_slot, 0)))]),
+        Model(vec![("x".into(), Binding::Template(body(two_slots, 0)))]),
+        Model(vec![
+            ("t".into(), Binding::Template(body(one_slot, 0))),
             ("x".into(), Binding::Link("t".into(), (Some(0), None))),
         ]),
-        Board(vec![
-            ("t".into(), Binding::Template(body(one, 0))),
+        Model(vec![
+            ("t".into(), Binding::Template(body(one_slot, 0))),
             ("x".into(), Binding::Link("t".into(), (Some(1), None))),
         ]),
-        Board(vec![
-            ("t".into(), Binding::Template(body(one, 1))),
+        Model(vec![
+            ("t".into(), Binding::Template(body(one_slot, 1))),
             ("x".into(), Binding::Link("t".into(), (Some(0), None))),
         ]),
-        Board(vec![
-            ("u".into(), Binding::Template(body(one, 0))),
+        Model(vec![
+            ("u".into(), Binding::Template(body(one_slot, 0))),
             ("x".into(), Binding::Link("u".into(), (Some(0), None))),
         ]),
-        Board(vec![
-            ("x".into(), Binding::Template(body(one, 0))),
+        Model(vec![
+            ("x".into(), Binding::Template(body(one_slot, 0))),
             ("t".into(), Binding::Link("x".into(), (Some(0), None))),
         ]),
-        Board(vec![
-            ("t".into(), Binding::Static(body(empty, 0))),
-            ("x".into(), Binding::Template(body(empty, 0))),
+        Model(vec![
+            ("t".into(), Binding::Static(body(no_slots, 0))),
+            ("x".into(), Binding::Template(body(no_slots, 0))),
         ]),
     ];
-    let mut seen = BTreeMap::new();
+    let mut counts = BTreeMap::new();
     for here in &kinds {
         for there in &kinds {
             for rename in [false, true] {
-                let (mut set, mut board) = (made(here), here.clone());
-                let due = board.merge(there, rename);
-                let told: Answer = match set.merge_policyset(&made(there), rename) {
+                let (mut set, mut model) = (policy_set_of(here), here.clone());
+                let expected = model.merge(there, rename);
+                let result: CallResult = match set.merge_policyset(&policy_set_of(there), rename) {
                     Ok(renaming) => Ok(renaming
                         .iter()
                         .map(|(old, new)| (old.to_string(), new.to_string()))
                         .collect()),
-                    Err(error) => Err(by_set(error)),
+                    Err(error) => Err(policy_set_error(error)),
                 };
-                assert_eq!(told, due, "{here:?} and {there:?}");
-                is_that_of(&set, &board);
-                *seen.entry(due.is_ok()).or_insert(0) += 1;
+                assert_eq!(result, expected, "{here:?} and {there:?}");
+                assert_equals_model(&set, &model);
+                *counts.entry(expected.is_ok()).or_insert(0) += 1;
             }
         }
     }
-    assert!(seen[&false] > 30, "{seen:?}");
+    assert!(counts[&false] > 30, "{counts:?}");
 }
 
 /// Returns the set of a model. Each binding is added by its own call.
-fn made(board: &Board) -> PolicySet {
+fn policy_set_of(model: &Model) -> PolicySet {
     let mut set = PolicySet::new();
-    for (name, binding) in &board.0 {
+    for (name, binding) in &model.0 {
         match binding {
             Binding::Static(body) => set
                 .add_static(StaticPolicy::try_from(template(name, *body)).unwrap())
@@ -511,10 +519,10 @@ fn made(board: &Board) -> PolicySet {
 
 /// Linking and unlinking leaves the set unchanged.
 #[test]
-fn a_link_that_is_unlinked_leaves_the_set_as_it_was() {
+fn link_then_unlink_leaves_the_set_unchanged() {
     for seed in 0..500 {
-        let (mut set, board) = drawn_set(&mut Drawn::new(seed), 20, &NAMES);
-        for (name, body) in board.0.iter().filter_map(|(name, it)| match it {
+        let (mut set, model) = random_set(&mut Random::new(seed), 20, &NAMES);
+        for (name, body) in model.0.iter().filter_map(|(name, it)| match it {
             Binding::Template(body) => Some((name, body)),
             _ => None,
         }) {
@@ -526,7 +534,7 @@ fn a_link_that_is_unlinked_leaves_the_set_as_it_was() {
                 .clone();
             assert_eq!(set.unlink(&id("fresh")).expect("it was linked"), policy);
             assert_eq!(set, before);
-            is_that_of(&set, &board);
+            assert_equals_model(&set, &model);
         }
     }
 }

@@ -8,33 +8,33 @@ use std::process::ExitCode;
 fn main() -> ExitCode {
     let arguments: Vec<_> = env::args_os().skip(1).collect();
     match arguments.as_slice() {
-        [] => held(ErrorMode::Lenient),
-        [only] if only == "--strict" => held(ErrorMode::Strict),
-        [only] if only == "--help" => helped(),
+        [] => converse(ErrorMode::Lenient),
+        [argument] if argument == "--strict" => converse(ErrorMode::Strict),
+        [argument] if argument == "--help" => print_help(),
         _ => {
-            eprintln!("usage: talk [--strict | --help]");
+            eprintln!("usage: repl [--strict | --help]");
             ExitCode::from(2)
         }
     }
 }
 
-fn helped() -> ExitCode {
+fn print_help() -> ExitCode {
     let (store, policies, fields) = help_texts();
     match write!(io::stdout(), "{store}{policies}{fields}") {
         Ok(()) => ExitCode::SUCCESS,
-        Err(_) => fault("write fault"),
+        Err(_) => fail("write fault"),
     }
 }
 
-fn held(manner: ErrorMode) -> ExitCode {
+fn converse(mode: ErrorMode) -> ExitCode {
     let hasher = KeyedState::default();
-    match talk(hasher, manner, &mut io::stdin().lock(), &mut io::stdout().lock()) {
+    match talk(hasher, mode, &mut io::stdin().lock(), &mut io::stdout().lock()) {
         Ok(status) => ExitCode::from(status),
-        Err(error) => fault(&error.to_string()),
+        Err(error) => fail(&error.to_string()),
     }
 }
 
-fn fault(text: &str) -> ExitCode {
+fn fail(text: &str) -> ExitCode {
     eprintln!("{text}");
     ExitCode::FAILURE
 }

@@ -9,7 +9,7 @@ use policies::{principal_template, resource_template, template};
 use std::sync::Arc;
 
 #[test]
-fn reserved_words_are_no_identifiers() {
+fn reserved_words_are_not_identifiers() {
     for word in [
         "true", "false", "if", "then", "else", "in", "is", "like", "has", "__cedar",
     ] {
@@ -19,7 +19,7 @@ fn reserved_words_are_no_identifiers() {
 }
 
 #[test]
-fn a_set_of_one_template_is_not_written_as_empty() {
+fn display_of_a_set_with_one_template_is_not_empty() {
     let mut set = PolicySet::new();
     assert_eq!(set.to_string(), "<empty policyset>");
     set.add_template(principal_template("t")).unwrap();
@@ -27,19 +27,19 @@ fn a_set_of_one_template_is_not_written_as_empty() {
 }
 
 #[test]
-fn links_are_equal_where_all_slots_are_bound_alike() {
+fn links_with_equal_bindings_are_equal() {
     let (principals, resources) = (PrincipalConstraint::is_eq_slot(), ResourceConstraint::is_eq_slot());
     let link = |name: &str, values: &[(SlotId, &str)]| {
         let mut set = PolicySet::new();
-        let own = template("t", Effect::Permit, principals.clone(), resources.clone());
-        set.add_template(own).unwrap();
+        let two_slots = template("t", Effect::Permit, principals.clone(), resources.clone());
+        set.add_template(two_slots).unwrap();
         let values: SlotEnv = values.iter().map(|(slot, text)| (*slot, uid(text))).collect();
         set.link(id("t"), id(name), values).unwrap().clone()
     };
-    let own = |first: &str, second: &str| link("l", &[(SlotId::principal(), first), (SlotId::resource(), second)]);
-    let one = own(r#"A::"a""#, r#"A::"b""#);
-    assert!(one == own(r#"A::"a""#, r#"A::"b""#));
-    assert!(one != own(r#"A::"a""#, r#"A::"c""#) && one != own(r#"A::"c""#, r#"A::"b""#));
+    let link_of = |first: &str, second: &str| link("l", &[(SlotId::principal(), first), (SlotId::resource(), second)]);
+    let one = link_of(r#"A::"a""#, r#"A::"b""#);
+    assert!(one == link_of(r#"A::"a""#, r#"A::"b""#));
+    assert!(one != link_of(r#"A::"a""#, r#"A::"c""#) && one != link_of(r#"A::"c""#, r#"A::"b""#));
     assert!(
         one.to_string().contains(r#"?principal -> A::"a",?resource -> A::"b""#),
         "{one}"
@@ -58,7 +58,7 @@ fn links_are_equal_where_all_slots_are_bound_alike() {
 }
 
 #[test]
-fn constraints_without_a_reference_stand_before_those_with_one() {
+fn constraint_order_agrees_with_equality() {
     let of_type = |name: &str| Arc::new(EntityType::from_normalized_str(name).unwrap());
     let any = PrincipalConstraint::any();
     let eq = PrincipalConstraint::is_eq(Arc::new(uid(r#"A::"a""#)));

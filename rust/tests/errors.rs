@@ -21,7 +21,7 @@ fn arity(unbound: &[SlotId], extra: &[SlotId]) -> LinkingError {
 }
 
 #[test]
-fn refusals_of_linking() {
+fn linking_errors() {
     let (p, a, r) = (SlotId::principal(), SlotId::action(), SlotId::resource());
     let unbound = "the following slots were not provided as arguments: ";
     let extra = "he following slots were provided as arguments, but did not exist in the template: ";
@@ -43,31 +43,31 @@ fn refusals_of_linking() {
         assert_eq!(error.to_string(), text);
         assert_eq!(error.clone(), error);
     }
-    let not = |text: &str| LinkingError::NotAnAction { uid: uid(text) };
+    let not_an_action = |text: &str| LinkingError::NotAnAction { uid: uid(text) };
     assert_eq!(
-        not(r#"N::T::"it\'s""#).to_string(),
+        not_an_action(r#"N::T::"it\'s""#).to_string(),
         r#"the action slot is bound to `N::T::"it\'s"`, which is not an action"#
     );
     assert_eq!(
-        not(r#"A::"é""#).to_string(),
+        not_an_action(r#"A::"é""#).to_string(),
         r#"the action slot is bound to `A::"é"`, which is not an action"#
     );
     let missing = |text: &str| LinkingError::NoSuchTemplate { id: id(text) };
     assert_eq!(missing("é\"").to_string(), r#"failed to find a template with id `é\"`"#);
-    let taken = |text: &str| LinkingError::PolicyIdConflict { id: id(text) };
+    let occupied = |text: &str| LinkingError::PolicyIdConflict { id: id(text) };
     assert_eq!(
-        taken("a\"b").to_string(),
+        occupied("a\"b").to_string(),
         r#"template-linked policy id `a\"b` conflicts with an existing policy id"#
     );
     let all = [
         arity(&[p], &[r]),
         arity(&[r], &[p]),
         arity(&[a], &[]),
-        not(r#"A::"x""#),
-        not(r#"A::"y""#),
-        not(r#"B::"x""#),
+        not_an_action(r#"A::"x""#),
+        not_an_action(r#"A::"y""#),
+        not_an_action(r#"B::"x""#),
         missing("t"),
-        taken("t"),
+        occupied("t"),
     ];
     for (n, one) in all.iter().enumerate() {
         for (m, other) in all.iter().enumerate() {
@@ -77,7 +77,7 @@ fn refusals_of_linking() {
 }
 
 #[test]
-fn refusals_of_templates_and_static_policies() {
+fn template_and_static_policy_errors() {
     let slot = |slot: SlotId| Slot { id: slot, loc: None };
     for (slot_id, name) in [
         (SlotId::principal(), "?principal"),
@@ -93,9 +93,9 @@ fn refusals_of_templates_and_static_policies() {
             format!("found slot `{name}` in a condition clause")
         );
         for other in [SlotId::principal(), SlotId::action(), SlotId::resource()] {
-            let (one, other_one) = (slot(slot_id), slot(other));
+            let (first, second) = (slot(slot_id), slot(other));
             assert_eq!(
-                UnexpectedSlotError::FoundSlot(one) == UnexpectedSlotError::FoundSlot(other_one),
+                UnexpectedSlotError::FoundSlot(first) == UnexpectedSlotError::FoundSlot(second),
                 slot_id == other
             );
         }
@@ -127,11 +127,11 @@ fn refusals_of_templates_and_static_policies() {
 }
 
 #[test]
-fn refusals_of_calls_on_a_set() {
+fn policy_set_errors() {
     let id = || id("i\"j");
     let template = PolicySetTemplateRemovalError::RemovePolicyNoTemplateError;
     let links = PolicySetTemplateRemovalError::RemoveTemplateWithLinksError;
-    for (told, text) in [
+    for (message, text) in [
         (
             PolicySetError::Occupied { id: id() }.to_string(),
             r#"duplicate template or policy id `i\"j`"#,
@@ -185,7 +185,7 @@ fn refusals_of_calls_on_a_set() {
             r#"invalid template `i\"j`: template slot cache is inconsistent with condition expression"#,
         ),
     ] {
-        assert_eq!(told, text);
+        assert_eq!(message, text);
     }
     assert_eq!(
         EntitiesError::Duplicate(uid(r#"A::"é""#)).to_string(),
