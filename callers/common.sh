@@ -2,8 +2,8 @@
 # both archives. The last line of a run is `N passed, M failed`, or `N passed, M failed, K skipped`.
 both="$out/libcedar_c.a $out/liblibc_c.a"
 warn="-std=c11 -Wall -Wextra -Wpedantic -Werror"
-# The options for c/apart.c: threads, and its own allocation functions, which record each block.
-noted="-pthread -Wl,--wrap=malloc -Wl,--wrap=realloc -Wl,--wrap=calloc -Wl,--wrap=posix_memalign -Wl,--wrap=free"
+# The options for c/deep_copy.c: threads, and its own allocation functions, which record each block.
+record_blocks="-pthread -Wl,--wrap=malloc -Wl,--wrap=realloc -Wl,--wrap=calloc -Wl,--wrap=posix_memalign -Wl,--wrap=free"
 passed=0
 failed=0
 skipped=0
@@ -38,34 +38,34 @@ ended() {
 
 # Runs a program whose last line is `N passed, M failed`, and adds up its counts. Arguments: a title, then the command.
 counted() {
-    local what=$1 status=0 told
+    local what=$1 status=0 counts
     shift
     "$@" > "$out/one" 2>&1 || status=$?
     grep -v '^[0-9]* passed, [0-9]* failed$' "$out/one"
-    told=$(grep '^[0-9]* passed, [0-9]* failed$' "$out/one" | tail -n 1)
-    if [ -z "$told" ]; then
+    counts=$(grep '^[0-9]* passed, [0-9]* failed$' "$out/one" | tail -n 1)
+    if [ -z "$counts" ]; then
         fault "$what ended with status $status and printed no count"
         return
     fi
-    echo "callers: $what: $told"
-    passed=$((passed + $(echo "$told" | cut -d' ' -f1)))
-    failed=$((failed + $(echo "$told" | cut -d' ' -f3)))
-    if [ "$status" -ne 0 ] && [ "$(echo "$told" | cut -d' ' -f3)" -eq 0 ]; then
+    echo "callers: $what: $counts"
+    passed=$((passed + $(echo "$counts" | cut -d' ' -f1)))
+    failed=$((failed + $(echo "$counts" | cut -d' ' -f3)))
+    if [ "$status" -ne 0 ] && [ "$(echo "$counts" | cut -d' ' -f3)" -eq 0 ]; then
         fault "$what ended with status $status"
     fi
 }
 
 # Checks that a command writes exactly the content of a file. Arguments: a title, the file, then the command.
 writes() {
-    local what=$1 due=$2 status=0
+    local what=$1 expected=$2 status=0
     shift 2
     "$@" > "$out/one" 2> "$out/errors" || status=$?
-    if [ "$status" -eq 0 ] && diff "$out/one" "$due"; then
+    if [ "$status" -eq 0 ] && diff "$out/one" "$expected"; then
         echo "callers: $what: passed"
         passed=$((passed + 1))
     else
         cat "$out/errors"
-        fault "$what ended with status $status, or its output differs from $due"
+        fault "$what ended with status $status, or its output differs from $expected"
     fi
 }
 
@@ -76,18 +76,18 @@ in_c_sanitized() {
     echo 'int main(void) { return 0; }' > "$out/empty.c"
     if ! gcc $sanitizers -o "$out/empty" "$out/empty.c" 2> /dev/null || ! "$out/empty"; then
         without "sanitizer for gcc" "the calls from C with the address and undefined behaviour sanitizers"
-    elif gcc -O1 -g $warn $sanitizers -o "$out/calls_watched" c/calls.c $both &&
-        gcc -O1 -g $warn $sanitizers -o "$out/values_watched" c/values.c $both &&
-        gcc -O1 -g $warn $sanitizers -o "$out/bodies_watched" c/bodies.c $both &&
-        gcc -O1 -g $warn $sanitizers $noted -o "$out/apart_watched" c/apart.c $both &&
-        gcc -O1 -g $warn $sanitizers -o "$out/numbers_watched" c/numbers.c $both &&
-        gcc -O1 -g $warn $sanitizers -o "$out/validity_watched" c/validity.c $both; then
-        counted "calls from C, with sanitizers" "$out/calls_watched"
-        counted "values from C, with sanitizers" "$out/values_watched"
-        counted "bodies of policies from C, with sanitizers" "$out/bodies_watched"
-        counted "deep copies from C, with sanitizers" "$out/apart_watched"
-        counted "numbers of uids from C, with sanitizers" "$out/numbers_watched"
-        counted "validation of policy sets from C, with sanitizers" "$out/validity_watched"
+    elif gcc -O1 -g $warn $sanitizers -o "$out/calls_sanitized" c/calls.c $both &&
+        gcc -O1 -g $warn $sanitizers -o "$out/values_sanitized" c/values.c $both &&
+        gcc -O1 -g $warn $sanitizers -o "$out/bodies_sanitized" c/bodies.c $both &&
+        gcc -O1 -g $warn $sanitizers $record_blocks -o "$out/deep_copy_sanitized" c/deep_copy.c $both &&
+        gcc -O1 -g $warn $sanitizers -o "$out/numbers_sanitized" c/numbers.c $both &&
+        gcc -O1 -g $warn $sanitizers -o "$out/validity_sanitized" c/validity.c $both; then
+        counted "calls from C, with sanitizers" "$out/calls_sanitized"
+        counted "values from C, with sanitizers" "$out/values_sanitized"
+        counted "bodies of policies from C, with sanitizers" "$out/bodies_sanitized"
+        counted "deep copies from C, with sanitizers" "$out/deep_copy_sanitized"
+        counted "numbers of uids from C, with sanitizers" "$out/numbers_sanitized"
+        counted "validation of policy sets from C, with sanitizers" "$out/validity_sanitized"
     else
         fault "the tests in C were not built with sanitizers"
     fi
@@ -100,13 +100,13 @@ in_c_on_threads() {
     echo 'int main(void) { return 0; }' > "$out/empty.c"
     if ! gcc -fsanitize=thread -o "$out/empty" "$out/empty.c" 2> /dev/null || ! "$out/empty"; then
         without "thread sanitizer for gcc" "deep copies from C with it"
-    elif gcc -O1 -g $warn -fsanitize=thread $noted -o "$out/apart_raced" c/apart.c $both; then
-        counted "deep copies from C, with the thread sanitizer" "$out/apart_raced"
+    elif gcc -O1 -g $warn -fsanitize=thread $record_blocks -o "$out/deep_copy_threads" c/deep_copy.c $both; then
+        counted "deep copies from C, with the thread sanitizer" "$out/deep_copy_threads"
     else
         fault "the test of deep copies was not built with the thread sanitizer"
     fi
     if has valgrind --version; then
-        counted "deep copies from C, with helgrind" valgrind -q --tool=helgrind --error-exitcode=9 "$out/apart"
+        counted "deep copies from C, with helgrind" valgrind -q --tool=helgrind --error-exitcode=9 "$out/deep_copy"
     else
         without valgrind "deep copies from C with helgrind"
     fi

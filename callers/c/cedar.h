@@ -8,8 +8,8 @@
  *   handle that shares nothing with other handles may move to another thread between two calls. What the first thread
  *   did must happen before what the second thread does, as with a lock or a queue.
  * - A handle shares nothing with others if `cedar_store_new` or `cedar_policies_new` opened it, or a call whose name
- *   ends in `_apart` filled it. It stays so while no call copies, slices or merges between it and another handle,
- *   except for calls whose names end in `_apart`.
+ *   ends in `_deep_copy` filled it. It stays so while no call copies, slices or merges between it and another handle,
+ *   except for calls whose names end in `_deep_copy`.
  * - A pointer and a length are the pointer and length of one whole, initialised array, readable or writable as needed.
  *   The length is below 2^63. The pointer is not null, even if the length is 0. An output overlaps no other argument.
  * - `malloc`, `realloc` and `free` belong to one allocator and align to 16 bytes. Call no function from a signal
@@ -134,7 +134,7 @@ typedef enum cedar_mode {
     /* Affected entities get all uids that they reach as ancestors, in a removal too. An edit returns CEDAR_CYCLE if an
      * affected entity reaches itself. Nothing else is checked. */
     CEDAR_COMPUTE = 0,
-    /* Inserted entities keep the ancestors that they are given: nothing is computed for them. Without `above` their
+    /* Inserted entities keep the ancestors that they are given: nothing is computed for them. Without `indirect` their
      * ancestors are their parents. A removal repairs. Then the whole store is checked. An edit returns CEDAR_NOT_CLOSED
      * if an ancestor of an ancestor is missing, and CEDAR_CYCLE if an entity is one of its own ancestors. */
     CEDAR_ENFORCE = 1,
@@ -243,11 +243,11 @@ typedef struct cedar_body {
 /* ---- the program and uids, without a handle */
 
 /* Runs the program on all lines of an input, with `seed` and `key` as the key of its maps. Writes as much of the output
- * as fits to `out`, the length of the whole output to `told`, and the exit status of the run, 0 or 2, to `ended`.
- * Another call with more room gives the same output. Returns CEDAR_OK or CEDAR_NO_MEMORY. After CEDAR_NO_MEMORY the
- * contents of `out`, `told` and `ended` are unspecified. Any thread may call it. */
-uint32_t cedar_run(const uint8_t *input, size_t input_len, uint64_t seed, uint64_t key, uint8_t *out, size_t room,
-                   size_t *told, uint32_t *ended);
+ * as fits to `out`, the length of the whole output to `length`, and the exit status of the run, 0 or 2, to
+ * `exit_status`. Another call with a larger capacity gives the same output. Returns CEDAR_OK or CEDAR_NO_MEMORY. After
+ * CEDAR_NO_MEMORY the contents of `out`, `length` and `exit_status` are unspecified. Any thread may call it. */
+uint32_t cedar_run(const uint8_t *input, size_t input_len, uint64_t seed, uint64_t key, uint8_t *out, size_t capacity,
+                   size_t *length, uint32_t *exit_status);
 
 /* Checks whether a text is the text of a uid. Returns CEDAR_OK, CEDAR_NOT_A_UID or CEDAR_NO_MEMORY. Any thread may call
  * it. */
@@ -255,16 +255,16 @@ uint32_t cedar_uid_check(const uint8_t *text, size_t text_len);
 
 /* Creates the uid with a type, for example `User` or `A::B`, and an id, which is any text and is not escaped, for
  * example `O'Brien`. Writes as much of the text of the uid (`User::"O\'Brien"`) as fits to `out`, and its whole length
- * to `told`. Returns CEDAR_OK, CEDAR_NOT_A_NAME if the type is not a name, CEDAR_NOT_UTF8 or CEDAR_NO_MEMORY. Any
+ * to `length`. Returns CEDAR_OK, CEDAR_NOT_A_NAME if the type is not a name, CEDAR_NOT_UTF8 or CEDAR_NO_MEMORY. Any
  * thread may call it. */
 uint32_t cedar_uid_make(const uint8_t *type, size_t type_len, const uint8_t *id, size_t id_len, uint8_t *out,
-                        size_t room, size_t *told);
+                        size_t capacity, size_t *length);
 
 /* Splits the text of a uid. Writes the text of its type, followed by the bytes of its id, which are not escaped, to
- * `out`, as much as fits. Writes the length of the type to `type_len`, and the length of both to `told`. Returns
+ * `out`, as much as fits. Writes the length of the type to `type_len`, and the length of both to `length`. Returns
  * CEDAR_OK, CEDAR_NOT_A_UID or CEDAR_NO_MEMORY. Any thread may call it. */
-uint32_t cedar_uid_parts(const uint8_t *uid, size_t uid_len, uint8_t *out, size_t room, size_t *type_len,
-                         size_t *told);
+uint32_t cedar_uid_parts(const uint8_t *uid, size_t uid_len, uint8_t *out, size_t capacity, size_t *type_len,
+                         size_t *length);
 
 /* Checks whether each part of a text is the text of a uid. Otherwise writes the position of the first invalid part,
  * from 0 on, to `place`. Use it to find the uid for which another call returned an error. Returns CEDAR_OK,
@@ -275,7 +275,7 @@ uint32_t cedar_uids_check(const uint8_t *text, size_t text_len, const cedar_span
 /* Copies the text of a status, for example `ok` for CEDAR_OK or `not a uid`, as much as fits. Returns the whole length,
  * which is 0 for a number that is not a status. The text of an error begins with the text of its status. Does not
  * allocate. Any thread may call it. */
-size_t cedar_status_text(uint32_t status, uint8_t *out, size_t room);
+size_t cedar_status_text(uint32_t status, uint8_t *out, size_t capacity);
 
 /* Finds the name at position `place`, from 0 on, in the text of an error: a uid, an id, a key, or for CEDAR_ARITY a
  * slot (first the unbound slots, then the bound slots that do not exist). `status` is the status of the error. The text
@@ -322,27 +322,27 @@ uint32_t cedar_store_add(cedar_store *s, const uint8_t *text, size_t text_len, c
 uint32_t cedar_store_upsert(cedar_store *s, const uint8_t *text, size_t text_len, const cedar_span *uids,
                             size_t uids_len, size_t count, const cedar_edge *edges, size_t edges_len, uint32_t mode);
 
-/* Build, add and upsert entities with their content, as the three functions above. An edge of `above` says that the uid
- * at `to` is an indirect ancestor of the entity at `from`, if it is not a parent. A term is an attribute or a tag;
+/* Build, add and upsert entities with their content, as the three functions above. An edge of `indirect` means that the
+ * uid at `to` is an indirect ancestor of the entity at `from`, if it is not a parent. A term is an attribute or a tag;
  * among several with one key the last counts. All values are in one array of nodes, over the text of the uids, and
  * terms may share nodes. Entities with one uid are the same if their ancestors, attributes and tags are the same.
  *
  * Return the statuses of the call without content, and leave the same state; also CEDAR_TOO_DEEP. CEDAR_BAD_ARGUMENT:
- * also if an edge of `above` or a term has no such entity or uid, the `part` of a term is invalid, or its key or nodes
- * are out of range or invalid. CEDAR_NOT_A_UID, CEDAR_NOT_UTF8, CEDAR_NOT_A_NAME: also if the text of a node, or a key,
+ * also if an edge of `indirect` or a term has no such entity or uid, the `part` of a term is invalid, or its key or
+ * nodes are out of range or invalid. CEDAR_NOT_A_UID, CEDAR_NOT_UTF8, CEDAR_NOT_A_NAME: also if the text of a node, or a key,
  * is not what its kind requires. */
 uint32_t cedar_store_build_with(cedar_store *s, const uint8_t *text, size_t text_len, const cedar_span *uids,
                                 size_t uids_len, size_t count, const cedar_edge *edges, size_t edges_len,
-                                const cedar_edge *above, size_t above_len, const cedar_term *terms, size_t terms_len,
-                                const cedar_node *nodes, size_t nodes_len, uint32_t mode);
+                                const cedar_edge *indirect, size_t indirect_len, const cedar_term *terms,
+                                size_t terms_len, const cedar_node *nodes, size_t nodes_len, uint32_t mode);
 uint32_t cedar_store_add_with(cedar_store *s, const uint8_t *text, size_t text_len, const cedar_span *uids,
                               size_t uids_len, size_t count, const cedar_edge *edges, size_t edges_len,
-                              const cedar_edge *above, size_t above_len, const cedar_term *terms, size_t terms_len,
-                              const cedar_node *nodes, size_t nodes_len, uint32_t mode);
+                              const cedar_edge *indirect, size_t indirect_len, const cedar_term *terms,
+                              size_t terms_len, const cedar_node *nodes, size_t nodes_len, uint32_t mode);
 uint32_t cedar_store_upsert_with(cedar_store *s, const uint8_t *text, size_t text_len, const cedar_span *uids,
                                  size_t uids_len, size_t count, const cedar_edge *edges, size_t edges_len,
-                                 const cedar_edge *above, size_t above_len, const cedar_term *terms, size_t terms_len,
-                                 const cedar_node *nodes, size_t nodes_len, uint32_t mode);
+                                 const cedar_edge *indirect, size_t indirect_len, const cedar_term *terms,
+                                 size_t terms_len, const cedar_node *nodes, size_t nodes_len, uint32_t mode);
 
 /* Removes the entities with these uids, also from the parents of other entities. A uid without an entity changes
  * nothing. Returns CEDAR_OK, CEDAR_CLOSED, CEDAR_BAD_ARGUMENT, CEDAR_NOT_A_UID, CEDAR_NO_MEMORY; CEDAR_CYCLE and
@@ -360,11 +360,11 @@ uint32_t cedar_store_partial(cedar_store *s);
 /* Returns the number of entities, which is 0 for a closed handle. Does not allocate. */
 size_t cedar_store_len(cedar_store *s);
 
-/* Writes to `answer` whether the store has an entity with a uid. Returns CEDAR_OK, CEDAR_CLOSED, CEDAR_NOT_A_UID or
+/* Writes to `result` whether the store has an entity with a uid. Returns CEDAR_OK, CEDAR_CLOSED, CEDAR_NOT_A_UID or
  * CEDAR_NO_MEMORY. Neither this call nor any call below changes the store that it reads. */
-uint32_t cedar_store_has(cedar_store *s, const uint8_t *uid, size_t uid_len, bool *answer);
+uint32_t cedar_store_has(cedar_store *s, const uint8_t *uid, size_t uid_len, bool *result);
 
-/* Writes to `answer` whether the entity with the first uid is a descendant of the second uid, over any number of
+/* Writes to `result` whether the entity with the first uid is a descendant of the second uid, over any number of
  * parents. Returns CEDAR_OK, CEDAR_CLOSED, CEDAR_NOT_A_UID if one of the texts is not a uid, CEDAR_NO_ENTITY if the
  * store has no entity with the first uid, or CEDAR_NO_MEMORY.
  *
@@ -374,7 +374,7 @@ uint32_t cedar_store_has(cedar_store *s, const uint8_t *uid, size_t uid_len, boo
  * emptied when it is full, by every edit (also after an error), and when the handle gets another store. A failed
  * allocation for the cache is not an error. */
 uint32_t cedar_store_is_descendant_of(cedar_store *s, const uint8_t *child, size_t child_len, const uint8_t *ancestor,
-                                      size_t ancestor_len, bool *answer);
+                                      size_t ancestor_len, bool *result);
 
 /* Writes the number of a uid to `number`: 0 for the first numbered uid of a handle, then 1, and so on. A uid always
  * gets the same number. To query the same uids repeatedly, use calls that take numbers: they parse no text. A number
@@ -390,8 +390,8 @@ uint32_t cedar_store_number_uid(cedar_store *s, size_t number);
 /* Do the same as `cedar_store_has` and `cedar_store_is_descendant_of`, for the numbers of uids. Return CEDAR_OK,
  * CEDAR_CLOSED, CEDAR_BAD_ARGUMENT if no uid has a number in this handle, or CEDAR_NO_ENTITY if the store has no entity
  * with the uid of `child`. Do not allocate. */
-uint32_t cedar_store_has_number(cedar_store *s, size_t number, bool *answer);
-uint32_t cedar_store_is_descendant_of_numbers(cedar_store *s, size_t child, size_t ancestor, bool *answer);
+uint32_t cedar_store_has_number(cedar_store *s, size_t number, bool *result);
+uint32_t cedar_store_is_descendant_of_numbers(cedar_store *s, size_t child, size_t ancestor, bool *result);
 
 /* Store the ancestors, or the parents, of the entity with a uid as the answer, in ascending order of uid, each once.
  * Return CEDAR_OK, CEDAR_CLOSED, CEDAR_NOT_A_UID, CEDAR_NO_ENTITY or CEDAR_NO_MEMORY. */
@@ -402,19 +402,19 @@ uint32_t cedar_store_parents(cedar_store *s, const uint8_t *uid, size_t uid_len)
  * ancestors that are not parents. Returns the same statuses. */
 uint32_t cedar_store_indirect_ancestors(cedar_store *s, const uint8_t *uid, size_t uid_len);
 
-/* Write to `answer` whether the second uid is a parent, or an indirect ancestor, of the entity with the first uid.
+/* Write to `result` whether the second uid is a parent, or an indirect ancestor, of the entity with the first uid.
  * Return the statuses of `cedar_store_is_descendant_of`, which writes whether it is one of the two. */
 uint32_t cedar_store_is_child_of(cedar_store *s, const uint8_t *child, size_t child_len, const uint8_t *parent,
-                                 size_t parent_len, bool *answer);
+                                 size_t parent_len, bool *result);
 uint32_t cedar_store_is_indirect_descendant_of(cedar_store *s, const uint8_t *child, size_t child_len,
-                                               const uint8_t *ancestor, size_t ancestor_len, bool *answer);
+                                               const uint8_t *ancestor, size_t ancestor_len, bool *result);
 
-/* Writes to `answer` whether the store is partial. Returns CEDAR_OK or CEDAR_CLOSED. Does not allocate. */
-uint32_t cedar_store_is_partial(cedar_store *s, bool *answer);
+/* Writes to `result` whether the store is partial. Returns CEDAR_OK or CEDAR_CLOSED. Does not allocate. */
+uint32_t cedar_store_is_partial(cedar_store *s, bool *result);
 
-/* Writes 2 to `found` if the store has an entity with a uid. Otherwise writes 1 for a partial store, where the entity
+/* Writes 2 to `kind` if the store has an entity with a uid. Otherwise writes 1 for a partial store, where the entity
  * is unknown, and 0 for another store. Returns CEDAR_OK, CEDAR_CLOSED, CEDAR_NOT_A_UID or CEDAR_NO_MEMORY. */
-uint32_t cedar_store_entity(cedar_store *s, const uint8_t *uid, size_t uid_len, uint32_t *found);
+uint32_t cedar_store_entity(cedar_store *s, const uint8_t *uid, size_t uid_len, uint32_t *kind);
 
 /* Stores the uids of all entities as the answer, each once, in an order that depends on the key. Returns CEDAR_OK,
  * CEDAR_CLOSED or CEDAR_NO_MEMORY. */
@@ -439,11 +439,11 @@ uint32_t cedar_store_get(cedar_store *s, const uint8_t *uid, size_t uid_len, con
 uint32_t cedar_store_get_tag(cedar_store *s, const uint8_t *uid, size_t uid_len, const uint8_t *key, size_t key_len,
                              bool *has);
 
-/* Writes to `answer` whether the entities with a uid in two stores have the same attributes, tags and ancestors.
+/* Writes to `result` whether the entities with a uid in two stores have the same attributes, tags and ancestors.
  * Returns CEDAR_OK, CEDAR_CLOSED if one of the handles is closed, CEDAR_NOT_A_UID, CEDAR_NO_ENTITY if one of the stores
  * has no such entity, or CEDAR_NO_MEMORY. */
 uint32_t cedar_store_entity_equal(cedar_store *s, const uint8_t *uid, size_t uid_len, cedar_store *other,
-                                  bool *answer);
+                                  bool *result);
 
 /* Store the text of the store, or of the entity with a uid, as the answer: one text, for people. An entity has lines
  * for its uid, its attributes and its ancestors. A store has the texts of its entities in ascending order of uid, each
@@ -475,30 +475,30 @@ uint32_t cedar_store_slice_deep_copy(cedar_store *from, cedar_store *to, const u
                                  const cedar_span *uids, size_t uids_len);
 uint32_t cedar_store_deep_copy(cedar_store *from, cedar_store *to);
 
-/* Writes to `answer` whether two stores have the same uids, under each uid an entity with the same attributes, tags and
+/* Writes to `result` whether two stores have the same uids, under each uid an entity with the same attributes, tags and
  * ancestors, and are both partial or both not. Does not compare which ancestors are parents; neither does
  * `cedar_store_entity_equal`. Returns CEDAR_OK or CEDAR_CLOSED. Does not allocate. */
-uint32_t cedar_store_equal(cedar_store *one, cedar_store *other, bool *answer);
+uint32_t cedar_store_equal(cedar_store *first, cedar_store *second, bool *result);
 
 /* Copy the bytes of all texts of the answer, one after another, from byte `from` on, or the span of each text in these
  * bytes, from text `from` on, as many as fit. Return the number of all bytes, or of all texts, which is 0 for a closed
  * handle. The answer is the answer of the last call at CEDAR_OK that stores one. Other calls leave it,
  * `cedar_store_build` too. A handle has no answer after `cedar_store_new`, a slice or a copy filled it. Do not
  * allocate. */
-size_t cedar_store_answer(cedar_store *s, size_t from, uint8_t *out, size_t room);
-size_t cedar_store_answer_spans(cedar_store *s, size_t from, cedar_span *out, size_t room);
+size_t cedar_store_answer(cedar_store *s, size_t from, uint8_t *out, size_t capacity);
+size_t cedar_store_answer_spans(cedar_store *s, size_t from, cedar_span *out, size_t capacity);
 
 /* Copies the nodes of the last value, from node `from` on, as many as fit. Returns the number of all nodes, which is 0
  * for a closed handle. The last value is the value of the last `cedar_store_get` or `cedar_store_get_tag` that found
  * one, and its parts refer to the answer of that call. Other calls leave the nodes, even if they store another answer.
  * A handle without an answer, as described above, has no nodes either. Does not allocate. */
-size_t cedar_store_answer_nodes(cedar_store *s, size_t from, cedar_node *out, size_t room);
+size_t cedar_store_answer_nodes(cedar_store *s, size_t from, cedar_node *out, size_t capacity);
 
 /* Copies the text of the last error of the store, from CEDAR_DUPLICATE to CEDAR_RESERVED_KEY, as much as fits. Returns
  * the whole length, which is 0 for a closed handle. The text is the text of the status, then a blank and a uid or key
  * for each name. A call with another status leaves it, also CEDAR_NO_MEMORY. After `cedar_store_new`, a slice or a copy
  * into this handle there is none. Does not allocate. */
-size_t cedar_store_refusal(cedar_store *s, uint8_t *out, size_t room);
+size_t cedar_store_refusal(cedar_store *s, uint8_t *out, size_t capacity);
 
 /* ---- policy sets. A call that returns an error leaves the set as it was, also after a failed allocation. */
 
@@ -605,11 +605,11 @@ uint32_t cedar_policies_annotation(cedar_policies *p, const uint8_t *id, size_t 
 uint32_t cedar_policies_annotations(cedar_policies *p, const uint8_t *id, size_t id_len);
 
 /* Writes the kind of a constraint of the policy or template with an id to `kind`, as in `cedar_scope`: of the principal
- * (`which` 0), the action (1) or the resource (2). Stores its texts as the answer: the name of the type, if there is
+ * (`variable` 0), the action (1) or the resource (2). Stores its texts as the answer: the name of the type, if there is
  * one, followed by the text of each uid. For a link the slots are filled; an action constraint `in` a slot becomes a
- * list of one uid. Returns CEDAR_OK, CEDAR_CLOSED, CEDAR_BAD_ARGUMENT if `which` is invalid, CEDAR_NOT_UTF8,
+ * list of one uid. Returns CEDAR_OK, CEDAR_CLOSED, CEDAR_BAD_ARGUMENT if `variable` is invalid, CEDAR_NOT_UTF8,
  * CEDAR_NO_BODY if the id is not in use, or CEDAR_NO_MEMORY. */
-uint32_t cedar_policies_scope(cedar_policies *p, const uint8_t *id, size_t id_len, uint32_t which, uint32_t *kind);
+uint32_t cedar_policies_scope(cedar_policies *p, const uint8_t *id, size_t id_len, uint32_t variable, uint32_t *kind);
 
 /* Writes to `has` whether the policy or template with an id has a clause. If it has, stores the nodes of the clause,
  * and their text as the answer, which is one text. Otherwise both stay. A link has the clause of its template, with its
@@ -664,29 +664,29 @@ uint32_t cedar_policies_copy(cedar_policies *from, cedar_policies *to);
  * so it may move to another thread. That nothing is shared is tested, not proved. */
 uint32_t cedar_policies_deep_copy(cedar_policies *from, cedar_policies *to);
 
-/* Writes to `answer` whether two sets have equal bodies and policies in the same order. Returns CEDAR_OK or
+/* Writes to `result` whether two sets have equal bodies and policies in the same order. Returns CEDAR_OK or
  * CEDAR_CLOSED. Does not allocate. */
-uint32_t cedar_policies_equal(cedar_policies *one, cedar_policies *other, bool *answer);
+uint32_t cedar_policies_equal(cedar_policies *first, cedar_policies *second, bool *result);
 
 /* Copy the bytes of all texts of the answer, or the span of each text, as `cedar_store_answer` and
  * `cedar_store_answer_spans` do. The answer is the answer of the last call at CEDAR_OK that stores one, for example
  * `cedar_policies_ids`. A handle has no answer after `cedar_policies_new` or a copy, deep or not, filled it. Do not
  * allocate. */
-size_t cedar_policies_answer(cedar_policies *p, size_t from, uint8_t *out, size_t room);
-size_t cedar_policies_answer_spans(cedar_policies *p, size_t from, cedar_span *out, size_t room);
+size_t cedar_policies_answer(cedar_policies *p, size_t from, uint8_t *out, size_t capacity);
+size_t cedar_policies_answer_spans(cedar_policies *p, size_t from, cedar_span *out, size_t capacity);
 
 /* Copies the nodes of the last expression, from node `from` on, as many as fit. Returns the number of all nodes, which
  * is 0 for a closed handle. The last expression is the expression of the last `cedar_policies_clause` that found one,
  * or of the last `cedar_policies_condition`. Its parts refer to the answer of that call. Other calls leave the nodes,
  * even if they store another answer. A handle without an answer, as described above, has no nodes either. Does not
  * allocate. */
-size_t cedar_policies_answer_nodes(cedar_policies *p, size_t from, cedar_node *out, size_t room);
+size_t cedar_policies_answer_nodes(cedar_policies *p, size_t from, cedar_node *out, size_t capacity);
 
 /* Copies the text of the last error of the set, from CEDAR_OCCUPIED to CEDAR_NOT_STATIC, or from CEDAR_SLOT_IN_CLAUSE
  * on, as much as fits. Returns the whole length, which is 0 for a closed handle. The text is the text of the status, a
  * blank, and the id, the slots or the uid of the error. A call with another status leaves it, also CEDAR_NO_MEMORY.
  * After `cedar_policies_new` or a copy into this handle there is none. Does not allocate. */
-size_t cedar_policies_refusal(cedar_policies *p, uint8_t *out, size_t room);
+size_t cedar_policies_refusal(cedar_policies *p, uint8_t *out, size_t capacity);
 
 #ifdef __cplusplus
 }

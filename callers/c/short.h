@@ -8,18 +8,18 @@
 
 static int passed, failed;
 
-#define CHECK(what)                                                                                                    \
+#define CHECK(condition)                                                                                               \
     do {                                                                                                               \
-        if (what) {                                                                                                    \
+        if (condition) {                                                                                               \
             passed++;                                                                                                  \
         } else {                                                                                                       \
             failed++;                                                                                                  \
-            printf("%s:%d: failed: %s\n", __FILE__, __LINE__, #what);                                                  \
+            printf("%s:%d: failed: %s\n", __FILE__, __LINE__, #condition);                                             \
         }                                                                                                              \
     } while (0)
 
 /* Ends a test: prints the counts and returns the exit status. */
-static inline int counted(void) {
+static inline int report_counts(void) {
     printf("%d passed, %d failed\n", passed, failed);
     return failed != 0;
 }
@@ -33,15 +33,15 @@ static inline const uint8_t *bytes(const char *text) { return (const uint8_t *)t
 
 /* ---- encoded lists */
 
-#define MOST 32
+#define MAX_ITEMS 32
 
 typedef struct list {
     uint8_t text[1024];
     size_t text_len;
-    cedar_span uids[MOST];
+    cedar_span uids[MAX_ITEMS];
     size_t uids_len;
     size_t count;
-    cedar_edge edges[MOST];
+    cedar_edge edges[MAX_ITEMS];
     size_t edges_len;
 } list;
 
@@ -53,7 +53,7 @@ static inline size_t push_text(list *l, const char *text) {
     return l->uids_len++;
 }
 
-static inline size_t put_name(list *l, char name) {
+static inline size_t push_name(list *l, char name) {
     char uid[16];
     snprintf(uid, sizeof uid, U("%c"), name);
     return push_text(l, uid);
@@ -63,62 +63,62 @@ static inline size_t put_name(list *l, char name) {
 static inline list uids(const char *names) {
     list l;
     memset(&l, 0, sizeof l);
-    for (; *names; names++) put_name(&l, *names);
+    for (; *names; names++) push_name(&l, *names);
     return l;
 }
 
 /* Returns a list of entities with their parents: `a bc;b` is the entity a with the parents b and c, and the entity
  * b. */
-static inline list listed(const char *spec) {
+static inline list parse_entities(const char *spec) {
     list l = uids("");
     for (const char *p = spec; *p; p++) {
-        if (p == spec || p[-1] == ';') put_name(&l, *p);
+        if (p == spec || p[-1] == ';') push_name(&l, *p);
     }
     l.count = l.uids_len;
     size_t from = 0;
     for (const char *p = spec; *p; p++) {
         if (*p == ';') from++;
         if (p == spec || p[-1] == ';' || *p == ';' || *p == ' ') continue;
-        l.edges[l.edges_len++] = (cedar_edge){from, put_name(&l, *p)};
+        l.edges[l.edges_len++] = (cedar_edge){from, push_name(&l, *p)};
     }
     return l;
 }
 
 /* ---- short forms of the calls */
 
-#define LISTED(l) (l).text, (l).text_len, (l).uids, (l).uids_len
-#define ENTITIES(l) LISTED(l), (l).count, (l).edges, (l).edges_len
+#define UIDS(l) (l).text, (l).text_len, (l).uids, (l).uids_len
+#define ENTITIES(l) UIDS(l), (l).count, (l).edges, (l).edges_len
 
 static inline uint32_t new_store(cedar_store *s) { return cedar_store_new(s, 0x5eed, 0x6b6579); }
 
 static inline uint32_t build(cedar_store *s, const char *spec, uint32_t mode) {
-    list l = listed(spec);
+    list l = parse_entities(spec);
     return cedar_store_build(s, ENTITIES(l), mode);
 }
 
 static inline uint32_t add(cedar_store *s, const char *spec, uint32_t mode) {
-    list l = listed(spec);
+    list l = parse_entities(spec);
     return cedar_store_add(s, ENTITIES(l), mode);
 }
 
 static inline uint32_t upsert(cedar_store *s, const char *spec, uint32_t mode) {
-    list l = listed(spec);
+    list l = parse_entities(spec);
     return cedar_store_upsert(s, ENTITIES(l), mode);
 }
 
-static inline uint32_t removed(cedar_store *s, const char *names, uint32_t mode) {
+static inline uint32_t remove_uids(cedar_store *s, const char *names, uint32_t mode) {
     list l = uids(names);
-    return cedar_store_remove(s, LISTED(l), mode);
+    return cedar_store_remove(s, UIDS(l), mode);
 }
 
-static inline uint32_t sliced(cedar_store *from, cedar_store *to, const char *names) {
+static inline uint32_t slice(cedar_store *from, cedar_store *to, const char *names) {
     list l = uids(names);
-    return cedar_store_slice(from, to, LISTED(l));
+    return cedar_store_slice(from, to, UIDS(l));
 }
 
-static inline uint32_t sliced_apart(cedar_store *from, cedar_store *to, const char *names) {
+static inline uint32_t slice_deep_copy(cedar_store *from, cedar_store *to, const char *names) {
     list l = uids(names);
-    return cedar_store_slice_deep_copy(from, to, LISTED(l));
+    return cedar_store_slice_deep_copy(from, to, UIDS(l));
 }
 
 static inline uint32_t ancestors(cedar_store *s, const char *uid) { return cedar_store_ancestors(s, TEXT(uid)); }
@@ -126,99 +126,101 @@ static inline uint32_t ancestors(cedar_store *s, const char *uid) { return cedar
 static inline uint32_t parents(cedar_store *s, const char *uid) { return cedar_store_parents(s, TEXT(uid)); }
 
 /* Returns a Boolean result as 0 or 1, or 100 plus the status. The functions below return this. */
-static inline unsigned told(uint32_t status, bool answer) { return status ? 100 + status : answer; }
+static inline unsigned bool_or_status(uint32_t status, bool result) { return status ? 100 + status : result; }
 
 static inline unsigned has(cedar_store *s, const char *uid) {
-    bool answer = false;
-    uint32_t status = cedar_store_has(s, TEXT(uid), &answer);
-    return told(status, answer);
+    bool result = false;
+    uint32_t status = cedar_store_has(s, TEXT(uid), &result);
+    return bool_or_status(status, result);
 }
 
-static inline unsigned descends(cedar_store *s, const char *child, const char *ancestor) {
-    bool answer = false;
-    uint32_t status = cedar_store_is_descendant_of(s, TEXT(child), TEXT(ancestor), &answer);
-    return told(status, answer);
+static inline unsigned is_descendant(cedar_store *s, const char *child, const char *ancestor) {
+    bool result = false;
+    uint32_t status = cedar_store_is_descendant_of(s, TEXT(child), TEXT(ancestor), &result);
+    return bool_or_status(status, result);
 }
 
 static inline unsigned is_child(cedar_store *s, const char *child, const char *parent) {
-    bool answer = false;
-    uint32_t status = cedar_store_is_child_of(s, TEXT(child), TEXT(parent), &answer);
-    return told(status, answer);
+    bool result = false;
+    uint32_t status = cedar_store_is_child_of(s, TEXT(child), TEXT(parent), &result);
+    return bool_or_status(status, result);
 }
 
-static inline unsigned is_far_below(cedar_store *s, const char *child, const char *ancestor) {
-    bool answer = false;
-    uint32_t status = cedar_store_is_indirect_descendant_of(s, TEXT(child), TEXT(ancestor), &answer);
-    return told(status, answer);
+static inline unsigned is_indirect_descendant(cedar_store *s, const char *child, const char *ancestor) {
+    bool result = false;
+    uint32_t status = cedar_store_is_indirect_descendant_of(s, TEXT(child), TEXT(ancestor), &result);
+    return bool_or_status(status, result);
 }
 
 static inline unsigned is_partial(cedar_store *s) {
-    bool answer = false;
-    uint32_t status = cedar_store_is_partial(s, &answer);
-    return told(status, answer);
+    bool result = false;
+    uint32_t status = cedar_store_is_partial(s, &result);
+    return bool_or_status(status, result);
 }
 
 static inline unsigned entity_equal(cedar_store *s, const char *uid, cedar_store *other) {
-    bool answer = false;
-    uint32_t status = cedar_store_entity_equal(s, TEXT(uid), other, &answer);
-    return told(status, answer);
+    bool result = false;
+    uint32_t status = cedar_store_entity_equal(s, TEXT(uid), other, &result);
+    return bool_or_status(status, result);
 }
 
-static inline unsigned equal(cedar_store *one, cedar_store *other) {
-    bool answer = false;
-    uint32_t status = cedar_store_equal(one, other, &answer);
-    return told(status, answer);
+static inline unsigned equal(cedar_store *first, cedar_store *second) {
+    bool result = false;
+    uint32_t status = cedar_store_equal(first, second, &result);
+    return bool_or_status(status, result);
 }
 
-static inline unsigned sets_equal(cedar_policies *one, cedar_policies *other) {
-    bool answer = false;
-    uint32_t status = cedar_policies_equal(one, other, &answer);
-    return told(status, answer);
+static inline unsigned sets_equal(cedar_policies *first, cedar_policies *second) {
+    bool result = false;
+    uint32_t status = cedar_policies_equal(first, second, &result);
+    return bool_or_status(status, result);
 }
 
 /* Returns a number, or 100 plus the status. */
-static inline unsigned counted_as(uint32_t status, size_t count) { return status ? 100 + status : (unsigned)count; }
+static inline unsigned number_or_status(uint32_t status, size_t count) {
+    return status ? 100 + status : (unsigned)count;
+}
 
-static inline unsigned found(cedar_store *s, const char *uid) {
-    uint32_t answer = 9;
-    uint32_t status = cedar_store_entity(s, TEXT(uid), &answer);
-    return counted_as(status, answer);
+static inline unsigned look_up(cedar_store *s, const char *uid) {
+    uint32_t result = 9;
+    uint32_t status = cedar_store_entity(s, TEXT(uid), &result);
+    return number_or_status(status, result);
 }
 
 static inline unsigned attributes(cedar_store *s, const char *uid) {
     size_t count = 9;
     uint32_t status = cedar_store_attrs_len(s, TEXT(uid), &count);
-    return counted_as(status, count);
+    return number_or_status(status, count);
 }
 
 static inline unsigned tags(cedar_store *s, const char *uid) {
     size_t count = 9;
     uint32_t status = cedar_store_tags_len(s, TEXT(uid), &count);
-    return counted_as(status, count);
+    return number_or_status(status, count);
 }
 
 static inline unsigned kind_of(cedar_policies *p, const char *id) {
     uint32_t kind = 9;
     uint32_t status = cedar_policies_get(p, TEXT(id), &kind);
-    return counted_as(status, kind);
+    return number_or_status(status, kind);
 }
 
 static inline unsigned effect_of(cedar_policies *p, const char *id) {
     uint32_t effect = 9;
     uint32_t status = cedar_policies_effect(p, TEXT(id), &effect);
-    return counted_as(status, effect);
+    return number_or_status(status, effect);
 }
 
 static inline unsigned slots_of(cedar_policies *p, const char *id) {
     uint32_t slots = 9;
     uint32_t status = cedar_policies_slots(p, TEXT(id), &slots);
-    return counted_as(status, slots);
+    return number_or_status(status, slots);
 }
 
-static inline unsigned annotated(cedar_policies *p, const char *id, const char *key) {
-    bool answer = false;
-    uint32_t status = cedar_policies_annotation(p, TEXT(id), TEXT(key), &answer);
-    return told(status, answer);
+static inline unsigned has_annotation(cedar_policies *p, const char *id, const char *key) {
+    bool result = false;
+    uint32_t status = cedar_policies_annotation(p, TEXT(id), TEXT(key), &result);
+    return bool_or_status(status, result);
 }
 
 static inline uint32_t new_set(cedar_policies *p) { return cedar_policies_new(p, 0x5eed, 0x6b6579); }
@@ -237,7 +239,7 @@ static inline uint32_t link_id(cedar_policies *p, const char *template_id, const
     push_text(&l, principal);
     push_text(&l, action);
     push_text(&l, resource);
-    return cedar_policies_link(p, TEXT(template_id), TEXT(id), LISTED(l));
+    return cedar_policies_link(p, TEXT(template_id), TEXT(id), UIDS(l));
 }
 
 static inline uint32_t unlink_id(cedar_policies *p, const char *id) { return cedar_policies_unlink(p, TEXT(id)); }
@@ -252,10 +254,10 @@ static inline uint32_t remove_template(cedar_policies *p, const char *id) {
 
 /* ---- results of a handle: the texts of its last result, with a comma before each, and the text of its last error */
 
-#define ROOM 4096
+#define CAPACITY 4096
 
-static inline const char *joined(const uint8_t *text, const cedar_span *spans, size_t count) {
-    static char out[ROOM];
+static inline const char *join_texts(const uint8_t *text, const cedar_span *spans, size_t count) {
+    static char out[CAPACITY];
     size_t at = 0;
     for (size_t k = 0; k < count; k++) {
         size_t len = spans[k].end - spans[k].start;
@@ -267,32 +269,32 @@ static inline const char *joined(const uint8_t *text, const cedar_span *spans, s
     return out;
 }
 
-static inline const char *store_answer(cedar_store *s) {
-    uint8_t text[ROOM / 2];
-    cedar_span spans[MOST];
+static inline const char *store_result(cedar_store *s) {
+    uint8_t text[CAPACITY / 2];
+    cedar_span spans[MAX_ITEMS];
     cedar_store_answer(s, 0, text, sizeof text);
-    return joined(text, spans, cedar_store_answer_spans(s, 0, spans, MOST));
+    return join_texts(text, spans, cedar_store_answer_spans(s, 0, spans, MAX_ITEMS));
 }
 
-static inline const char *policies_answer(cedar_policies *p) {
-    uint8_t text[ROOM / 2];
-    cedar_span spans[MOST];
+static inline const char *set_result(cedar_policies *p) {
+    uint8_t text[CAPACITY / 2];
+    cedar_span spans[MAX_ITEMS];
     cedar_policies_answer(p, 0, text, sizeof text);
-    return joined(text, spans, cedar_policies_answer_spans(p, 0, spans, MOST));
+    return join_texts(text, spans, cedar_policies_answer_spans(p, 0, spans, MAX_ITEMS));
 }
 
-static inline const char *store_refusal(cedar_store *s) {
-    static char out[ROOM];
+static inline const char *store_error(cedar_store *s) {
+    static char out[CAPACITY];
     out[cedar_store_refusal(s, (uint8_t *)out, sizeof out - 1)] = 0;
     return out;
 }
 
-static inline const char *policies_refusal(cedar_policies *p) {
-    static char out[ROOM];
+static inline const char *set_error(cedar_policies *p) {
+    static char out[CAPACITY];
     out[cedar_policies_refusal(p, (uint8_t *)out, sizeof out - 1)] = 0;
     return out;
 }
 
-#define IS(text, want) (!strcmp((text), (want)))
+#define IS(text, expected) (!strcmp((text), (expected)))
 
 #endif

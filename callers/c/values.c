@@ -10,7 +10,7 @@
 /* ---- examples of values */
 
 /* Stores a value and returns the value that is read, as words; or the status of the call that stores it. */
-static const char *read_as(const char *words) {
+static const char *round_trip(const char *words) {
     static char text[16];
     cedar_store s = {0};
     content c = with_entities("a");
@@ -18,13 +18,13 @@ static const char *read_as(const char *words) {
     CHECK(new_store(&s) == CEDAR_OK);
     uint32_t status = BUILD(&s, c, CEDAR_COMPUTE);
     snprintf(text, sizeof text, "%u", (unsigned)status);
-    const char *told = status ? text : value_at(&s, U("a"), 0, "k");
+    const char *actual = status ? text : value_at(&s, U("a"), 0, "k");
     cedar_store_free(&s);
-    return told;
+    return actual;
 }
 
 /* The stored value and the value that is read. An empty text means the same value. */
-static const char *const ROWS[][2] = {
+static const char *const VALUES[][2] = {
     {"t", ""},
     {"f", ""},
     {"0", ""},
@@ -61,11 +61,12 @@ static const char *const ROWS[][2] = {
     {"'x *", ""},
 };
 
-static void worked_values(void) {
-    for (size_t k = 0; k < sizeof ROWS / sizeof *ROWS; k++) {
-        const char *given = ROWS[k][0], *due = ROWS[k][1], *told = read_as(given);
-        if (!IS(told, *due ? due : given)) printf("%s was stored, %s was read\n", given, told);
-        CHECK(IS(told, *due ? due : given));
+static void values_are_returned_unchanged(void) {
+    for (size_t k = 0; k < sizeof VALUES / sizeof *VALUES; k++) {
+        const char *stored = VALUES[k][0], *expected = *VALUES[k][1] ? VALUES[k][1] : stored,
+                   *actual = round_trip(stored);
+        if (!IS(actual, expected)) printf("stored %s, read %s\n", stored, actual);
+        CHECK(IS(actual, expected));
     }
 }
 
@@ -81,17 +82,17 @@ static void attributes_and_tags(void) {
     push_term(&c, 0, 0, "\xc3\xa9", "f");
     CHECK(new_store(&s) == CEDAR_OK && BUILD(&s, c, CEDAR_COMPUTE) == CEDAR_OK && cedar_store_len(&s) == 2);
     CHECK(attributes(&s, U("a")) == 3 && tags(&s, U("a")) == 2 && attributes(&s, U("b")) == 1 && tags(&s, U("b")) == 0);
-    CHECK(cedar_store_keys(&s, TEXT(U("a"))) == CEDAR_OK && IS(store_answer(&s), ",,k,\xc3\xa9"));
-    CHECK(cedar_store_tag_keys(&s, TEXT(U("a"))) == CEDAR_OK && IS(store_answer(&s), ",k,z"));
+    CHECK(cedar_store_keys(&s, TEXT(U("a"))) == CEDAR_OK && IS(store_result(&s), ",,k,\xc3\xa9"));
+    CHECK(cedar_store_tag_keys(&s, TEXT(U("a"))) == CEDAR_OK && IS(store_result(&s), ",k,z"));
     CHECK(IS(value_at(&s, U("a"), 0, "k"), "2") && IS(value_at(&s, U("a"), 1, "k"), "3"));
     CHECK(IS(value_at(&s, U("b"), 0, "k"), "1") && IS(value_at(&s, U("b"), 1, "k"), "none"));
     CHECK(IS(value_at(&s, U("a"), 0, ""), "t") && IS(value_at(&s, U("a"), 0, "\xc3\xa9"), "f"));
     CHECK(IS(value_at(&s, U("a"), 0, "z"), "none") && IS(value_at(&s, U("a"), 1, "z"), "'z"));
-    CHECK(descends(&s, U("a"), U("b")) == 1);
+    CHECK(is_descendant(&s, U("a"), U("b")) == 1);
     cedar_store_free(&s);
 }
 
-static void the_last_of_a_key_counts(void) {
+static void the_last_value_of_a_key_is_used(void) {
     cedar_store s = {0};
     content c = with_entities("a");
     push_term(&c, 0, 0, "k", "1");
@@ -118,34 +119,36 @@ static void shared_nodes(void) {
     cedar_store_free(&s);
 }
 
-static void push_ancestors_of_rows(content *c, size_t from, size_t to) { c->above[c->above_len++] = (cedar_edge){from, to}; }
+static void push_indirect(content *c, size_t from, size_t to) {
+    c->indirect[c->indirect_len++] = (cedar_edge){from, to};
+}
 
 static void indirect_ancestors(void) {
     cedar_store s = {0};
     content c = with_entities("a b;b c"); /* the uids are a, b, b, c */
-    push_ancestors_of_rows(&c, 0, 3);
+    push_indirect(&c, 0, 3);
     CHECK(new_store(&s) == CEDAR_OK && BUILD(&s, c, CEDAR_ENFORCE) == CEDAR_OK);
     CHECK(is_child(&s, U("a"), U("b")) == 1 && is_child(&s, U("a"), U("c")) == 0);
-    CHECK(is_far_below(&s, U("a"), U("c")) == 1 && is_far_below(&s, U("a"), U("b")) == 0);
-    push_ancestors_of_rows(&c, 0, 2); /* b is a parent of a, so this is no indirect ancestor */
-    push_ancestors_of_rows(&c, 0, 3);
+    CHECK(is_indirect_descendant(&s, U("a"), U("c")) == 1 && is_indirect_descendant(&s, U("a"), U("b")) == 0);
+    push_indirect(&c, 0, 2); /* b is a parent of a, so this is no indirect ancestor */
+    push_indirect(&c, 0, 3);
     CHECK(BUILD(&s, c, CEDAR_ENFORCE) == CEDAR_OK && cedar_store_validate(&s) == CEDAR_OK);
-    CHECK(cedar_store_indirect_ancestors(&s, TEXT(U("a"))) == CEDAR_OK && IS(store_answer(&s), "," U("c")));
-    CHECK(parents(&s, U("a")) == CEDAR_OK && IS(store_answer(&s), "," U("b")));
-    c.above_len = 0;
+    CHECK(cedar_store_indirect_ancestors(&s, TEXT(U("a"))) == CEDAR_OK && IS(store_result(&s), "," U("c")));
+    CHECK(parents(&s, U("a")) == CEDAR_OK && IS(store_result(&s), "," U("b")));
+    c.indirect_len = 0;
     CHECK(BUILD(&s, c, CEDAR_ENFORCE) == CEDAR_NOT_CLOSED && cedar_store_len(&s) == 2);
     cedar_store_free(&s);
 }
 
-/* Checks that the calls with content, given none, equal the calls without content. */
-static void no_content(void) {
+/* Checks that the calls with content agree with the calls without content, if no entity has content. */
+static void calls_without_content_agree(void) {
     cedar_store s = {0}, t = {0};
     content c = with_entities("a b;b c;c de;x");
     CHECK(new_store(&s) == CEDAR_OK && new_store(&t) == CEDAR_OK);
     CHECK(BUILD(&s, c, CEDAR_COMPUTE) == CEDAR_OK && build(&t, "a b;b c;c de;x", CEDAR_COMPUTE) == CEDAR_OK);
     CHECK(equal(&s, &t) == 1);
     c = with_entities("x a;y x");
-    CHECK(ADD(&s, c, CEDAR_COMPUTE) == CEDAR_DUPLICATE && IS(store_refusal(&s), "duplicate entity " U("x")));
+    CHECK(ADD(&s, c, CEDAR_COMPUTE) == CEDAR_DUPLICATE && IS(store_error(&s), "duplicate entity " U("x")));
     CHECK(cedar_store_copy(&t, &s) == CEDAR_OK && UPSERT(&s, c, CEDAR_COMPUTE) == CEDAR_OK);
     CHECK(upsert(&t, "x a;y x", CEDAR_COMPUTE) == CEDAR_OK && equal(&s, &t) == 1);
     c = with_entities("a b;b a");
@@ -163,9 +166,9 @@ static void edits_with_content(void) {
     CHECK(ADD(&s, c, CEDAR_COMPUTE) == CEDAR_OK && equal(&s, &t) == 1);
     CHECK(UPSERT(&s, d, CEDAR_COMPUTE) == CEDAR_OK && IS(value_at(&s, U("a"), 0, "k"), "2"));
     CHECK(equal(&s, &t) == 0 && entity_equal(&s, U("a"), &t) == 0 && IS(value_at(&t, U("a"), 0, "k"), "1"));
-    CHECK(ADD(&t, d, CEDAR_COMPUTE) == CEDAR_DUPLICATE && IS(store_refusal(&t), "duplicate entity " U("a")));
+    CHECK(ADD(&t, d, CEDAR_COMPUTE) == CEDAR_DUPLICATE && IS(store_error(&t), "duplicate entity " U("a")));
     CHECK(cedar_store_copy(&s, &t) == CEDAR_OK && add(&t, "a b", CEDAR_COMPUTE) == CEDAR_DUPLICATE);
-    CHECK(sliced(&s, &t, "a") == CEDAR_OK && IS(value_at(&t, U("a"), 0, "k"), "2"));
+    CHECK(slice(&s, &t, "a") == CEDAR_OK && IS(value_at(&t, U("a"), 0, "k"), "2"));
     c = with_entities("a;a");
     push_term(&c, 0, 0, "k", "1");
     CHECK(BUILD(&s, c, CEDAR_COMPUTE) == CEDAR_DUPLICATE);
@@ -174,14 +177,14 @@ static void edits_with_content(void) {
     c = with_entities("a");
     push_term(&c, 0, 1, "k", "'__entity 1 [1");
     CHECK(BUILD(&s, c, CEDAR_COMPUTE) == CEDAR_OK && cedar_store_validate(&s) == CEDAR_RESERVED_KEY);
-    CHECK(IS(store_refusal(&s), "reserved key __entity"));
+    CHECK(IS(store_error(&s), "reserved key __entity"));
     cedar_store_free(&s);
     cedar_store_free(&t);
 }
 
 /* ---- state of a handle */
 
-static void values_stay(void) {
+static void last_value_is_unchanged(void) {
     cedar_store s = {0}, t = {0};
     cedar_node nodes[4];
     uint8_t text[8];
@@ -190,7 +193,7 @@ static void values_stay(void) {
     push_term(&c, 0, 0, "k", "'xy 1 [1");
     CHECK(new_store(&s) == CEDAR_OK && BUILD(&s, c, CEDAR_COMPUTE) == CEDAR_OK);
     CHECK(cedar_store_answer_nodes(&s, 0, nodes, 4) == 0);
-    CHECK(IS(value_at(&s, U("a"), 0, "k"), "'xy 1 [1") && IS(store_answer(&s), ",xy"));
+    CHECK(IS(value_at(&s, U("a"), 0, "k"), "'xy 1 [1") && IS(store_result(&s), ",xy"));
     CHECK(cedar_store_get(&s, TEXT(U("a")), TEXT("j"), &has) == CEDAR_OK && !has);
     CHECK(cedar_store_get(&s, TEXT(U("q")), TEXT("k"), &has) == CEDAR_NO_ENTITY && !has);
     has = true;
@@ -199,7 +202,7 @@ static void values_stay(void) {
     CHECK(cedar_store_get_tag(&s, TEXT(U("a")), TEXT("\xff"), &has) == CEDAR_NOT_UTF8);
     CHECK(cedar_store_get(&s, TEXT(U("a")), TEXT("\xff"), &has) == CEDAR_NOT_UTF8 && has);
     CHECK(cedar_store_get_tag(&s, TEXT("q"), TEXT("k"), &has) == CEDAR_NOT_A_UID && has);
-    CHECK(IS(store_value(&s), "'xy 1 [1") && IS(store_answer(&s), ",xy"));
+    CHECK(IS(store_value(&s), "'xy 1 [1") && IS(store_result(&s), ",xy"));
     /* another result keeps the nodes, and so does an edit */
     CHECK(parents(&s, U("a")) == CEDAR_OK && add(&s, "z", CEDAR_COMPUTE) == CEDAR_OK);
     CHECK(cedar_store_partial(&s) == CEDAR_OK && build(&s, "a a", CEDAR_COMPUTE) == CEDAR_CYCLE);
@@ -215,8 +218,8 @@ static void values_stay(void) {
     c = with_entities("a");
     push_term(&c, 0, 1, "k", "7");
     CHECK(BUILD(&t, c, CEDAR_COMPUTE) == CEDAR_OK && IS(value_at(&t, U("a"), 1, "k"), "7"));
-    CHECK(IS(store_answer(&t), ",") && cedar_store_answer(&t, 0, text, 8) == 0);
-    CHECK(sliced(&s, &t, "a") == CEDAR_OK && cedar_store_answer_nodes(&t, 0, nodes, 4) == 0);
+    CHECK(IS(store_result(&t), ",") && cedar_store_answer(&t, 0, text, 8) == 0);
+    CHECK(slice(&s, &t, "a") == CEDAR_OK && cedar_store_answer_nodes(&t, 0, nodes, 4) == 0);
     CHECK(new_store(&s) == CEDAR_OK && cedar_store_answer_nodes(&s, 0, nodes, 4) == 0);
     cedar_store_free(&s);
     cedar_store_free(&t);
@@ -235,202 +238,231 @@ static void closed_handles(void) {
 
 /* ---- an invalid argument leaves the store unchanged */
 
-static cedar_store kept;
+static cedar_store test_store;
 
 /* Returns whether each of the three calls fails with this status and leaves the store unchanged. */
-static bool refused(content c, uint32_t status) {
-    return BUILD(&kept, c, 0) == status && ADD(&kept, c, 0) == status && UPSERT(&kept, c, 0) == status &&
-           cedar_store_len(&kept) == 1 && has(&kept, U("q")) == 1;
+static bool fails_with(content c, uint32_t status) {
+    return BUILD(&test_store, c, 0) == status && ADD(&test_store, c, 0) == status &&
+           UPSERT(&test_store, c, 0) == status && cedar_store_len(&test_store) == 1 && has(&test_store, U("q")) == 1;
 }
 
 static void terms_out_of_range(void) {
-    const cedar_term wrong[] = {
-        {1, 0, {0, 1}, 0, 1},        {SIZE_MAX, 0, {0, 1}, 0, 1}, {0, 2, {0, 1}, 0, 1},
+    const cedar_term invalid[] = {
+        {1, 0, {0, 1}, 0, 1},          {SIZE_MAX, 0, {0, 1}, 0, 1}, {0, 2, {0, 1}, 0, 1},
         {0, UINT32_MAX, {0, 1}, 0, 1}, {0, 0, {1, 0}, 0, 1},        {0, 1, {0, SIZE_MAX}, 0, 1},
-        {0, 0, {0, 1}, 1, 0},        {0, 0, {0, 1}, 0, 2},        {0, 1, {0, 1}, SIZE_MAX, SIZE_MAX},
-        {0, 0, {0, 1}, 0, 0},        {0, 0, {0, 1}, 1, 1},
+        {0, 0, {0, 1}, 1, 0},          {0, 0, {0, 1}, 0, 2},        {0, 1, {0, 1}, SIZE_MAX, SIZE_MAX},
+        {0, 0, {0, 1}, 0, 0},          {0, 0, {0, 1}, 1, 1},
     };
-    for (size_t k = 0; k < sizeof wrong / sizeof *wrong; k++) {
+    for (size_t k = 0; k < sizeof invalid / sizeof *invalid; k++) {
         content c = with_entities("a b");
-        put_nodes(&c, "1");
-        c.terms[c.terms_len++] = wrong[k];
-        CHECK(refused(c, CEDAR_BAD_ARGUMENT));
+        push_nodes(&c, "1");
+        c.terms[c.terms_len++] = invalid[k];
+        CHECK(fails_with(c, CEDAR_BAD_ARGUMENT));
     }
     const cedar_edge edges[] = {{1, 0}, {0, 2}, {SIZE_MAX, 0}, {0, SIZE_MAX}};
     for (size_t k = 0; k < sizeof edges / sizeof *edges; k++) {
         content c = with_entities("a b");
-        c.above[c.above_len++] = edges[k];
-        CHECK(refused(c, CEDAR_BAD_ARGUMENT));
+        c.indirect[c.indirect_len++] = edges[k];
+        CHECK(fails_with(c, CEDAR_BAD_ARGUMENT));
     }
     content c = with_entities("a b");
-    CHECK(cedar_store_build_with(&kept, CONTENT(c), 3) == CEDAR_BAD_ARGUMENT);
+    CHECK(cedar_store_build_with(&test_store, CONTENT(c), 3) == CEDAR_BAD_ARGUMENT);
     c.l.edges[0].to = 9;
-    CHECK(refused(c, CEDAR_BAD_ARGUMENT));
+    CHECK(fails_with(c, CEDAR_BAD_ARGUMENT));
 }
 
 /* Words that are not a partial value, and the status. */
 static const struct {
     const char *words;
     uint32_t status;
-} NONE[] = {
-    {"", CEDAR_BAD_ARGUMENT},           {"1 2", CEDAR_BAD_ARGUMENT},        {"1 {2", CEDAR_BAD_ARGUMENT},
-    {"1 2 {1", CEDAR_BAD_ARGUMENT},     {"1 [1", CEDAR_BAD_ARGUMENT},       {"1 2 [1", CEDAR_BAD_ARGUMENT},
-    {"'k [1", CEDAR_BAD_ARGUMENT},      {"1 ip(1", CEDAR_BAD_ARGUMENT},     {"ip(0", CEDAR_BAD_ARGUMENT},
-    {"'a 'b ip(2", CEDAR_BAD_ARGUMENT}, {"$0", CEDAR_BAD_ARGUMENT},         {"?0", CEDAR_BAD_ARGUMENT},
-    {"~x:0", CEDAR_BAD_ARGUMENT},       {"t !", CEDAR_BAD_ARGUMENT},        {"$4 *", CEDAR_BAD_ARGUMENT},
-    {"$-1 *", CEDAR_BAD_ARGUMENT},      {"?3 *", CEDAR_BAD_ARGUMENT},       {"~x:1 *", CEDAR_BAD_ARGUMENT},
-    {"1 ~x:1 *", CEDAR_BAD_ARGUMENT},   {"'User ~x:2 *", CEDAR_BAD_ARGUMENT}, {"'k 1 [1 *", CEDAR_BAD_ARGUMENT},
-    {"*", CEDAR_BAD_ARGUMENT},          {"1 * *", CEDAR_BAD_ARGUMENT},      {"1 & *", CEDAR_BAD_ARGUMENT},
-    {"! *", CEDAR_BAD_ARGUMENT},        {"1 {18446744073709551615", CEDAR_BAD_ARGUMENT},
+} INVALID[] = {
+    {"", CEDAR_BAD_ARGUMENT},
+    {"1 2", CEDAR_BAD_ARGUMENT},
+    {"1 {2", CEDAR_BAD_ARGUMENT},
+    {"1 2 {1", CEDAR_BAD_ARGUMENT},
+    {"1 [1", CEDAR_BAD_ARGUMENT},
+    {"1 2 [1", CEDAR_BAD_ARGUMENT},
+    {"'k [1", CEDAR_BAD_ARGUMENT},
+    {"1 ip(1", CEDAR_BAD_ARGUMENT},
+    {"ip(0", CEDAR_BAD_ARGUMENT},
+    {"'a 'b ip(2", CEDAR_BAD_ARGUMENT},
+    {"$0", CEDAR_BAD_ARGUMENT},
+    {"?0", CEDAR_BAD_ARGUMENT},
+    {"~x:0", CEDAR_BAD_ARGUMENT},
+    {"t !", CEDAR_BAD_ARGUMENT},
+    {"$4 *", CEDAR_BAD_ARGUMENT},
+    {"$-1 *", CEDAR_BAD_ARGUMENT},
+    {"?3 *", CEDAR_BAD_ARGUMENT},
+    {"~x:1 *", CEDAR_BAD_ARGUMENT},
+    {"1 ~x:1 *", CEDAR_BAD_ARGUMENT},
+    {"'User ~x:2 *", CEDAR_BAD_ARGUMENT},
+    {"'k 1 [1 *", CEDAR_BAD_ARGUMENT},
+    {"*", CEDAR_BAD_ARGUMENT},
+    {"1 * *", CEDAR_BAD_ARGUMENT},
+    {"1 & *", CEDAR_BAD_ARGUMENT},
+    {"! *", CEDAR_BAD_ARGUMENT},
+    {"1 {18446744073709551615", CEDAR_BAD_ARGUMENT},
     {"[9223372036854775808", CEDAR_BAD_ARGUMENT},
-    {"'\xff", CEDAR_NOT_UTF8},          {"'x \xff(1", CEDAR_NOT_UTF8},      {"~\xff:0 *", CEDAR_NOT_UTF8},
-    {"'k \xff(0 *", CEDAR_NOT_UTF8},    {"1 ^\xff *", CEDAR_NOT_UTF8},      {"'\xff ~x:1 *", CEDAR_NOT_UTF8},
-    {"'x 1x(1", CEDAR_NOT_A_NAME},      {"'x A::(1", CEDAR_NOT_A_NAME},     {"'x (1", CEDAR_NOT_A_NAME},
-    {"1 ^if *", CEDAR_NOT_A_NAME},      {"'1 ~x:1 *", CEDAR_NOT_A_NAME},    {"' ~x:1 *", CEDAR_NOT_A_NAME},
+    {"'\xff", CEDAR_NOT_UTF8},
+    {"'x \xff(1", CEDAR_NOT_UTF8},
+    {"~\xff:0 *", CEDAR_NOT_UTF8},
+    {"'k \xff(0 *", CEDAR_NOT_UTF8},
+    {"1 ^\xff *", CEDAR_NOT_UTF8},
+    {"'\xff ~x:1 *", CEDAR_NOT_UTF8},
+    {"'x 1x(1", CEDAR_NOT_A_NAME},
+    {"'x A::(1", CEDAR_NOT_A_NAME},
+    {"'x (1", CEDAR_NOT_A_NAME},
+    {"1 ^if *", CEDAR_NOT_A_NAME},
+    {"'1 ~x:1 *", CEDAR_NOT_A_NAME},
+    {"' ~x:1 *", CEDAR_NOT_A_NAME},
 };
 
-static void words_that_are_no_value(void) {
-    for (size_t k = 0; k < sizeof NONE / sizeof *NONE; k++) {
+static void invalid_values(void) {
+    for (size_t k = 0; k < sizeof INVALID / sizeof *INVALID; k++) {
         content c = with_entities("a");
-        push_term(&c, 0, k & 1, "k", NONE[k].words);
-        bool so = refused(c, NONE[k].status);
-        if (!so) printf("%s: %u\n", NONE[k].words, BUILD(&kept, c, 0));
-        CHECK(so);
+        push_term(&c, 0, k & 1, "k", INVALID[k].words);
+        bool is_expected = fails_with(c, INVALID[k].status);
+        if (!is_expected) printf("%s: %u\n", INVALID[k].words, BUILD(&test_store, c, 0));
+        CHECK(is_expected);
     }
 }
 
-static void fields_that_are_no_value(void) {
+static void invalid_fields(void) {
     content c = with_entities("a");
     push_term(&c, 0, 0, "k", "t");
     c.nodes[0].number = 2;
-    CHECK(refused(c, CEDAR_BAD_ARGUMENT));
+    CHECK(fails_with(c, CEDAR_BAD_ARGUMENT));
     c.nodes[0] = (cedar_node){16, 0, {0, 0}, 0};
-    CHECK(refused(c, CEDAR_BAD_ARGUMENT));
+    CHECK(fails_with(c, CEDAR_BAD_ARGUMENT));
     c.nodes[0].kind = UINT32_MAX;
-    CHECK(refused(c, CEDAR_BAD_ARGUMENT));
+    CHECK(fails_with(c, CEDAR_BAD_ARGUMENT));
     c.nodes[0] = (cedar_node){CEDAR_STRING, 0, {0, c.l.text_len + 1}, 0};
-    CHECK(refused(c, CEDAR_BAD_ARGUMENT));
+    CHECK(fails_with(c, CEDAR_BAD_ARGUMENT));
     c.nodes[0] = (cedar_node){CEDAR_UID, 0, {1, 6}, 0};
-    CHECK(refused(c, CEDAR_NOT_A_UID));
+    CHECK(fails_with(c, CEDAR_NOT_A_UID));
     c.nodes[0].at.start = 7;
-    CHECK(refused(c, CEDAR_BAD_ARGUMENT));
+    CHECK(fails_with(c, CEDAR_BAD_ARGUMENT));
     c.nodes[0] = (cedar_node){CEDAR_UID, 9, {0, 6}, 9}; /* unused fields are not read */
-    c.terms[0].key = put_bytes(&c, "\xc3", 1);
-    CHECK(refused(c, CEDAR_NOT_UTF8));
+    c.terms[0].key = push_bytes(&c, "\xc3", 1);
+    CHECK(fails_with(c, CEDAR_NOT_UTF8));
     c.terms[0].key.end--;
-    CHECK(BUILD(&kept, c, 0) == CEDAR_OK && IS(value_at(&kept, U("a"), 0, ""), "@a"));
-    CHECK(build(&kept, "q", 0) == CEDAR_OK);
+    CHECK(BUILD(&test_store, c, 0) == CEDAR_OK && IS(value_at(&test_store, U("a"), 0, ""), "@a"));
+    CHECK(build(&test_store, "q", 0) == CEDAR_OK);
     c = with_entities("a"); /* the mark of a residual expression must have `len` 1 */
     push_term(&c, 0, 0, "k", "t *");
     c.nodes[1].len = 0;
-    CHECK(refused(c, CEDAR_BAD_ARGUMENT));
+    CHECK(fails_with(c, CEDAR_BAD_ARGUMENT));
     c.l.uids[0].end--;
-    CHECK(refused(c, CEDAR_NOT_A_UID));
+    CHECK(fails_with(c, CEDAR_NOT_A_UID));
 }
 
 static cedar_node deep[CEDAR_LEVELS + 2];
 
 /* Builds nested sets or nested negations with this number of levels. */
-static uint32_t of_levels(size_t levels, uint32_t kind, bool left_over) {
+static uint32_t build_levels(size_t number_of_levels, uint32_t kind, bool residual) {
     content c = with_entities("a");
     const cedar_span none = {0, 0};
     size_t count = 0;
     deep[count++] = (cedar_node){CEDAR_BOOL, 0, none, 1};
-    while (count < levels) deep[count++] = (cedar_node){kind, 1, none, 0};
-    if (left_over) deep[count++] = (cedar_node){CEDAR_RESIDUAL, 1, none, 0};
+    while (count < number_of_levels) deep[count++] = (cedar_node){kind, 1, none, 0};
+    if (residual) deep[count++] = (cedar_node){CEDAR_RESIDUAL, 1, none, 0};
     cedar_term term = {0, 0, {0, 0}, 0, count};
-    return cedar_store_build_with(&kept, ENTITIES(c.l), c.above, 0, &term, 1, deep, count, 0);
+    return cedar_store_build_with(&test_store, ENTITIES(c.l), c.indirect, 0, &term, 1, deep, count, 0);
 }
 
-static void levels(void) {
-    cedar_node *read = malloc((CEDAR_LEVELS + 2) * sizeof *read);
+static void number_of_levels(void) {
+    cedar_node *nodes = malloc((CEDAR_LEVELS + 2) * sizeof *nodes);
     bool has = false;
-    CHECK(of_levels(CEDAR_LEVELS + 1, CEDAR_SET, false) == CEDAR_TOO_DEEP && cedar_store_len(&kept) == 1);
-    CHECK(of_levels(CEDAR_LEVELS + 1, CEDAR_NOT, true) == CEDAR_TOO_DEEP && build(&kept, "q", 0) == CEDAR_OK);
-    CHECK(of_levels(CEDAR_LEVELS, CEDAR_NOT, true) == CEDAR_OK);
-    CHECK(cedar_store_get(&kept, TEXT(U("a")), TEXT(""), &has) == CEDAR_OK && has);
-    CHECK(cedar_store_answer_nodes(&kept, 0, read, CEDAR_LEVELS + 2) == CEDAR_LEVELS + 1);
-    CHECK(read[0].kind == CEDAR_BOOL && read[CEDAR_LEVELS - 1].kind == CEDAR_NOT);
-    CHECK(read[CEDAR_LEVELS].kind == CEDAR_RESIDUAL);
-    CHECK(of_levels(CEDAR_LEVELS, CEDAR_SET, false) == CEDAR_OK);
-    CHECK(cedar_store_get(&kept, TEXT(U("a")), TEXT(""), &has) == CEDAR_OK && has);
-    CHECK(cedar_store_answer_nodes(&kept, 0, read, CEDAR_LEVELS + 2) == CEDAR_LEVELS);
-    CHECK(read[CEDAR_LEVELS - 1].kind == CEDAR_SET && read[CEDAR_LEVELS - 1].len == 1);
-    CHECK(build(&kept, "q", 0) == CEDAR_OK);
-    free(read);
+    CHECK(build_levels(CEDAR_LEVELS + 1, CEDAR_SET, false) == CEDAR_TOO_DEEP && cedar_store_len(&test_store) == 1);
+    CHECK(build_levels(CEDAR_LEVELS + 1, CEDAR_NOT, true) == CEDAR_TOO_DEEP && build(&test_store, "q", 0) == CEDAR_OK);
+    CHECK(build_levels(CEDAR_LEVELS, CEDAR_NOT, true) == CEDAR_OK);
+    CHECK(cedar_store_get(&test_store, TEXT(U("a")), TEXT(""), &has) == CEDAR_OK && has);
+    CHECK(cedar_store_answer_nodes(&test_store, 0, nodes, CEDAR_LEVELS + 2) == CEDAR_LEVELS + 1);
+    CHECK(nodes[0].kind == CEDAR_BOOL && nodes[CEDAR_LEVELS - 1].kind == CEDAR_NOT);
+    CHECK(nodes[CEDAR_LEVELS].kind == CEDAR_RESIDUAL);
+    CHECK(build_levels(CEDAR_LEVELS, CEDAR_SET, false) == CEDAR_OK);
+    CHECK(cedar_store_get(&test_store, TEXT(U("a")), TEXT(""), &has) == CEDAR_OK && has);
+    CHECK(cedar_store_answer_nodes(&test_store, 0, nodes, CEDAR_LEVELS + 2) == CEDAR_LEVELS);
+    CHECK(nodes[CEDAR_LEVELS - 1].kind == CEDAR_SET && nodes[CEDAR_LEVELS - 1].len == 1);
+    CHECK(build(&test_store, "q", 0) == CEDAR_OK);
+    free(nodes);
 }
 
 /* ---- random nodes */
 
 static uint64_t state = 0x2545f4914f6cdd1d;
 
-static uint32_t drawn(uint32_t below) {
+static uint32_t random_number(uint32_t end) {
     state ^= state << 13;
     state ^= state >> 7;
     state ^= state << 17;
-    return (uint32_t)((state * 0x9e3779b97f4a7c15u) >> 33) % below;
+    return (uint32_t)((state * 0x9e3779b97f4a7c15u) >> 33) % end;
 }
 
 /* Uids, names, strings, and bytes that are none of them. */
-static const char *const PARTS[] = {"A::\"a\"", "A::\"it\\'s\"", "ip", "N::f", "User", "x", "", "\xc3\xa9", "\xff",
-                                    "if", "A::\"", "a b", "A::\"\xc3\xa9\""};
+static const char *const PARTS[] = {
+    "A::\"a\"", "A::\"it\\'s\"", "ip",  "N::f",           "User", "x", "", "\xc3\xa9", "\xff",
+    "if",       "A::\"",         "a b", "A::\"\xc3\xa9\""};
 static cedar_span parts[sizeof PARTS / sizeof *PARTS];
 
 static cedar_span any_part(const content *c) {
-    if (drawn(40)) return parts[drawn(drawn(3) ? 7 : sizeof PARTS / sizeof *PARTS)];
-    return (cedar_span){drawn(c->l.text_len + 2), drawn(c->l.text_len + 2)};
+    if (random_number(40)) return parts[random_number(random_number(3) ? 7 : sizeof PARTS / sizeof *PARTS)];
+    return (cedar_span){random_number(c->l.text_len + 2), random_number(c->l.text_len + 2)};
 }
 
 /* Appends random nodes. Most of them have as many operands before them as they need; `high` is the size of the
  * stack. */
-static void draw_nodes(content *c, size_t count) {
+static void push_random_nodes(content *c, size_t count) {
     size_t high = 0;
     for (size_t k = 0; k < count; k++) {
-        uint32_t kind = drawn(30) ? drawn(3) ? drawn(7) : drawn(15) : drawn(18);
-        size_t len = drawn(20) ? drawn(high + 1) : drawn(4) ? drawn(6) : SIZE_MAX - drawn(3);
-        int64_t number = drawn(10) ? drawn(4) : (int64_t)state;
+        uint32_t kind = random_number(30) ? random_number(3) ? random_number(7) : random_number(15) : random_number(18);
+        size_t len = random_number(20)  ? random_number(high + 1)
+                     : random_number(4) ? random_number(6)
+                                        : SIZE_MAX - random_number(3);
+        int64_t number = random_number(10) ? random_number(4) : (int64_t)state;
         cedar_span at = any_part(c);
-        if (kind == CEDAR_BOOL) number = drawn(20) ? number & 1 : number;
-        if (kind == CEDAR_UID && drawn(20)) at = parts[drawn(2)];
-        if (kind == CEDAR_UNKNOWN && drawn(8)) len = 0;
-        if (kind == CEDAR_RECORD && drawn(20)) len = len < 12 ? len / 2 : len;
-        if (kind == CEDAR_CALL && drawn(2)) len = 1;
-        if (kind == CEDAR_RECORD && high >= 2 && c->nodes_len >= 2 && drawn(2)) {
+        if (kind == CEDAR_BOOL) number = random_number(20) ? number & 1 : number;
+        if (kind == CEDAR_UID && random_number(20)) at = parts[random_number(2)];
+        if (kind == CEDAR_UNKNOWN && random_number(8)) len = 0;
+        if (kind == CEDAR_RECORD && random_number(20)) len = len < 12 ? len / 2 : len;
+        if (kind == CEDAR_CALL && random_number(2)) len = 1;
+        if (kind == CEDAR_RECORD && high >= 2 && c->nodes_len >= 2 && random_number(2)) {
             c->nodes[c->nodes_len - 2].kind = CEDAR_STRING;
             len = 1;
         }
-        size_t below = kind == CEDAR_SET || kind == CEDAR_CALL ? len
-                       : kind == CEDAR_RECORD                  ? 2 * len
-                       : kind >= CEDAR_AND && kind <= CEDAR_IN ? 2
-                       : kind == CEDAR_NOT || kind == CEDAR_IS ? 1
-                                                               : 0;
-        high = (high < below ? 0 : high - below) + 1;
-        put_node(c, kind, len, at, number);
+        size_t operands = kind == CEDAR_SET || kind == CEDAR_CALL ? len
+                          : kind == CEDAR_RECORD                  ? 2 * len
+                          : kind >= CEDAR_AND && kind <= CEDAR_IN ? 2
+                          : kind == CEDAR_NOT || kind == CEDAR_IS ? 1
+                                                                  : 0;
+        high = (high < operands ? 0 : high - operands) + 1;
+        push_node(c, kind, len, at, number);
     }
-    if (high > 1 && drawn(8)) put_node(c, CEDAR_SET, high, parts[0], 0);
-    if (drawn(3) == 0) put_node(c, CEDAR_RESIDUAL, drawn(8) ? 1 : drawn(3), parts[0], 0);
+    if (high > 1 && random_number(8)) push_node(c, CEDAR_SET, high, parts[0], 0);
+    if (random_number(3) == 0) push_node(c, CEDAR_RESIDUAL, random_number(8) ? 1 : random_number(3), parts[0], 0);
 }
 
-static content drawn_content(void) {
+static content random_content(void) {
     content c = with_entities("a b;b");
-    for (size_t k = 0; k < sizeof PARTS / sizeof *PARTS; k++) parts[k] = put_bytes(&c, PARTS[k], strlen(PARTS[k]));
-    for (uint32_t k = drawn(3); k > 0; k--) {
+    for (size_t k = 0; k < sizeof PARTS / sizeof *PARTS; k++) parts[k] = push_bytes(&c, PARTS[k], strlen(PARTS[k]));
+    for (uint32_t k = random_number(3); k > 0; k--) {
         size_t from = c.nodes_len;
-        draw_nodes(&c, drawn(10));
-        cedar_term term = {drawn(2), drawn(2), parts[5 + drawn(3)], from, c.nodes_len};
-        if (drawn(30) == 0) term = (cedar_term){drawn(4), drawn(4), any_part(&c), drawn(12), drawn(12)};
+        push_random_nodes(&c, random_number(10));
+        cedar_term term = {random_number(2), random_number(2), parts[5 + random_number(3)], from, c.nodes_len};
+        if (random_number(30) == 0)
+            term = (cedar_term){random_number(4), random_number(4), any_part(&c), random_number(12), random_number(12)};
         c.terms[c.terms_len++] = term;
     }
-    if (drawn(10) == 0) push_ancestors_of_rows(&c, drawn(4), drawn(5));
+    if (random_number(10) == 0) push_indirect(&c, random_number(4), random_number(5));
     return c;
 }
 
 /* Adds the value that a store returned last, with its text, as a term of another content. */
-static void put_told(content *c, cedar_store *s, cedar_term term) {
-    uint8_t text[ROOM];
+static void push_returned(content *c, cedar_store *s, cedar_term term) {
+    uint8_t text[CAPACITY];
     size_t len = cedar_store_answer(s, 0, text, sizeof text), from = c->nodes_len;
-    cedar_span at = put_bytes(c, (const char *)text, len);
-    c->nodes_len += cedar_store_answer_nodes(s, 0, c->nodes + from, MOST_NODES - from);
+    cedar_span at = push_bytes(c, (const char *)text, len);
+    c->nodes_len += cedar_store_answer_nodes(s, 0, c->nodes + from, MAX_NODES - from);
     for (size_t k = from; k < c->nodes_len; k++) {
         c->nodes[k].at.start += at.start;
         c->nodes[k].at.end += at.start;
@@ -439,65 +471,65 @@ static void put_told(content *c, cedar_store *s, cedar_term term) {
 }
 
 /* Returns whether another store, built from the terms that this store returns, has the same entities. */
-static bool told_alike(cedar_store *s, const content *c, cedar_store *t) {
-    content again = with_entities("a b;b");
-    for (size_t k = 0; k < sizeof PARTS / sizeof *PARTS; k++) put_bytes(&again, PARTS[k], strlen(PARTS[k]));
-    memcpy(again.above, c->above, sizeof again.above);
-    again.above_len = c->above_len;
+static bool is_rebuilt_equal(cedar_store *s, const content *c, cedar_store *t) {
+    content rebuilt = with_entities("a b;b");
+    for (size_t k = 0; k < sizeof PARTS / sizeof *PARTS; k++) push_bytes(&rebuilt, PARTS[k], strlen(PARTS[k]));
+    memcpy(rebuilt.indirect, c->indirect, sizeof rebuilt.indirect);
+    rebuilt.indirect_len = c->indirect_len;
     for (size_t k = 0; k < c->terms_len; k++) {
         const cedar_term *term = &c->terms[k];
         const uint8_t *uid = term->of ? bytes(U("b")) : bytes(U("a")), *key = c->l.text + term->key.start;
         size_t len = term->key.end - term->key.start;
-        bool told = false;
-        uint32_t status = term->part ? cedar_store_get_tag(s, uid, 6, key, len, &told)
-                                     : cedar_store_get(s, uid, 6, key, len, &told);
-        if (status || !told) return false;
-        put_told(&again, s, *term);
+        bool has = false;
+        uint32_t status =
+            term->part ? cedar_store_get_tag(s, uid, 6, key, len, &has) : cedar_store_get(s, uid, 6, key, len, &has);
+        if (status || !has) return false;
+        push_returned(&rebuilt, s, *term);
     }
-    return BUILD(t, again, CEDAR_COMPUTE) == CEDAR_OK && equal(s, t) == 1 && entity_equal(s, U("a"), t) == 1 &&
+    return BUILD(t, rebuilt, CEDAR_COMPUTE) == CEDAR_OK && equal(s, t) == 1 && entity_equal(s, U("a"), t) == 1 &&
            entity_equal(s, U("b"), t) == 1;
 }
 
 static void random_nodes(long rounds) {
     cedar_store s = {0}, t = {0};
-    long read = 0, unread = 0, others = 0;
+    long accepted = 0, rejected = 0, unexpected = 0;
     CHECK(new_store(&s) == CEDAR_OK && new_store(&t) == CEDAR_OK);
     for (long k = 0; k < rounds; k++) {
-        content c = drawn_content();
+        content c = random_content();
         uint32_t status = BUILD(&s, c, CEDAR_COMPUTE);
         if (status == CEDAR_OK) {
-            read++;
-            if (!told_alike(&s, &c, &t)) others++;
+            accepted++;
+            if (!is_rebuilt_equal(&s, &c, &t)) unexpected++;
         } else if (status == CEDAR_BAD_ARGUMENT || status == CEDAR_NOT_A_UID || status == CEDAR_NOT_UTF8 ||
                    status == CEDAR_NOT_A_NAME) {
-            unread++;
+            rejected++;
         } else if (status != CEDAR_CYCLE) {
-            others++;
+            unexpected++;
         }
     }
-    printf("values.c: %ld random contents, %ld accepted, %ld rejected\n", rounds, read, unread);
-    CHECK(others == 0);
-    CHECK(read > rounds / 20 && unread > rounds / 20);
+    printf("values.c: %ld random contents, %ld accepted, %ld rejected\n", rounds, accepted, rejected);
+    CHECK(unexpected == 0);
+    CHECK(accepted > rounds / 20 && rejected > rounds / 20);
     cedar_store_free(&s);
     cedar_store_free(&t);
 }
 
 int main(void) {
-    worked_values();
+    values_are_returned_unchanged();
     attributes_and_tags();
-    the_last_of_a_key_counts();
+    the_last_value_of_a_key_is_used();
     shared_nodes();
     indirect_ancestors();
-    no_content();
+    calls_without_content_agree();
     edits_with_content();
-    values_stay();
+    last_value_is_unchanged();
     closed_handles();
-    CHECK(new_store(&kept) == CEDAR_OK && build(&kept, "q", 0) == CEDAR_OK);
+    CHECK(new_store(&test_store) == CEDAR_OK && build(&test_store, "q", 0) == CEDAR_OK);
     terms_out_of_range();
-    words_that_are_no_value();
-    fields_that_are_no_value();
-    levels();
-    cedar_store_free(&kept);
+    invalid_values();
+    invalid_fields();
+    number_of_levels();
+    cedar_store_free(&test_store);
     random_nodes(20000);
-    return counted();
+    return report_counts();
 }

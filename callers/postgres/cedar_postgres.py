@@ -5,20 +5,20 @@ slice is the requested entities and all their ancestors. The package builds a st
 computes the ancestors.
 
 A change first reads the affected entities and is checked on a store of them. If the store accepts it, the change is
-written in one serializable transaction. A cycle or a conflicting duplicate raises `cedar_store.Refused` and writes
+written in one serializable transaction. A cycle or a conflicting duplicate raises `cedar_store.CedarError` and writes
 nothing. PostgreSQL aborts a transaction that conflicts with another one. The transaction is then repeated, up to a
 number of attempts.
 
 Raises:
     Busy: every attempt failed.
-    Lost: there is no connection, or it broke. A change in progress is written completely or not at all. Read the tables
-        to find out which. `upsert` and `remove` can be repeated.
+    ConnectionLost: there is no connection, or it broke. A change in progress is written completely or not at all. Read
+        the tables to find out which. `upsert` and `remove` can be repeated.
 
 Any other error comes from the driver, and nothing is written.
 
 A `Database` has one connection of `psycopg2`. Like a store, it belongs to the thread that created it. A result holds
 for the state that was read, not for later ones. The state of a replica may be older than the state of its primary (see
-`mark` and `reach`).
+`position` and `wait_for`).
 """
 from __future__ import annotations
 
@@ -31,63 +31,77 @@ from typing import Any, Callable, Iterable, Iterator, Mapping, Optional, TypeVar
 
 import psycopg2
 import psycopg2.errors
-from cedar_store import Effect, Policies, Refused, Store, is_uid
+from cedar_store import CedarError, Effect, Policies, Store, is_uid
 
-__all__ = ["Busy", "Database", "Effect", "Entity", "Lost", "NotRead", "Policy", "PolicySet", "Refused", "Slice"]
+__all__ = [
+    "Busy",
+    "CedarError",
+    "ConnectionLost",
+    "Database",
+    "Effect",
+    "Entity",
+    "NotInSlice",
+    "Policy",
+    "PolicySet",
+    "Slice",
+]
 
-_Answer = TypeVar("_Answer")
+_Result = TypeVar("_Result")
 
 # `OFFSET 0` and `enable_seqscan = off` make each lookup use an index. So a serializable transaction locks only what it
 # read, not the whole table. The statement is prepared and planned once. JIT compilation would take longer than the
 # query.
-_ABOVE = """
+_PREPARE_SLICE = """
 PREPARE {name} (text[]) AS
-WITH RECURSIVE above (uid) AS (
+WITH RECURSIVE reached (uid) AS (
     SELECT unnest($1) COLLATE "C"
     UNION
-    SELECT found.parent FROM above
-        CROSS JOIN LATERAL (SELECT parent FROM parents WHERE child = above.uid OFFSET 0) AS found
+    SELECT edge.parent FROM reached
+        CROSS JOIN LATERAL (SELECT parent FROM parents WHERE child = reached.uid OFFSET 0) AS edge
 )
-SELECT found.uid, ARRAY(SELECT parent FROM parents WHERE child = found.uid), {values}
-FROM above CROSS JOIN LATERAL (SELECT * FROM entities WHERE entities.uid = above.uid OFFSET 0) AS found
+SELECT entity.uid, ARRAY(SELECT parent FROM parents WHERE child = entity.uid), {values}
+FROM reached CROSS JOIN LATERAL (SELECT * FROM entities WHERE entities.uid = reached.uid OFFSET 0) AS entity
 """
-_PREPARED = {
-    "cedar_slice": _ABOVE.format(name="cedar_slice", values="NULL, NULL"),
-    "cedar_slice_with_values": _ABOVE.format(name="cedar_slice_with_values", values="found.attributes, found.tags"),
+_PREPARE_STATEMENTS = {
+    name: _PREPARE_SLICE.format(name=name, values=values)
+    for name, values in (
+        ("cedar_slice", "NULL, NULL"),
+        ("cedar_slice_with_values", "entity.attributes, entity.tags"),
+    )
 }
 
 _ALL_ENTITIES = """
 SELECT uid, ARRAY(SELECT parent FROM parents WHERE child = uid), attributes, tags FROM entities
 """
-_PUT_ENTITIES = """
+_UPSERT_ENTITIES = """
 INSERT INTO entities SELECT * FROM unnest(%s::text[], %s::jsonb[], %s::jsonb[])
 ON CONFLICT (uid) DO UPDATE SET attributes = EXCLUDED.attributes, tags = EXCLUDED.tags
 WHERE (entities.attributes, entities.tags) IS DISTINCT FROM (EXCLUDED.attributes, EXCLUDED.tags)
 """
-_PUT_PARENTS = "INSERT INTO parents SELECT * FROM unnest(%s::text[], %s::text[])"
-_DROP_PARENTS = "DELETE FROM parents WHERE (child, parent) IN (SELECT * FROM unnest(%s::text[], %s::text[]))"
+_INSERT_PARENTS = "INSERT INTO parents SELECT * FROM unnest(%s::text[], %s::text[])"
+_DELETE_PARENTS = "DELETE FROM parents WHERE (child, parent) IN (SELECT * FROM unnest(%s::text[], %s::text[]))"
 
 _READ_POLICIES = """
 SELECT id, policies.kind, effect, principal_slot, action_slot, resource_slot, body,
     template, principal, action, resource
 FROM policies LEFT JOIN links USING (id) ORDER BY position
 """
-_PUT_POLICY = """
+_INSERT_POLICY = """
 INSERT INTO policies (id, kind, effect, principal_slot, action_slot, resource_slot, body)
 VALUES (%s, %s, %s, %s, %s, %s, %s)
 """
-_PUT_LINK = "INSERT INTO links (id, template, principal, action, resource) VALUES (%s, %s, %s, %s, %s)"
+_INSERT_LINK = "INSERT INTO links (id, template, principal, action, resource) VALUES (%s, %s, %s, %s, %s)"
 
 
 class Busy(Exception):
     """PostgreSQL aborted every attempt of a change because of concurrent changes. Nothing is written."""
 
 
-class Lost(Exception):
+class ConnectionLost(Exception):
     """There is no connection, or it broke. A change in progress is written completely or not at all."""
 
 
-class NotRead(LookupError):
+class NotInSlice(LookupError):
     """A slice was queried for a uid that it does not cover."""
 
 
@@ -106,13 +120,13 @@ def _values_text(entity: Entity) -> tuple[str, str]:
     return json.dumps(dict(entity.attributes), sort_keys=True), json.dumps(dict(entity.tags), sort_keys=True)
 
 
-def _checked(uids: Iterable[str]) -> list[str]:
-    """Returns the texts as a list. Raises `Refused` if one of them is not a uid."""
-    asked = list(uids)
-    for uid in asked:
+def _checked_uids(texts: Iterable[str]) -> list[str]:
+    """Returns the texts as a list. Raises `CedarError` if one of them is not a uid."""
+    uids = list(texts)
+    for index, uid in enumerate(uids):
         if not is_uid(uid):
-            raise Refused("not a uid", "not a uid")
-    return asked
+            raise CedarError("not a uid", "not a uid " + uid, index)
+    return uids
 
 
 class Slice:
@@ -123,32 +137,33 @@ class Slice:
         self.store = Store((entity.uid, entity.parents) for entity in self.entities.values())
         self._uids = frozenset(uids)
 
-    def _known(self, uid: str) -> str:
+    def _covered(self, uid: str) -> str:
+        """Returns the uid. Raises `NotInSlice` if the slice does not cover it."""
         if uid not in self.entities and uid not in self._uids and is_uid(uid):
             if not any(uid in entity.parents for entity in self.entities.values()):
-                raise NotRead(uid)
+                raise NotInSlice(f"cannot query {uid}: the slice was not read for it")
         return uid
 
     def __contains__(self, uid: str) -> bool:
-        return self._known(uid) in self.store
+        return self._covered(uid) in self.store
 
     def is_descendant_of(self, child: str, ancestor: str) -> bool:
         """Returns whether the second uid is an ancestor of the first.
 
         Raises:
-            Refused: `no entity` if there is no entity with the first uid; `not a uid`.
-            NotRead: the slice does not cover the first uid.
+            CedarError: `no entity` if there is no entity with the first uid; `not a uid`.
+            NotInSlice: the slice does not cover the first uid.
         """
-        return self.store.is_descendant_of(self._known(child), ancestor)
+        return self.store.is_descendant_of(self._covered(child), ancestor)
 
     def ancestors(self, uid: str) -> list[str]:
         """Returns the ancestors of an entity, in ascending order.
 
         Raises:
-            Refused: `no entity` if there is no entity with this uid; `not a uid`.
-            NotRead: the slice does not cover the uid.
+            CedarError: `no entity` if there is no entity with this uid; `not a uid`.
+            NotInSlice: the slice does not cover the uid.
         """
-        return self.store.ancestors(self._known(uid))
+        return self.store.ancestors(self._covered(uid))
 
     def close(self) -> None:
         """Frees the store."""
@@ -240,24 +255,23 @@ class PolicySet:
         """Adds the policies, templates and links of another set. Returns the renamed ids, each with its new id.
 
         Raises:
-            Refused: `occupied` if the sets bind an id to different items and `rename` is False. Also `occupied`, even
-                with
-                `rename`, if two items with the same id differ only in their texts. The library does not see the texts,
-                so it cannot rename such an item.
+            CedarError: `occupied` if the sets bind an id to different items and `rename` is False. Also `occupied`,
+                even with `rename`, if two items with the same id differ only in their texts. The library does not see
+                the texts, so it cannot rename such an item.
         """
-        for id, theirs in other.entries.items():
-            ours = self.entries.get(id)
-            if ours and ours.body != theirs.body and dataclasses.replace(ours, body=theirs.body) == theirs:
-                raise Refused("occupied", f"occupied {id}")
-        renamed = self.policies.merge(other.policies, rename)
-        for id, theirs in other.entries.items():
-            here = renamed.get(id, id)
-            template = renamed.get(theirs.template, theirs.template) if theirs.template is not None else None
-            self.entries.setdefault(here, dataclasses.replace(theirs, id=here, template=template))
-        return renamed
+        for id, new_entry in other.entries.items():
+            entry = self.entries.get(id)
+            if entry and entry.body != new_entry.body and dataclasses.replace(entry, body=new_entry.body) == new_entry:
+                raise CedarError("occupied", f"occupied {id}")
+        new_ids = self.policies.merge(other.policies, rename)
+        for id, new_entry in other.entries.items():
+            new_id = new_ids.get(id, id)
+            template = new_ids.get(new_entry.template, new_entry.template) if new_entry.template is not None else None
+            self.entries.setdefault(new_id, dataclasses.replace(new_entry, id=new_id, template=template))
+        return new_ids
 
 
-def _tells_of_a_loss(error: psycopg2.Error) -> bool:
+def _is_connection_error(error: psycopg2.Error) -> bool:
     """Returns whether the error means that the connection is lost.
 
     Errors of statements have codes. Some codes mean that the connection failed or that the server stops.
@@ -274,20 +288,20 @@ class Database:
     transactions, because the prepared statements would be lost. A change is attempted `attempts` times.
 
     Raises:
-        Lost: the connection failed.
+        ConnectionLost: the connection failed.
     """
 
-    def __init__(self, where: str, attempts: int = 20) -> None:
+    def __init__(self, dsn: str, attempts: int = 20) -> None:
         try:
-            self._connection = psycopg2.connect(where)
+            self._connection = psycopg2.connect(dsn)
         except psycopg2.OperationalError as error:
-            raise Lost(str(error)) from error
+            raise ConnectionLost(f"cannot connect to PostgreSQL: {error}") from error
         self._connection.autocommit = True
-        self._rows("SET plan_cache_mode = force_generic_plan; SET enable_seqscan = off; SET jit = off")
+        self._execute("SET plan_cache_mode = force_generic_plan; SET enable_seqscan = off; SET jit = off")
         self._prepared: set[str] = set()
         self._attempts = attempts
-        self._within = False
-        self.retried = 0  # the number of repeated transactions
+        self._in_transaction = False
+        self.retries = 0  # the number of repeated transactions
 
     def close(self) -> None:
         """Closes the connection. An uncommitted change is not written."""
@@ -299,43 +313,46 @@ class Database:
     def __exit__(self, *_: object) -> None:
         self.close()
 
-    def _rows(self, statement: str, *values: Any) -> list[tuple]:
+    def _execute(self, statement: str, *values: Any) -> list[tuple]:
+        """Runs a statement, and returns its rows. Raises `ConnectionLost` if the connection broke."""
         try:
             with self._connection.cursor() as cursor:
                 cursor.execute(statement, values or None)
                 return cursor.fetchall() if cursor.description else []
         except psycopg2.Error as error:
-            if self._connection.closed or _tells_of_a_loss(error):
+            if self._connection.closed or _is_connection_error(error):
                 self._connection.close()
-                raise Lost(str(error)) from error
+                raise ConnectionLost(f"the connection to PostgreSQL broke: {error}") from error
             raise
 
     @contextlib.contextmanager
     def _transaction(self, kind: str) -> Iterator[None]:
-        if self._within:
-            raise RuntimeError("a transaction of this connection is under way")
-        self._within = True
+        if self._in_transaction:
+            raise RuntimeError("cannot begin a transaction: this connection already has one")
+        self._in_transaction = True
         try:
-            self._rows("BEGIN ISOLATION LEVEL " + kind)
+            self._execute("BEGIN ISOLATION LEVEL " + kind)
             yield
-            self._rows("COMMIT")
+            self._execute("COMMIT")
         except BaseException:
             if not self._connection.closed:
-                with contextlib.suppress(psycopg2.Error, Lost):
-                    self._rows("ROLLBACK")
+                with contextlib.suppress(psycopg2.Error, ConnectionLost):
+                    self._execute("ROLLBACK")
             raise
         finally:
-            self._within = False
+            self._in_transaction = False
 
-    def _changed(self, change: Callable[[], _Answer]) -> _Answer:
+    def _retry(self, change: Callable[[], _Result]) -> _Result:
+        """Runs a change in a serializable transaction, again if PostgreSQL aborts it. Raises `Busy` at the last abort.
+        """
         for attempt in range(self._attempts):
             try:
                 with self._transaction("SERIALIZABLE"):
                     return change()
             except (psycopg2.errors.SerializationFailure, psycopg2.errors.DeadlockDetected):
-                self.retried += 1
+                self.retries += 1
                 time.sleep(random.random() * 0.002 * 2 ** min(attempt, 7))
-        raise Busy(f"refused {self._attempts} times")
+        raise Busy(f"cannot change the tables: concurrent changes aborted all {self._attempts} attempts")
 
     def snapshot(self) -> contextlib.AbstractContextManager[None]:
         """Returns a context in which all reads see one state of the tables. Changes are not possible in it."""
@@ -345,31 +362,31 @@ class Database:
         """Reads the slice of some uids. Reads attributes and tags too if `values` is true.
 
         Raises:
-            Refused: `not a uid` if a text is not a uid; `cycle` if the slice has a cycle. Only another program can have
-                written
-                a cycle.
+            CedarError: `not a uid` if a text is not a uid; `cycle` if the slice has a cycle. Only another program can
+                have written a cycle.
         """
-        asked = _checked(uids)
+        checked = _checked_uids(uids)
         name = "cedar_slice_with_values" if values else "cedar_slice"
         if name not in self._prepared:
-            self._rows(_PREPARED[name])
+            self._execute(_PREPARE_STATEMENTS[name])
             self._prepared.add(name)
-        rows = self._rows(f"EXECUTE {name} (%s)", asked)
-        return Slice(asked, (Entity(uid, tuple(above), held or {}, tags or {}) for uid, above, held, tags in rows))
+        rows = self._execute(f"EXECUTE {name} (%s)", checked)
+        entities = (Entity(uid, tuple(parents), attrs or {}, tags or {}) for uid, parents, attrs, tags in rows)
+        return Slice(checked, entities)
 
     def is_descendant_of(self, child: str, ancestor: str) -> bool:
         """Returns whether the second uid is an ancestor of the first.
 
         Raises:
-            Refused: `no entity` if there is no entity with the first uid; `not a uid`.
+            CedarError: `no entity` if there is no entity with the first uid; `not a uid`.
         """
         with self.read([child]) as part:
             return part.is_descendant_of(child, ancestor)
 
     def all_entities(self) -> list[Entity]:
         """Returns copies of all entities, with attributes and tags, from one state of the tables."""
-        rows = self._rows(_ALL_ENTITIES)
-        return [Entity(uid, tuple(above), attributes, tags) for uid, above, attributes, tags in rows]
+        rows = self._execute(_ALL_ENTITIES)
+        return [Entity(uid, tuple(parents), attributes, tags) for uid, parents, attributes, tags in rows]
 
     def upsert(self, entities: Iterable[Entity]) -> None:
         """Inserts entities, and replaces the entities with the same uids. If a uid occurs several times, the last
@@ -379,40 +396,40 @@ class Database:
         cycle lies within this slice.
 
         Raises:
-            Refused: `cycle` if the change would create a cycle; `not a uid`.
+            CedarError: `cycle` if the change would create a cycle; `not a uid`.
         """
-        put = {entity.uid: entity for entity in entities}
-        if put:
-            self._changed(lambda: self._upsert_now(put))
+        new_entities = {entity.uid: entity for entity in entities}
+        if new_entities:
+            self._retry(lambda: self._upsert_once(new_entities))
 
-    def _upsert_now(self, put: Mapping[str, Entity]) -> None:
-        with self._touched(put.values(), values=False) as part:
-            part.store.upsert((entity.uid, entity.parents) for entity in put.values())
-        self._write(put.values(), part)
+    def _upsert_once(self, new_entities: Mapping[str, Entity]) -> None:
+        with self._read_affected(new_entities.values(), values=False) as part:
+            part.store.upsert((entity.uid, entity.parents) for entity in new_entities.values())
+        self._write(new_entities.values(), part)
 
     def add(self, entities: Iterable[Entity]) -> None:
         """Adds entities. An entity with a stored uid must equal the stored entity, and changes nothing.
 
         Raises:
-            Refused: `duplicate` if the ancestors, attributes or tags differ from the entity with the same uid; `cycle`
-                if the
-                change would create a cycle; `not a uid`.
+            CedarError: `duplicate` if the ancestors, attributes or tags differ from the entity with the same uid;
+                `cycle` if the change would create a cycle; `not a uid`.
         """
-        given = list(entities)
-        if given:
-            self._changed(lambda: self._add_now(given))
+        new_entities = list(entities)
+        if new_entities:
+            self._retry(lambda: self._add_once(new_entities))
 
-    def _add_now(self, given: list[Entity]) -> None:
-        with self._touched(given, values=True) as part:
-            part.store.add((entity.uid, entity.parents) for entity in given)
-        fresh: dict[str, Entity] = {}
-        for entity in given:
-            there = part.entities.get(entity.uid) or fresh.setdefault(entity.uid, entity)
-            if _values_text(there) != _values_text(entity):
-                raise Refused("duplicate", f"duplicate entity {entity.uid}")
-        self._write(fresh.values(), part)
+    def _add_once(self, new_entities: list[Entity]) -> None:
+        with self._read_affected(new_entities, values=True) as part:
+            part.store.add((entity.uid, entity.parents) for entity in new_entities)
+        inserted: dict[str, Entity] = {}
+        for entity in new_entities:
+            existing = part.entities.get(entity.uid) or inserted.setdefault(entity.uid, entity)
+            if _values_text(existing) != _values_text(entity):
+                raise CedarError("duplicate", f"duplicate entity {entity.uid}")
+        self._write(inserted.values(), part)
 
-    def _touched(self, entities: Iterable[Entity], values: bool) -> Slice:
+    def _read_affected(self, entities: Iterable[Entity], values: bool) -> Slice:
+        """Reads the slice of entities to insert and of their parents."""
         uids: dict[str, None] = {}
         for entity in entities:
             uids.update(dict.fromkeys((entity.uid, *entity.parents)))
@@ -420,16 +437,16 @@ class Database:
 
     def _write(self, entities: Iterable[Entity], part: Slice) -> None:
         """Writes entities that the store accepted. Writes only what differs from the slice."""
-        put = list(entities)
-        here = {(entity.uid, parent) for entity in put for parent in entity.parents}
-        there = {(entity.uid, parent) for entity in put if entity.uid in part.entities
-                 for parent in part.entities[entity.uid].parents}
-        if put:
-            laid = [_values_text(entity) for entity in put]
-            self._rows(_PUT_ENTITIES, [entity.uid for entity in put], *map(list, zip(*laid)))
-        for statement, edges in ((_DROP_PARENTS, there - here), (_PUT_PARENTS, here - there)):
+        accepted = list(entities)
+        new_edges = {(entity.uid, parent) for entity in accepted for parent in entity.parents}
+        old_edges = {(entity.uid, parent) for entity in accepted if entity.uid in part.entities
+                     for parent in part.entities[entity.uid].parents}
+        if accepted:
+            texts = [_values_text(entity) for entity in accepted]
+            self._execute(_UPSERT_ENTITIES, [entity.uid for entity in accepted], *map(list, zip(*texts)))
+        for statement, edges in ((_DELETE_PARENTS, old_edges - new_edges), (_INSERT_PARENTS, new_edges - old_edges)):
             if edges:
-                self._rows(statement, *map(list, zip(*edges)))
+                self._execute(statement, *map(list, zip(*edges)))
 
     def remove(self, uids: Iterable[str]) -> int:
         """Removes entities, also from the parents of other entities. Returns the number of removed entities.
@@ -437,64 +454,64 @@ class Database:
         Uids without an entity have no effect. No store is built, because a removal cannot fail in one.
 
         Raises:
-            Refused: `not a uid` if a text is not a uid.
+            CedarError: `not a uid` if a text is not a uid.
         """
-        gone = _checked(uids)
-        return self._changed(lambda: self._remove_now(gone))
+        checked = _checked_uids(uids)
+        return self._retry(lambda: self._remove_once(checked))
 
-    def _remove_now(self, uids: list[str]) -> int:
-        gone = [uid for uid, in self._rows("DELETE FROM entities WHERE uid = ANY (%s) RETURNING uid", uids)]
-        self._rows("DELETE FROM parents WHERE parent = ANY (%s)", gone)
-        return len(gone)
+    def _remove_once(self, uids: list[str]) -> int:
+        removed = [uid for uid, in self._execute("DELETE FROM entities WHERE uid = ANY (%s) RETURNING uid", uids)]
+        self._execute("DELETE FROM parents WHERE parent = ANY (%s)", removed)
+        return len(removed)
 
     def policies(self) -> PolicySet:
         """Reads all policies of the tables, in insertion order."""
-        read = PolicySet()
-        for id, kind, effect, principal, action, resource, body, template, *values in self._rows(_READ_POLICIES):
+        policies = PolicySet()
+        for id, kind, effect, principal, action, resource, body, template, *values in self._execute(_READ_POLICIES):
             if kind == "link":
-                read.link(template, id, principal=values[0], action=values[1], resource=values[2])
+                policies.link(template, id, principal=values[0], action=values[1], resource=values[2])
             elif kind == "template":
                 slots = {"principal": principal, "action": action, "resource": resource}
-                read.add_template(id, Effect[effect.upper()], **slots, body=body)
+                policies.add_template(id, Effect[effect.upper()], **slots, body=body)
             else:
-                read.add_static(id, Effect[effect.upper()], body=body)
-        return read
+                policies.add_static(id, Effect[effect.upper()], body=body)
+        return policies
 
-    def change_policies(self, change: Callable[[PolicySet], _Answer]) -> _Answer:
+    def change_policies(self, change: Callable[[PolicySet], _Result]) -> _Result:
         """Applies a change to the policy set of the tables, and writes the difference in one transaction.
 
         Returns the result of `change`. If `change` raises an exception, nothing is written. `change` may be called
         several times, each time on a set that was read again.
         """
-        return self._changed(lambda: self._change_policies_now(change))
+        return self._retry(lambda: self._change_policies_once(change))
 
-    def _change_policies_now(self, change: Callable[[PolicySet], _Answer]) -> _Answer:
-        read = self.policies()
-        before = dict(read.entries)
-        answer = change(read)
-        gone = [id for id, entry in before.items() if read.entries.get(id) != entry]
-        self._rows("DELETE FROM links WHERE id = ANY (%s)", gone)
-        self._rows("DELETE FROM policies WHERE id = ANY (%s)", gone)
-        for id, entry in read.entries.items():
+    def _change_policies_once(self, change: Callable[[PolicySet], _Result]) -> _Result:
+        policies = self.policies()
+        before = dict(policies.entries)
+        result = change(policies)
+        removed = [id for id, entry in before.items() if policies.entries.get(id) != entry]
+        self._execute("DELETE FROM links WHERE id = ANY (%s)", removed)
+        self._execute("DELETE FROM policies WHERE id = ANY (%s)", removed)
+        for id, entry in policies.entries.items():
             if before.get(id) != entry:
                 effect = None if entry.effect is None else entry.effect.name.lower()
                 slots = entry.slots if entry.kind == "template" else (None, None, None)
-                self._rows(_PUT_POLICY, id, entry.kind, effect, *slots, entry.body)
+                self._execute(_INSERT_POLICY, id, entry.kind, effect, *slots, entry.body)
                 if entry.kind == "link":
-                    self._rows(_PUT_LINK, id, entry.template, *entry.values)
-        return answer
+                    self._execute(_INSERT_LINK, id, entry.template, *entry.values)
+        return result
 
-    def mark(self) -> str:
-        """Returns the current position of the primary, for `reach` on a replica. It covers all earlier commits."""
-        return self._rows("SELECT pg_current_wal_flush_lsn()::text")[0][0]
+    def position(self) -> str:
+        """Returns the current position of the primary, for `wait_for` on a replica. It covers all earlier commits."""
+        return self._execute("SELECT pg_current_wal_flush_lsn()::text")[0][0]
 
-    def reach(self, mark: str, seconds: float) -> bool:
+    def wait_for(self, position: str, seconds: float) -> bool:
         """Waits until this replica has reached a position of its primary. Returns False if that takes longer than
         `seconds`.
         """
-        until = time.monotonic() + seconds
-        while not self._rows("SELECT pg_last_wal_replay_lsn() >= %s::pg_lsn", mark)[0][0]:
-            if time.monotonic() >= until:
+        deadline = time.monotonic() + seconds
+        while not self._execute("SELECT pg_last_wal_replay_lsn() >= %s::pg_lsn", position)[0][0]:
+            if time.monotonic() >= deadline:
                 return False
             time.sleep(0.001)
         return True

@@ -31,14 +31,14 @@ fsync = {fsync}
 """
 
 
-def programs() -> str:
+def program_folder() -> str:
     """Returns the folder with the programs of the newest server of this machine, or an empty text."""
-    found = [name for name in glob.glob("/usr/lib/postgresql/*/bin/initdb") if name.split("/")[4].isdigit()]
-    newest = max(found, key=lambda name: int(name.split("/")[4]), default=None) or shutil.which("initdb")
+    paths = [path for path in glob.glob("/usr/lib/postgresql/*/bin/initdb") if path.split("/")[4].isdigit()]
+    newest = max(paths, key=lambda path: int(path.split("/")[4]), default=None) or shutil.which("initdb")
     return os.path.dirname(os.path.realpath(newest)) if newest else ""
 
 
-def _user() -> dict:
+def _server_user() -> dict:
     """Returns the user that a server runs as. `initdb` does not run as root."""
     if os.getuid() != 0:
         return {}
@@ -50,7 +50,7 @@ def _user() -> dict:
 class Server:
     """A server with data of its own. `close` stops it and deletes its folder."""
 
-    def __init__(self, of: Server | None = None, durable: bool = True) -> None:
+    def __init__(self, primary: Server | None = None, durable: bool = True) -> None:
         """Creates a server with empty tables, or a replica of the given primary.
 
         A server that is not `durable` does not wait for the disk. It loses commits if the machine crashes, but not if
@@ -58,25 +58,25 @@ class Server:
         """
         self.folder = tempfile.mkdtemp(prefix="cedar-")
         atexit.register(self.close)
-        self.where = f"host={self.folder} user=cedar dbname=postgres"
+        self.dsn = f"host={self.folder} user=cedar dbname=postgres"
         if os.getuid() == 0:
-            os.chown(self.folder, _user()["user"], _user()["group"])
-        data = ["-D", self.folder + "/data"]
-        if of:
-            how = ["-R", "-X", "stream", "-c", "fast", "--no-sync"]
-            self._run("pg_basebackup", "-h", of.folder, "-U", "cedar", *how, *data)
+            os.chown(self.folder, _server_user()["user"], _server_user()["group"])
+        data_options = ["-D", self.folder + "/data"]
+        if primary:
+            options = ["-R", "-X", "stream", "-c", "fast", "--no-sync"]
+            self._run("pg_basebackup", "-h", primary.folder, "-U", "cedar", *options, *data_options)
         else:
-            self._run("initdb", "-U", "cedar", "--auth=trust", "-E", "UTF8", "--locale=C", "--no-sync", *data)
+            self._run("initdb", "-U", "cedar", "--auth=trust", "-E", "UTF8", "--locale=C", "--no-sync", *data_options)
         with open(self.folder + "/data/postgresql.conf", "a") as settings:
             settings.write(SETTINGS.format(folder=self.folder, fsync="on" if durable else "off"))
         self.start()
 
     def _run(self, program: str, *arguments: str) -> None:
-        command = [os.path.join(programs(), program), *arguments]
-        done = subprocess.run(command, cwd=self.folder, stdin=subprocess.DEVNULL, stdout=subprocess.PIPE,
-                              stderr=subprocess.STDOUT, text=True, **_user())
-        if done.returncode != 0:
-            raise RuntimeError(f"{program}: {done.stdout}")
+        command = [os.path.join(program_folder(), program), *arguments]
+        result = subprocess.run(command, cwd=self.folder, stdin=subprocess.DEVNULL, stdout=subprocess.PIPE,
+                                stderr=subprocess.STDOUT, text=True, **_server_user())
+        if result.returncode != 0:
+            raise RuntimeError(f"{program} failed with exit status {result.returncode}: {result.stdout}")
 
     def _control(self, *arguments: str) -> None:
         self._run("pg_ctl", "-D", self.folder + "/data", "-s", "-w", "-t", "60", *arguments)
@@ -85,22 +85,22 @@ class Server:
         """Starts the server, and waits until it accepts connections."""
         self._control("-l", self.folder + "/log", "start")
 
-    def stop(self, how: str = "fast") -> None:
+    def stop(self, mode: str = "fast") -> None:
         """Stops the server. `immediate` is like a power failure, except that the files keep everything written to them.
         """
-        self._control("-m", how, "stop")
+        self._control("-m", mode, "stop")
 
-    def fresh(self, name: str) -> str:
+    def create_database(self, name: str) -> str:
         """Creates a database with the empty tables of `schema.sql`. Returns its connection string."""
         self.sql("CREATE DATABASE " + name)
-        where = self.where.replace("dbname=postgres", "dbname=" + name)
+        dsn = self.dsn.replace("dbname=postgres", "dbname=" + name)
         with open(os.path.join(os.path.dirname(os.path.abspath(__file__)), "schema.sql")) as schema:
-            self.sql(schema.read(), where=where)
-        return where
+            self.sql(schema.read(), dsn=dsn)
+        return dsn
 
-    def sql(self, statement: str, *values: object, where: str = "") -> list:
+    def sql(self, statement: str, *values: object, dsn: str = "") -> list:
         """Runs a statement in a connection of its own, without the library. Returns the rows."""
-        connection = psycopg2.connect(where or self.where)
+        connection = psycopg2.connect(dsn or self.dsn)
         connection.autocommit = True
         with contextlib.closing(connection), connection.cursor() as cursor:
             cursor.execute(statement, values or None)
@@ -120,11 +120,11 @@ class Server:
         self.close()
 
 
-_shared: list[Server] = []
+_shared_servers: list[Server] = []
 
 
-def shared() -> Server:
+def shared_server() -> Server:
     """Returns the server that tests share. The first test starts it."""
-    if not _shared:
-        _shared.append(Server(durable=False))
-    return _shared[0]
+    if not _shared_servers:
+        _shared_servers.append(Server(durable=False))
+    return _shared_servers[0]

@@ -15,10 +15,10 @@ import time
 import unittest
 
 import psycopg2.errors
-from cedar_postgres import Busy, Database, Entity, Lost, Refused
+from cedar_postgres import Busy, CedarError, ConnectionLost, Database, Entity
 from cedar_store import Store
+from random_entities import random_entities, random_request
 from servers import Server
-from worlds import request, uid, world
 
 SECONDS = 6
 READERS, WRITERS = 20, 4
@@ -34,136 +34,138 @@ def whole_store(entities: list[Entity]) -> Store:
 class Client(threading.Thread):
     """A thread that works until it is stopped, and connects again if its connection is lost."""
 
-    def __init__(self, where: str, stop: threading.Event, seed: int, pause: float = 0.0) -> None:
+    def __init__(self, dsn: str, stop: threading.Event, seed: int, pause: float = 0.0) -> None:
         super().__init__()
-        self.where, self.stop, self.drawn, self.pause = where, stop, random.Random(seed), pause
-        self.done = self.lost = self.retried = 0
+        self.dsn, self.stop, self.rng, self.pause = dsn, stop, random.Random(seed), pause
+        self.done = self.lost_connections = self.retries = 0
         self.faults: list[str] = []
 
     def run(self) -> None:
         while not self.stop.is_set():
             try:
-                with Database(self.where) as database:
+                with Database(self.dsn) as database:
                     self._work(database)
-            except Lost:
-                self.lost += 1
+            except ConnectionLost:
+                self.lost_connections += 1
                 time.sleep(0.05)
-            except Exception as fault:  # reports a fault of the test, which would be lost with the thread
-                self.faults.append(repr(fault))
+            except Exception as error:  # reports a fault of the test, which would be lost with the thread
+                self.faults.append(repr(error))
                 return
 
     def _work(self, database: Database) -> None:
         while not self.stop.is_set():
             self.step(database)
             self.done += 1
-            self.retried, database.retried = self.retried + database.retried, 0
-            time.sleep(self.pause * self.drawn.random())
+            self.retries, database.retries = self.retries + database.retries, 0
+            time.sleep(self.pause * self.rng.random())
 
 
 class Reader(Client):
     """A client that reads slices. It compares every tenth slice with a store of all entities of the same snapshot."""
 
-    def __init__(self, where: str, stop: threading.Event, seed: int, entities: list[Entity]) -> None:
-        super().__init__(where, stop, seed, pause=0.04)
+    def __init__(self, dsn: str, stop: threading.Event, seed: int, entities: list[Entity]) -> None:
+        super().__init__(dsn, stop, seed, pause=0.04)
         self.entities, self.compared = entities, 0
 
     def step(self, database: Database) -> None:
-        asked = [*request(self.entities, self.drawn), *PAIR]
-        if self.drawn.random() > 0.1:
-            with database.read(asked) as part:
-                self._see(part)
+        uids = [*random_request(self.entities, self.rng), *PAIR]
+        if self.rng.random() > 0.1:
+            with database.read(uids) as part:
+                self._check_pair(part)
             return
         with database.snapshot():
-            part, everything = database.read(asked), database.all_entities()
-        with part, whole_store(everything) as whole, whole.slice(asked) as due:
-            self._see(part)
+            part, all_entities = database.read(uids), database.all_entities()
+        with part, whole_store(all_entities) as whole, whole.slice(uids) as expected:
+            self._check_pair(part)
             self.compared += 1
-            if part.store != due or any((name in part) != (name in whole) for name in asked):
-                self.faults.append(f"a slice differs at {asked}")
-            for name in asked:
-                if name in whole and part.ancestors(name) != whole.ancestors(name):
-                    self.faults.append(f"the ancestors of {name} differ")
+            if part.store != expected or any((uid in part) != (uid in whole) for uid in uids):
+                self.faults.append(f"the slice at {uids} differs from the slice of the whole store")
+            for uid in uids:
+                if uid in whole and part.ancestors(uid) != whole.ancestors(uid):
+                    self.faults.append(f"the ancestors of {uid} differ from those in the whole store")
 
-    def _see(self, part) -> None:
-        left, right = (part.entities[name].parents if name in part.entities else None for name in PAIR)
+    def _check_pair(self, part) -> None:
+        """Checks that the two entities of the pair were read from the same write."""
+        left, right = (part.entities[uid].parents if uid in part.entities else None for uid in PAIR)
         if left != right:
-            self.faults.append(f"a write was seen in part: {left} and {right}")
+            self.faults.append(f"a read saw a part of a write: the parents of the pair are {left} and {right}")
 
 
 class Writer(Client):
     """A client that inserts entities of its own, records their versions, and changes entities that all clients share.
     """
 
-    def __init__(self, where: str, stop: threading.Event, seed: int, entities: list[Entity]) -> None:
-        super().__init__(where, stop, seed, pause=0.02)
-        self.shared = [entity.uid for entity in entities]
-        self.groups = [name for name in self.shared if name.startswith("Group")]
-        self.seed, self.version, self.refused, self.busy = seed, 0, 0, 0
-        self.lot = 0  # the number of the batch; grows while the server is down, so no entity is overwritten
+    def __init__(self, dsn: str, stop: threading.Event, seed: int, entities: list[Entity]) -> None:
+        super().__init__(dsn, stop, seed, pause=0.02)
+        self.shared_uids = [entity.uid for entity in entities]
+        self.groups = [uid for uid in self.shared_uids if uid.startswith("Group")]
+        self.seed, self.version, self.failed, self.busy = seed, 0, 0, 0
+        self.batch = 0  # the number of the batch; grows while the server is down, so no entity is overwritten
         self.committed: dict[int, int] = {}  # versions known to be written, by the number of three entities
-        self.unsure: dict[int, set[int]] = {}  # versions that may be written: the connection was lost
+        self.uncertain: dict[int, set[int]] = {}  # versions that may be written: the connection was lost
 
-    def mine(self, number: int) -> list[str]:
-        return [f'Mine::"{self.seed} {number} {at}"' for at in range(3)]
+    def own_uids(self, number: int) -> list[str]:
+        return [f'Own::"{self.seed} {number} {k}"' for k in range(3)]
 
     def step(self, database: Database) -> None:
+        actions = self._upsert_own, self._upsert_own, self._upsert_pair, self._upsert_group, self._remove_and_add
         try:
-            self.drawn.choice((self._own, self._own, self._pair, self._edge, self._remove))(database)
-        except Refused:
-            self.refused += 1
+            self.rng.choice(actions)(database)
+        except CedarError:
+            self.failed += 1
         except Busy:
             self.busy += 1
 
-    def _own(self, database: Database) -> None:
-        number, self.version = self.lot * 1000 + self.drawn.randrange(50), self.version + 1
-        values, above = {"version": self.version}, (self.drawn.choice(self.groups),)
-        unsure = self.unsure.setdefault(number, set())
-        unsure.add(self.version)
-        database.upsert([Entity(name, above, values) for name in self.mine(number)])
+    def _upsert_own(self, database: Database) -> None:
+        number, self.version = self.batch * 1000 + self.rng.randrange(50), self.version + 1
+        attributes, parents = {"version": self.version}, (self.rng.choice(self.groups),)
+        uncertain = self.uncertain.setdefault(number, set())
+        uncertain.add(self.version)
+        database.upsert([Entity(uid, parents, attributes) for uid in self.own_uids(number)])
         self.committed[number] = self.version
-        unsure.clear()
+        uncertain.clear()
 
-    def _pair(self, database: Database) -> None:
-        above = (self.drawn.choice(self.groups),)
-        database.upsert([Entity(name, above) for name in PAIR])
+    def _upsert_pair(self, database: Database) -> None:
+        parents = (self.rng.choice(self.groups),)
+        database.upsert([Entity(uid, parents) for uid in PAIR])
 
-    def _edge(self, database: Database) -> None:
-        database.upsert([Entity(self.drawn.choice(self.groups), tuple(self.drawn.sample(self.groups, 2)))])
+    def _upsert_group(self, database: Database) -> None:
+        database.upsert([Entity(self.rng.choice(self.groups), tuple(self.rng.sample(self.groups, 2)))])
 
-    def _remove(self, database: Database) -> None:
-        gone = self.drawn.choice(self.shared)
-        database.remove([gone])
-        if self.drawn.random() < 0.8:
-            database.add([Entity(gone, (self.drawn.choice(self.groups),))])
+    def _remove_and_add(self, database: Database) -> None:
+        removed = self.rng.choice(self.shared_uids)
+        database.remove([removed])
+        if self.rng.random() < 0.8:
+            database.add([Entity(removed, (self.rng.choice(self.groups),))])
 
 
-def kill_in_a_write(where: str, drawn: random.Random) -> tuple[int, int]:
+def kill_client_in_a_write(dsn: str, rng: random.Random) -> tuple[int, int]:
     """Kills a client while it writes many entities. Returns the last version that it wrote and the version that it had
-    begun.
+    started.
     """
-    command = [sys.executable, "-B", os.path.abspath(__file__), where]
+    command = [sys.executable, "-B", os.path.abspath(__file__), dsn]
     path = os.pathsep.join(folder for folder in sys.path if folder)
     client = subprocess.Popen(command, stdout=subprocess.PIPE, text=True, env={**os.environ, "PYTHONPATH": path})
-    begun = 0
-    while begun < 2:
-        begun = int(client.stdout.readline().split()[1])
-    time.sleep(drawn.random() * 0.03)
+    started = 0
+    while started < 2:
+        started = int(client.stdout.readline().split()[1])
+    time.sleep(rng.random() * 0.03)
     client.send_signal(signal.SIGKILL)
-    begun = max([begun, *(int(line.split()[1]) for line in client.stdout)])
+    started = max([started, *(int(line.split()[1]) for line in client.stdout)])
     client.wait()
     client.stdout.close()
-    return begun - 1, begun
+    return started - 1, started
 
 
-def write_until_killed(where: str) -> None:
+def write_until_killed(dsn: str) -> None:
     """Runs the client that is killed. It prints each version before writing it, so the previous version is written by
     then.
     """
-    with Database(where) as database:
+    with Database(dsn) as database:
         for version in range(1, 1000000):
-            print("begun", version, flush=True)
-            database.upsert([Entity(f'Batch::"{at}"', (f'Group::"v{version}"',), {"version": version})
-                             for at in range(BATCH)])
+            print("started", version, flush=True)
+            database.upsert([Entity(f'Batch::"{k}"', (f'Group::"v{version}"',), {"version": version})
+                             for k in range(BATCH)])
 
 
 class Load(unittest.TestCase):
@@ -175,102 +177,104 @@ class Load(unittest.TestCase):
     def setUpClass(cls) -> None:
         cls.server = Server()
         cls.addClassCleanup(cls.server.close)
-        cls.where = cls.server.fresh("load")
-        cls.drawn = random.Random(17)
-        entities = world(1000, cls.drawn)
-        with Database(cls.where) as database:
+        cls.dsn = cls.server.create_database("load")
+        cls.rng = random.Random(17)
+        entities = random_entities(1000, cls.rng)
+        with Database(cls.dsn) as database:
             database.add(entities)
         stop = threading.Event()
-        cls.writers = [Writer(cls.where, stop, seed, entities) for seed in range(WRITERS)]
-        cls.readers = [Reader(cls.where, stop, 100 + seed, entities) for seed in range(READERS)]
-        began = time.monotonic()
+        cls.writers = [Writer(cls.dsn, stop, seed, entities) for seed in range(WRITERS)]
+        cls.readers = [Reader(cls.dsn, stop, 100 + seed, entities) for seed in range(READERS)]
+        start = time.monotonic()
         for client in cls.readers + cls.writers:
             client.start()
         try:
-            cls._disturb(began)
+            cls._kill_clients_and_restart_server(start)
         finally:
             stop.set()
             for client in cls.readers + cls.writers:
                 client.join()
-        cls.seconds = time.monotonic() - began
-        cls._tell()
+        cls.seconds = time.monotonic() - start
+        cls._report()
 
     @classmethod
-    def _disturb(cls, began: float) -> None:
+    def _kill_clients_and_restart_server(cls, start: float) -> None:
         cls.killed = []
-        for at in range(3):
-            time.sleep(max(began + SECONDS * (at + 1) / 8 - time.monotonic(), 0))
-            cls.killed.append((kill_in_a_write(cls.where, cls.drawn), cls._batch()))
-        time.sleep(max(began + SECONDS * 0.6 - time.monotonic(), 0))
+        for k in range(3):
+            time.sleep(max(start + SECONDS * (k + 1) / 8 - time.monotonic(), 0))
+            cls.killed.append((kill_client_in_a_write(cls.dsn, cls.rng), cls._batch_states()))
+        time.sleep(max(start + SECONDS * 0.6 - time.monotonic(), 0))
         cls.server.stop("immediate")
         for writer in cls.writers:
-            writer.lot += 1
+            writer.batch += 1
         cls.server.start()
-        time.sleep(max(began + SECONDS - time.monotonic(), SECONDS * 0.2))
+        time.sleep(max(start + SECONDS - time.monotonic(), SECONDS * 0.2))
 
     @classmethod
-    def _batch(cls) -> set[tuple]:
+    def _batch_states(cls) -> set[tuple]:
         """Returns the states of the entities of the killed client. There is exactly one if its write was atomic."""
-        with Database(cls.where) as database, database.read([f'Batch::"{at}"' for at in range(BATCH)], True) as part:
+        with Database(cls.dsn) as database, database.read([f'Batch::"{k}"' for k in range(BATCH)], True) as part:
             return {(entity.attributes["version"], entity.parents) for entity in part.entities.values()}
 
     @classmethod
-    def _tell(cls) -> None:
-        asked, compared = sum(one.done for one in cls.readers), sum(one.compared for one in cls.readers)
-        done, refused, retried, lost = (sum(getattr(one, what) for one in cls.writers)
-                                        for what in ("done", "refused", "retried", "lost"))
-        print(f"load: {cls.seconds:.0f} s, {READERS} readers: {asked} requests, {compared} of them compared with the "
-              f"whole store of their snapshot; {WRITERS} writers: {done} changes, {refused} refused, {retried} made "
-              f"again; {lost + sum(one.lost for one in cls.readers)} times without a connection")
+    def _report(cls) -> None:
+        requests, compared = (sum(getattr(reader, count) for reader in cls.readers) for count in ("done", "compared"))
+        changes, failed, retries = (sum(getattr(writer, count) for writer in cls.writers)
+                                    for count in ("done", "failed", "retries"))
+        lost_connections = sum(client.lost_connections for client in cls.readers + cls.writers)
+        print(f"load: {cls.seconds:.0f} s, {READERS} readers: {requests} requests, {compared} of them compared with the "
+              f"whole store of their snapshot; {WRITERS} writers: {changes} changes, {failed} failed; {retries} "
+              f"transactions repeated; {lost_connections} connections lost")
 
-    def test_no_answer_differs(self) -> None:
+    def test_results_equal_those_of_the_whole_store(self) -> None:
         self.assertEqual([fault for client in self.readers + self.writers for fault in client.faults], [])
         self.assertGreater(min(reader.done for reader in self.readers), 0)
         self.assertGreater(sum(reader.compared for reader in self.readers), 10)
 
-    def test_nothing_committed_is_lost(self) -> None:
-        with Database(self.where) as database:
+    def test_no_committed_change_is_lost(self) -> None:
+        with Database(self.dsn) as database:
             for writer in self.writers:
                 self.assertGreater(len(writer.committed), 5)
                 for number, version in writer.committed.items():
-                    with database.read(writer.mine(number), values=True) as part:
-                        seen = {entity.attributes["version"] for entity in part.entities.values() if entity.attributes}
-                    self.assertEqual(len(seen), 1)
-                    self.assertLessEqual(seen, {version, *writer.unsure[number]})
+                    with database.read(writer.own_uids(number), values=True) as part:
+                        read = {entity.attributes["version"] for entity in part.entities.values() if entity.attributes}
+                    self.assertEqual(len(read), 1)
+                    self.assertLessEqual(read, {version, *writer.uncertain[number]})
 
-    def test_the_server_was_stopped_in_the_middle(self) -> None:
-        self.assertGreaterEqual(sum(client.lost for client in self.readers + self.writers), READERS)
+    def test_clients_lose_connections_when_the_server_stops(self) -> None:
+        lost_connections = sum(client.lost_connections for client in self.readers + self.writers)
+        self.assertGreaterEqual(lost_connections, READERS)
 
-    def test_a_killed_client_leaves_all_of_a_write_or_nothing(self) -> None:
-        for (done, begun), seen in self.killed:
-            self.assertEqual(len(seen), 1)
-            self.assertLessEqual(seen, {(version, (f'Group::"v{version}"',)) for version in (done, begun)})
+    def test_the_write_of_a_killed_client_is_atomic(self) -> None:
+        for (written, started), states in self.killed:
+            self.assertEqual(len(states), 1)
+            self.assertLessEqual(states, {(version, (f'Group::"v{version}"',)) for version in (written, started)})
 
-    def test_what_is_left_has_no_cycle(self) -> None:
-        with Database(self.where) as database, whole_store(database.all_entities()) as whole:
+    def test_the_final_state_has_no_cycle(self) -> None:
+        with Database(self.dsn) as database, whole_store(database.all_entities()) as whole:
             whole.validate()
             self.assertGreater(len(whole), 1000)
 
 
-class Keeper(Client):
+class HistoryWriter(Client):
     """A client that inserts edges together with a clock value, and records the entities at each clock value."""
 
-    def __init__(self, where: str, stop: threading.Event, entities: list[Entity]) -> None:
-        super().__init__(where, stop, 23, pause=0.01)
+    def __init__(self, dsn: str, stop: threading.Event, entities: list[Entity]) -> None:
+        super().__init__(dsn, stop, 23, pause=0.01)
         self.parents = {entity.uid: entity.parents for entity in entities}
-        self.groups = [name for name in self.parents if name.startswith("Group")]
+        self.groups = [uid for uid in self.parents if uid.startswith("Group")]
         self.history = [dict(self.parents)]
-        self.committed = [time.monotonic()]
+        self.commit_times = [time.monotonic()]
 
     def step(self, database: Database) -> None:
-        name, above = self.drawn.choice(list(self.parents)), tuple(self.drawn.sample(self.groups, 1))
-        now = len(self.history)
+        uid, new_parents = self.rng.choice(list(self.parents)), tuple(self.rng.sample(self.groups, 1))
+        clock = len(self.history)
         try:
-            self.history.append({**self.parents, name: above})
-            database.upsert([Entity(name, above), Entity(CLOCK, (), {"time": now})])
-            self.parents[name] = above
-            self.committed.append(time.monotonic())
-        except Refused:
+            self.history.append({**self.parents, uid: new_parents})
+            database.upsert([Entity(uid, new_parents), Entity(CLOCK, (), {"time": clock})])
+            self.parents[uid] = new_parents
+            self.commit_times.append(time.monotonic())
+        except CedarError:
             self.history.pop()
 
 
@@ -281,76 +285,77 @@ class Replica(unittest.TestCase):
     def setUpClass(cls) -> None:
         cls.primary = Server()
         cls.addClassCleanup(cls.primary.close)
-        cls.where = cls.primary.fresh("replicated")
-        cls.entities = world(300, random.Random(29))
-        with Database(cls.where) as database:
+        cls.primary_dsn = cls.primary.create_database("replicated")
+        cls.entities = random_entities(300, random.Random(29))
+        with Database(cls.primary_dsn) as database:
             database.add([*cls.entities, Entity(CLOCK, (), {"time": 0})])
-        cls.replica = Server(of=cls.primary)
+        cls.replica = Server(primary=cls.primary)
         cls.addClassCleanup(cls.replica.close)
-        cls.there = cls.replica.where.replace("dbname=postgres", "dbname=replicated")
+        cls.replica_dsn = cls.replica.dsn.replace("dbname=postgres", "dbname=replicated")
 
     def setUp(self) -> None:
-        self.database = Database(self.where)
+        self.database = Database(self.primary_dsn)
         self.addCleanup(self.database.close)
-        self.replicated = Database(self.there)
+        self.replicated = Database(self.replica_dsn)
         self.addCleanup(self.replicated.close)
 
-    def test_answers_are_those_of_an_earlier_moment(self) -> None:
+    def test_replica_returns_results_of_an_earlier_moment(self) -> None:
         with self.database.snapshot():
             entities = [entity for entity in self.database.all_entities() if entity.uid != CLOCK]
         self.database.upsert([Entity(CLOCK, (), {"time": 0})])
-        self.assertTrue(self.replicated.reach(self.database.mark(), 30))
+        self.assertTrue(self.replicated.wait_for(self.database.position(), 30))
         stop = threading.Event()
-        keeper, drawn, behind, last = Keeper(self.where, stop, entities), random.Random(31), [], 0
-        keeper.start()
-        until = time.monotonic() + SECONDS / 2
-        while time.monotonic() < until:
-            asked, began = request(entities, drawn), time.monotonic()
-            with self.replicated.read([*asked, CLOCK], values=True) as part:
-                now = part.entities[CLOCK].attributes["time"]
-                with Store(keeper.history[now]) as whole, whole.slice(asked) as due:
+        writer, rng, lags, last_clock = HistoryWriter(self.primary_dsn, stop, entities), random.Random(31), [], 0
+        writer.start()
+        deadline = time.monotonic() + SECONDS / 2
+        while time.monotonic() < deadline:
+            uids, start = random_request(entities, rng), time.monotonic()
+            with self.replicated.read([*uids, CLOCK], values=True) as part:
+                clock = part.entities[CLOCK].attributes["time"]
+                with Store(writer.history[clock]) as whole, whole.slice(uids) as expected:
                     part.store.remove([CLOCK])
-                    self.assertTrue(part.store == due)
-            self.assertGreaterEqual(now, last)
-            last, since = now, keeper.committed[now + 1] if now + 1 < len(keeper.committed) else began
-            behind.append(max(began - since, 0.0))
+                    self.assertTrue(part.store == expected)
+            self.assertGreaterEqual(clock, last_clock)
+            last_clock = clock
+            next_commit = writer.commit_times[clock + 1] if clock + 1 < len(writer.commit_times) else start
+            lags.append(max(start - next_commit, 0.0))
         stop.set()
-        keeper.join()
-        self.assertEqual(keeper.faults, [])
-        self.assertGreater(last, 10)
-        behind.sort()
-        print(f"replica: {len(behind)} requests beside {last} writes: {sum(lag > 0 for lag in behind)} answered from a "
-              f"state that had been left; by {behind[len(behind) * 99 // 100] * 1e3:.1f} ms at the 99th of 100, "
-              f"{behind[-1] * 1e3:.1f} ms at most")
+        writer.join()
+        self.assertEqual(writer.faults, [])
+        self.assertGreater(last_clock, 10)
+        lags.sort()
+        outdated, percentile = sum(lag > 0 for lag in lags), lags[len(lags) * 99 // 100]
+        print(f"replica: {len(lags)} requests during {last_clock} writes: {outdated} read an outdated state; 99th "
+              f"percentile of the lag {percentile * 1e3:.1f} ms, maximum {lags[-1] * 1e3:.1f} ms")
 
-    def test_a_mark_is_reached(self) -> None:
-        took = []
-        for at in range(50):
-            self.database.upsert([Entity(f'Seen::"{at}"', ('Group::"seen"',))])
-            mark, began = self.database.mark(), time.monotonic()
-            self.assertTrue(self.replicated.reach(mark, 30))
-            took.append(time.monotonic() - began)
-            self.assertTrue(self.replicated.is_descendant_of(f'Seen::"{at}"', 'Group::"seen"'))
-        print(f"replica: what was written is there {statistics.median(took) * 1e3:.1f} ms after it was committed, "
-              f"{max(took) * 1e3:.1f} ms at most of 50")
+    def test_wait_for_a_position_of_the_primary(self) -> None:
+        durations = []
+        for k in range(50):
+            self.database.upsert([Entity(f'Seen::"{k}"', ('Group::"seen"',))])
+            position, start = self.database.position(), time.monotonic()
+            self.assertTrue(self.replicated.wait_for(position, 30))
+            durations.append(time.monotonic() - start)
+            self.assertTrue(self.replicated.is_descendant_of(f'Seen::"{k}"', 'Group::"seen"'))
+        print(f"replica: a commit is visible after {statistics.median(durations) * 1e3:.1f} ms (median of 50), "
+              f"maximum {max(durations) * 1e3:.1f} ms")
 
-    def test_a_replica_that_is_held_up_answers_as_before(self) -> None:
-        child, ancestor = 'Held::"a"', 'Group::"held"'
+    def test_a_paused_replica_returns_the_old_results(self) -> None:
+        child, ancestor = 'Paused::"a"', 'Group::"paused"'
         self.database.upsert([Entity(child, (ancestor,))])
-        self.assertTrue(self.replicated.reach(self.database.mark(), 30))
+        self.assertTrue(self.replicated.wait_for(self.database.position(), 30))
         self.replica.sql("SELECT pg_wal_replay_pause()")
         self.database.upsert([Entity(child)])
-        mark = self.database.mark()
-        self.assertFalse(self.replicated.reach(mark, 0.2))
+        position = self.database.position()
+        self.assertFalse(self.replicated.wait_for(position, 0.2))
         self.assertFalse(self.database.is_descendant_of(child, ancestor))
         self.assertTrue(self.replicated.is_descendant_of(child, ancestor))
         self.replica.sql("SELECT pg_wal_replay_resume()")
-        self.assertTrue(self.replicated.reach(mark, 30))
+        self.assertTrue(self.replicated.wait_for(position, 30))
         self.assertFalse(self.replicated.is_descendant_of(child, ancestor))
 
-    def test_a_replica_takes_no_change(self) -> None:
+    def test_a_replica_rejects_changes(self) -> None:
         with self.assertRaises(psycopg2.errors.FeatureNotSupported):
-            self.replicated.upsert([Entity('Held::"b"')])
+            self.replicated.upsert([Entity('Paused::"b"')])
         with self.replicated.snapshot():
             self.assertGreater(len(self.replicated.all_entities()), 300)
 

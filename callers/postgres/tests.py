@@ -19,7 +19,7 @@ HERE = os.path.dirname(os.path.abspath(__file__))
 sys.path[:0] = [HERE, os.path.join(os.path.dirname(HERE), "python")]
 
 
-def missing() -> str:
+def missing_requirement() -> str:
     """Returns the name of the missing program or package, or an empty text."""
     try:
         import psycopg2
@@ -27,10 +27,10 @@ def missing() -> str:
         return "psycopg2 for this python3"
     import servers
 
-    return "" if servers.programs() else "initdb of PostgreSQL"
+    return "" if servers.program_folder() else "initdb of PostgreSQL"
 
 
-class Timed(unittest.TextTestResult):
+class TimedResult(unittest.TextTestResult):
     """A test result that prints the duration of each test and counts the passed tests."""
 
     passed = 0
@@ -40,21 +40,21 @@ class Timed(unittest.TextTestResult):
         super().addSuccess(test)
 
     def startTest(self, test: unittest.TestCase) -> None:
-        self._began = time.monotonic()
+        self._start = time.monotonic()
         super().startTest(test)
 
     def stopTest(self, test: unittest.TestCase) -> None:
-        self.stream.writeln(f"    {time.monotonic() - self._began:.1f} s")
+        self.stream.writeln(f"    {time.monotonic() - self._start:.1f} s")
         super().stopTest(test)
 
 
 def main(arguments: list[str]) -> int:
-    lacked = missing()
+    missing = missing_requirement()
     if arguments == ["--missing"]:
-        print(lacked)
+        print(missing)
         return 0
-    if lacked:
-        print(f"there is no {lacked} here: NOT RUN: entities and policies in PostgreSQL")
+    if missing:
+        print(f"{missing} is missing: NOT RUN: entities and policies in PostgreSQL")
         print("0 passed, 0 failed, 1 skipped")
         return 0
     import test_load
@@ -65,14 +65,14 @@ def main(arguments: list[str]) -> int:
     load = unittest.defaultTestLoader
     tests = load.loadTestsFromNames(names) if names else unittest.TestSuite(
         [load.loadTestsFromModule(module) for module in (test_tables, test_load)])
-    told = io.StringIO()
+    output = io.StringIO()
     signal.signal(signal.SIGTERM, lambda *_: sys.exit(1))  # so that the servers are stopped
-    result = unittest.TextTestRunner(stream=told, verbosity=2, resultclass=Timed).run(tests)
-    ill = len(result.failures) + len(result.errors)
-    if ill:
-        print(told.getvalue())
-    print(f"{result.passed} passed, {ill} failed")
-    return ill != 0
+    result = unittest.TextTestRunner(stream=output, verbosity=2, resultclass=TimedResult).run(tests)
+    failed = len(result.failures) + len(result.errors)
+    if failed:
+        print(output.getvalue())
+    print(f"{result.passed} passed, {failed} failed")
+    return failed != 0
 
 
 if __name__ == "__main__":

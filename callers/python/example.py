@@ -1,5 +1,5 @@
 """Who may enter: a store of twenty lines."""
-from cedar_store import Policies, Refused, Store
+from cedar_store import CedarError, Policies, Store
 
 with Store({'User::"alice"': ['Group::"staff"'], 'Group::"staff"': ['Group::"all"']}) as store:
     print(store.is_descendant_of('User::"alice"', 'Group::"all"'))
@@ -7,8 +7,8 @@ with Store({'User::"alice"': ['Group::"staff"'], 'Group::"staff"': ['Group::"all
     print(store.ancestors('User::"alice"'))
     try:
         store.add({'Group::"staff"': ['User::"alice"']})
-    except Refused as refusal:
-        print(refusal)
+    except CedarError as error:
+        print(error)
 
 with Policies() as policies:
     policies.add_template("enter", principal=True)

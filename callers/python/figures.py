@@ -4,91 +4,87 @@ import time
 
 from cedar_store import Entity, Policies, Store
 
-SIZE, CHILDREN, ASKED, LISTED = 50_000, 8, 1_000_000, 100_000
+SIZE, CHILDREN, QUERIES, PAIRS = 50_000, 8, 1_000_000, 100_000
 
 
-def uid(place):
-    return f'A::"n{place}"'
+def uid(number):
+    return f'A::"n{number}"'
 
 
-def least(make):
+def best_time(call):
     """Returns the best of three times, in seconds, and the last result."""
-    best, made = None, None
+    best, result = None, None
     for _ in range(3):
         start = time.process_time()
-        made = make()
-        taken = time.process_time() - start
-        best = taken if best is None else min(best, taken)
-    return best, made
+        result = call()
+        seconds = time.process_time() - start
+        best = seconds if best is None else min(best, seconds)
+    return best, result
 
 
-def told(what, seconds, count=1):
+def print_time(title, seconds, count=1):
     if count == 1:
-        print(f"{what:<52} {seconds * 1e3:8.1f} ms")
+        print(f"{title:<52} {seconds * 1e3:8.1f} ms")
     else:
-        print(f"{what:<52} {seconds / count * 1e6:8.2f} us each")
+        print(f"{title:<52} {seconds / count * 1e6:8.2f} us each")
 
 
-def contents(parents):
+def measure_attributes(parents_by_uid):
     """Measures attributes: building entities with three each, and reading a record of ten nodes."""
     grades = {f"g{k}": k for k in range(4)} | {"last": True}
-    made = [Entity(own, of, attrs={"age": 41, "name": own, "grades": grades}) for own, of in parents.items()]
-    seconds, store = least(lambda: Store(made))
-    told("build the store with three attributes per entity", seconds)
-    owns = list(parents)[:10_000]
-    told("get a record of five pairs", least(lambda: [store.get(own, "grades") for own in owns])[0], 10_000)
+    entities = [
+        Entity(uid, parents, attrs={"age": 41, "name": uid, "grades": grades})
+        for uid, parents in parents_by_uid.items()
+    ]
+    seconds, store = best_time(lambda: Store(entities))
+    print_time("build the store with three attributes per entity", seconds)
+    uids = list(parents_by_uid)[:10_000]
+    seconds, _ = best_time(lambda: [store.get(uid, "grades") for uid in uids])
+    print_time("get a record of five pairs", seconds, len(uids))
 
 
 def main():
     print(f"a tree of {SIZE} entities, {CHILDREN} children each; queries use 100,000 pairs of uids")
-    entities = {uid(place): [uid((place - 1) // CHILDREN)] if place else [] for place in range(SIZE)}
-    seconds, store = least(lambda: Store(entities))
-    told("build the store", seconds)
-    pairs = [(uid(1 + ask * 7919 % (SIZE - 1)), uid(ask * 104_729 % SIZE)) for ask in range(100_000)]
+    entities = {uid(number): [uid((number - 1) // CHILDREN)] if number else [] for number in range(SIZE)}
+    seconds, store = best_time(lambda: Store(entities))
+    print_time("build the store", seconds)
+    pairs = [(uid(1 + k * 7919 % (SIZE - 1)), uid(k * 104_729 % SIZE)) for k in range(PAIRS)]
 
-    def ask():
-        below = store.is_descendant_of
-        for _ in range(ASKED // len(pairs)):
-            for child, other in pairs:
-                below(child, other)
+    def query_pairs(function, pairs):
+        for _ in range(QUERIES // len(pairs)):
+            for child, ancestor in pairs:
+                function(child, ancestor)
 
-    def ask_of_one():
-        below, child, other = store.is_descendant_of, *pairs[0]
-        for _ in range(ASKED):
-            below(child, other)
+    def query_one_pair(function, pairs):
+        child, ancestor = pairs[0]
+        for _ in range(QUERIES):
+            function(child, ancestor)
 
-    def ask_by_numbers():
-        below = store.is_descendant_of_numbers
-        for _ in range(ASKED // len(numbers)):
-            for child, other in numbers:
-                below(child, other)
+    def measure_queries(title, query, function, pairs):
+        print_time(title, best_time(lambda: query(function, pairs))[0], QUERIES)
 
-    def ask_by_numbers_of_one():
-        below, child, other = store.is_descendant_of_numbers, *numbers[0]
-        for _ in range(ASKED):
-            below(child, other)
-
-    told("is_descendant_of, a million times, 100,000 pairs", least(ask)[0], ASKED)
-    told("is_descendant_of, a million times, one pair", least(ask_of_one)[0], ASKED)
-    seconds, numbers = least(lambda: [(store.number(child), store.number(other)) for child, other in pairs])
-    told("number, for 200,000 uids", seconds, 2 * len(pairs))
-    told("is_descendant_of_numbers, a million, 100,000 pairs", least(ask_by_numbers)[0], ASKED)
-    told("is_descendant_of_numbers, a million times, one pair", least(ask_by_numbers_of_one)[0], ASKED)
-    told("`uid in store`, 100,000 times", least(lambda: [child in store for child, _ in pairs])[0], len(pairs))
-    told("ancestors, 100,000 times", least(lambda: [store.ancestors(child) for child, _ in pairs])[0], len(pairs))
-    told("list all uids", least(store.uids)[0])
-    told("copy the store", least(store.copy)[0])
-    seconds, pickled = least(lambda: pickle.dumps(store))
-    told("pickle the store", seconds)
-    told("unpickle the store", least(lambda: len(pickle.loads(pickled)))[0])
-    contents(entities)
+    by_uid, by_number = store.is_descendant_of, store.is_descendant_of_numbers
+    measure_queries("is_descendant_of, a million times, 100,000 pairs", query_pairs, by_uid, pairs)
+    measure_queries("is_descendant_of, a million times, one pair", query_one_pair, by_uid, pairs)
+    seconds, numbers = best_time(lambda: [(store.number(child), store.number(other)) for child, other in pairs])
+    print_time("number, for 200,000 uids", seconds, 2 * len(pairs))
+    measure_queries("is_descendant_of_numbers, a million, 100,000 pairs", query_pairs, by_number, numbers)
+    measure_queries("is_descendant_of_numbers, a million times, one pair", query_one_pair, by_number, numbers)
+    print_time("`uid in store`, 100,000 times", best_time(lambda: [child in store for child, _ in pairs])[0], len(pairs))
+    print_time("ancestors, 100,000 times", best_time(lambda: [store.ancestors(child) for child, _ in pairs])[0], len(pairs))
+    print_time("list all uids", best_time(store.uids)[0])
+    print_time("copy the store", best_time(store.copy)[0])
+    seconds, pickled = best_time(lambda: pickle.dumps(store))
+    print_time("pickle the store", seconds)
+    print_time("unpickle the store", best_time(lambda: len(pickle.loads(pickled)))[0])
+    measure_attributes(entities)
     with store.slice(list(entities)[:1000]) as part:
-        told(f"text of a store of {len(part)} entities", least(lambda: str(part))[0])
+        print_time(f"text of a store of {len(part)} entities", best_time(lambda: str(part))[0])
     policies = Policies()
     for number in range(20_000):
         policies.add_static(f"p{number}")
-    told("copy a set of 20,000 static policies", least(policies.copy)[0])
-    told("create and free 1,000 empty stores", least(lambda: [Store() for _ in range(1000)])[0], 1000)
+    print_time("copy a set of 20,000 static policies", best_time(policies.copy)[0])
+    print_time("create and free 1,000 empty stores", best_time(lambda: [Store() for _ in range(1000)])[0], 1000)
 
 
 if __name__ == "__main__":

@@ -1,7 +1,7 @@
 """Ten tasks of an authorizer or an administration service. `docs/GUIDE.md` quotes these functions."""
 from typing import Callable
 
-from cedar_store import Effect, Entities, Policies, Refused, Store
+from cedar_store import CedarError, Effect, Entities, Policies, Store
 
 
 def build() -> Store:
@@ -15,10 +15,10 @@ def build() -> Store:
     )
 
 
-def ask(store: Store) -> None:
-    print("alice is of the staff:", store.is_descendant_of('User::"alice"', 'Group::"staff"'))
-    print("above alice:", store.ancestors('User::"alice"'))
-    print("bob is there:", 'User::"bob"' in store)
+def query(store: Store) -> None:
+    print("alice is in the staff group:", store.is_descendant_of('User::"alice"', 'Group::"staff"'))
+    print("ancestors of alice:", store.ancestors('User::"alice"'))
+    print("the store contains bob:", 'User::"bob"' in store)
 
 
 def edit(store: Store) -> None:
@@ -27,18 +27,18 @@ def edit(store: Store) -> None:
     store.remove(['File::"q3"'])
 
 
-def add_or_keep(store: Store, entities: Entities) -> Store:
-    fresh = store.copy()
+def try_add(store: Store, entities: Entities) -> Store:
+    edited = store.copy()
     try:
-        fresh.add(entities)
-        return fresh
-    except Refused as refusal:
-        if refusal.reason == "duplicate":
-            print("there and differs:", refusal)
-        elif refusal.reason == "cycle":
-            print("above itself:", refusal)
+        edited.add(entities)
+        return edited
+    except CedarError as error:
+        if error.reason == "duplicate":
+            print("cannot add: a different entity with this uid exists:", error)
+        elif error.reason == "cycle":
+            print("cannot add: an entity would be its own ancestor:", error)
         else:
-            print("refused:", refusal)
+            print("cannot add:", error)
         return store
 
 
@@ -51,10 +51,10 @@ def add_and_link(policies: Policies) -> None:
     policies.link("readers", "staff read reports", principal='Group::"staff"', resource='Folder::"reports"')
 
 
-def list_what_applies(policies: Policies, principal: str, action: str, resource: str) -> None:
+def list_applicable_policies(policies: Policies, principal: str, action: str, resource: str) -> None:
     for id in policies.policies():
-        bound = policies.env(id)
-        if all(slot in (None, uid) for slot, uid in zip(bound, (principal, action, resource))):
+        env = policies.env(id)
+        if all(slot in (None, uid) for slot, uid in zip(env, (principal, action, resource))):
             print(f"applies: {id} ({policies.effect(id).name.lower()})")
 
 
@@ -68,52 +68,52 @@ def print_ids(policies: Policies) -> None:
     print("static policies and links:", policies.policies())
 
 
-def say(call: Callable[..., None], *ids: str, **bound: str) -> None:
+def print_error(call: Callable[..., None], *ids: str, **slots: str) -> None:
     try:
-        call(*ids, **bound)
-    except Refused as refusal:
-        print(f"{refusal.reason}: {refusal}")
+        call(*ids, **slots)
+    except CedarError as error:
+        print(f"{error.reason}: {error}")
 
 
-def refused_additions(policies: Policies) -> None:
-    say(policies.add_static, "readers")  # occupied
-    say(policies.link, "policy0", "new")  # no such template
-    say(policies.link, "readers", "new")  # arity
-    say(policies.link, "doers", "new", action='User::"alice"')  # not an action
-    say(policies.link, "doers", "policy0", action='Action::"read"')  # id conflict
+def failing_additions(policies: Policies) -> None:
+    print_error(policies.add_static, "readers")  # occupied
+    print_error(policies.link, "policy0", "new")  # no such template
+    print_error(policies.link, "readers", "new")  # arity
+    print_error(policies.link, "doers", "new", action='User::"alice"')  # not an action
+    print_error(policies.link, "doers", "policy0", action='Action::"read"')  # id conflict
 
 
-def refused_removals(policies: Policies) -> None:
-    say(policies.unlink, "nobody")  # no link
-    say(policies.unlink, "policy0")  # not a link
-    say(policies.remove_static, "nobody")  # no static
-    say(policies.remove_static, "staff read reports")  # not static
-    say(policies.remove_template, "nobody")  # no template
-    say(policies.remove_template, "readers")  # with links
-    say(policies.remove_template, "policy0")  # not a template
+def failing_removals(policies: Policies) -> None:
+    print_error(policies.unlink, "nobody")  # no link
+    print_error(policies.unlink, "policy0")  # not a link
+    print_error(policies.remove_static, "nobody")  # no static
+    print_error(policies.remove_static, "staff read reports")  # not static
+    print_error(policies.remove_template, "nobody")  # no template
+    print_error(policies.remove_template, "readers")  # with links
+    print_error(policies.remove_template, "policy0")  # not a template
 
 
 def main() -> None:
     with build() as store, Policies() as policies, Policies() as other:
-        ask(store)
+        query(store)
         with store.copy() as edited:
             edit(edited)
-            print("edited:", len(edited), "entities; above alice:", edited.ancestors('User::"alice"'))
-        print("with bob:", len(add_or_keep(store, {'User::"bob"': []})), "entities")
-        print("kept:", len(add_or_keep(store, {'Group::"admins"': []})), "entities")
-        print("kept:", len(add_or_keep(store, {'Group::"staff"': ['Group::"staff"']})), "entities")
+            print("edited:", len(edited), "entities; ancestors of alice:", edited.ancestors('User::"alice"'))
+        print("with bob:", len(try_add(store, {'User::"bob"': []})), "entities")
+        print("unchanged:", len(try_add(store, {'Group::"admins"': []})), "entities")
+        print("unchanged:", len(try_add(store, {'Group::"staff"': ['Group::"staff"']})), "entities")
         with slice_for(store, 'User::"alice"', 'Action::"read"', 'File::"q3"') as part:
             print("the slice:", len(part), "of", len(store), "entities")
         add_and_link(policies)
-        list_what_applies(policies, 'Group::"staff"', 'Action::"read"', 'Folder::"reports"')
+        list_applicable_policies(policies, 'Group::"staff"', 'Action::"read"', 'Folder::"reports"')
         policies.add_static("policy0")
         other.add_static("policy0", Effect.FORBID)
         other.add_static("policy1")
         merge(policies, other)
         print_ids(policies)
         policies.add_template("doers", action=True)
-        refused_additions(policies)
-        refused_removals(policies)
+        failing_additions(policies)
+        failing_removals(policies)
 
 
 main()

@@ -71,8 +71,8 @@ def _files(project, tag, info):
 def _record(files, info):
     lines = []
     for path, text in files.items():
-        told = base64.urlsafe_b64encode(hashlib.sha256(text).digest()).rstrip(b"=").decode()
-        lines.append(f"{path},sha256={told},{len(text)}\n")
+        digest = base64.urlsafe_b64encode(hashlib.sha256(text).digest()).rstrip(b"=").decode()
+        lines.append(f"{path},sha256={digest},{len(text)}\n")
     return ("".join(lines) + f"{info}/RECORD,,\n").encode()
 
 

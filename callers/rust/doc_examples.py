@@ -84,62 +84,62 @@ def write(out, examples):
 
 def failing(out, examples):
     """Returns the examples that do not compile, found by the lines of rustc's errors."""
-    told = subprocess.run(['cargo', 'test', '-q', '--offline', '--no-run', '--message-format=json'],
-                          cwd=out, capture_output=True, text=True, check=False)
+    result = subprocess.run(['cargo', 'test', '-q', '--offline', '--no-run', '--message-format=json'],
+                            cwd=out, capture_output=True, text=True, check=False)
     starts, line = [], 3
     for example in examples:
         starts.append((line, example))
         line += example.text().count('\n') + 1
-    found = set()
-    for message in told.stdout.split('\n'):
-        said = json.loads(message) if message.startswith('{') else {}
-        if said.get('reason') != 'compiler-message' or said['message']['level'] != 'error':
+    failed = set()
+    for message in result.stdout.split('\n'):
+        fields = json.loads(message) if message.startswith('{') else {}
+        if fields.get('reason') != 'compiler-message' or fields['message']['level'] != 'error':
             continue
-        for span in said['message']['spans']:
+        for span in fields['message']['spans']:
             if span['is_primary']:
-                found.add([example for start, example in starts if start <= span['line_start']][-1])
-    if told.returncode and not found:
-        sys.exit(told.stdout[-2000:] + told.stderr[-4000:])
-    return found
+                failed.add([example for start, example in starts if start <= span['line_start']][-1])
+    if result.returncode and not failed:
+        sys.exit(result.stdout[-2000:] + result.stderr[-4000:])
+    return failed
 
 
-def listed(out, examples):
+def print_failing(out, examples):
     """Prints the examples that do not compile. Compiles repeatedly, because the first errors hide later ones."""
-    apart = set()
+    failed = set()
     while True:
-        rest = [example for example in examples if example not in apart]
+        rest = [example for example in examples if example not in failed]
         write(out, rest)
-        further = failing(out, rest)
-        if not further:
+        newly_failed = failing(out, rest)
+        if not newly_failed:
             break
-        apart |= further
+        failed |= newly_failed
     for example in examples:
-        if example in apart:
+        if example in failed:
             print(example.place)
 
 
 def main():
     out, examples = sys.argv[1], all_examples()
     if sys.argv[2:] == ['--list']:
-        listed(out, examples)
+        print_failing(out, examples)
         return
     with open(os.path.join(HERE, 'doc_examples.txt'), encoding='utf-8') as text:
-        apart = [line.rstrip('\n') for line in text if line.strip() and not line.startswith('#')]
+        excluded = [line.rstrip('\n') for line in text if line.strip() and not line.startswith('#')]
     places = {example.place for example in examples}
-    gone = [place for place in apart if place not in places]
-    for place in gone:
+    missing = [place for place in excluded if place not in places]
+    for place in missing:
         print(f'doc_examples.txt: no example at {place}')
-    write(out, [example for example in examples if example.place not in apart])
-    told = subprocess.run(['cargo', 'test', '-q', '--offline', '--no-fail-fast'], cwd=out, capture_output=True, text=True, check=False)
-    counts = re.search(r'^test result: \w+\. (\d+) passed; (\d+) failed', told.stdout, re.M)
+    write(out, [example for example in examples if example.place not in excluded])
+    result = subprocess.run(['cargo', 'test', '-q', '--offline', '--no-fail-fast'], cwd=out, capture_output=True, text=True, check=False)
+    counts = re.search(r'^test result: \w+\. (\d+) passed; (\d+) failed', result.stdout, re.M)
     if counts is None:
-        print(told.stderr[-4000:])
-        print(f'0 passed, {len(examples) - len(apart) or 1} failed')
+        print(result.stderr[-4000:])
+        print(f'0 passed, {len(examples) - len(excluded) or 1} failed')
         sys.exit(1)
-    if told.returncode:
-        print(told.stdout[-4000:])
-    print(f'{counts[1]} passed, {int(counts[2]) + len(gone)} failed')
-    sys.exit(1 if told.returncode or gone else 0)
+    if result.returncode:
+        print(result.stdout[-4000:])
+    print(f'{counts[1]} passed, {int(counts[2]) + len(missing)} failed')
+    sys.exit(1 if result.returncode or missing else 0)
 
 
 main()

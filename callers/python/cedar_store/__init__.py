@@ -10,7 +10,7 @@ A uid is a text like `A::B::"c"`: a type, and an escaped id in quotes. `EntityUi
 id. The id of a policy or of a template is any text.
 
 Raises:
-    Refused: the library returned an error. `reason` and the text describe it.
+    CedarError: the library returned an error. `reason` and the text describe it.
     Closed: the store or the policy set was closed before the call.
     WrongThread: the store or the policy set belongs to another thread.
     ValueError: a mode, an effect or a key is invalid.
@@ -33,9 +33,9 @@ from __future__ import annotations
 from . import values
 from ._bodies import Constraint
 from ._entity import Entity, Unknown
+from ._errors import CedarError, Closed, WrongThread
 from ._library import run, status_text, version
 from ._policies import Bound, Effect, Env, Policies
-from ._refusals import Closed, Refused, WrongThread
 from ._store import Entities, Mode, Store
 from ._uids import EntityUid, is_uid
 
@@ -43,6 +43,7 @@ __version__ = "0.1.0"
 
 __all__ = [
     "Bound",
+    "CedarError",
     "Closed",
     "Constraint",
     "Effect",
@@ -52,7 +53,6 @@ __all__ = [
     "Env",
     "Mode",
     "Policies",
-    "Refused",
     "Store",
     "Unknown",
     "WrongThread",

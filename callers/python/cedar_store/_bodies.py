@@ -5,9 +5,9 @@ from array import array
 from typing import List, Mapping, NamedTuple, Optional, Tuple
 
 from ._expressions import Operand, expr_of
-from ._library import listed
+from ._library import list_of_texts
 from ._uids import EntityUid
-from .values import Draft, packed
+from .values import Encoder, pack_nodes
 
 _ANY, _EQ, _EQ_SLOT, _IN, _IN_SLOT, _IS, _IS_IN, _IS_IN_SLOT = range(8)
 
@@ -63,14 +63,14 @@ class Constraint(NamedTuple):
 ANY = Constraint()
 
 
-def told(kind: int, texts: List[str]) -> Constraint:
+def decode_constraint(kind: int, texts: List[str]) -> Constraint:
     """Decodes a constraint from its kind and the texts of its type and its uids."""
-    typed = texts[: int(kind in (_IS, _IS_IN, _IS_IN_SLOT))]
-    return Constraint(kind, "".join(typed) if typed else None, tuple(map(EntityUid, texts[len(typed) :])))
+    type_count = int(kind in (_IS, _IS_IN, _IS_IN_SLOT))
+    return Constraint(kind, texts[0] if type_count else None, tuple(map(EntityUid, texts[type_count:])))
 
 
 class Body:
-    """A body, encoded as one text and lists of places in it. It must live until the call returns."""
+    """A body, encoded as one text and lists of spans in it. It must live until the call returns."""
 
     def __init__(
         self,
@@ -81,27 +81,34 @@ class Body:
         annotations: Mapping[str, str],
         when: Optional[Operand],
     ) -> None:
-        draft = Draft()
-        body = [effect, *_scope(draft, principal), *_scope(draft, action, True), *_scope(draft, resource)]
-        pairs = [at for pair in annotations.items() for text in pair for at in draft.place(text)]
-        uids = [at for uid in listed(action.uids) for at in draft.place(uid)] if action.kind == _IN else []
+        encoder = Encoder()
+        scope = [
+            *_encode_constraint(encoder, principal),
+            *_encode_constraint(encoder, action, lists_uids=True),
+            *_encode_constraint(encoder, resource),
+        ]
+        pair_spans = [bound for pair in annotations.items() for text in pair for bound in encoder.span(text)]
+        action_uids = list_of_texts(action.uids) if action.kind == _IN else []
+        uid_spans = [bound for uid in action_uids for bound in encoder.span(uid)]
         if when is not None:
-            draft.expr(expr_of(when))
-        self.text = bytes(draft.text)
-        self.lists = [array("Q", laid or bytes(8)) for laid in (body, pairs, uids, packed(draft.nodes))]
-        self.counts = len(pairs) // 4, len(uids) // 2, len(draft.nodes)
+            encoder.expr(expr_of(when))
+        self.text = bytes(encoder.text)
+        encoded = [effect, *scope], pair_spans, uid_spans, pack_nodes(encoder.nodes)
+        self.lists = [array("Q", numbers or bytes(8)) for numbers in encoded]
+        self.counts = len(pair_spans) // 4, len(uid_spans) // 2, len(encoder.nodes)
 
     def arguments(self) -> Tuple[object, ...]:
         """Returns the arguments of the call that follow the handle and the id."""
-        body, pairs, uids, nodes = (laid.buffer_info()[0] for laid in self.lists)
-        annotated, counted, noded = self.counts
-        return self.text, len(self.text), body, pairs, annotated, uids, counted, nodes, noded
+        scope, pairs, uids, nodes = (numbers.buffer_info()[0] for numbers in self.lists)
+        pairs_len, uids_len, nodes_len = self.counts
+        return self.text, len(self.text), scope, pairs, pairs_len, uids, uids_len, nodes, nodes_len
 
 
-def _scope(draft: Draft, constraint: Constraint, lists_uids: bool = False) -> List[int]:
-    """Encodes a constraint as its kind, the place of its uid and the place of its type."""
+def _encode_constraint(encoder: Encoder, constraint: Constraint, lists_uids: bool = False) -> List[int]:
+    """Encodes a constraint as its kind, the span of its uid and the span of its type."""
     kind, type, uids = constraint
-    if not (lists_uids and kind == _IN) and len(uids) != int(kind in (_EQ, _IN, _IS_IN)):
-        raise ValueError("a constraint of this kind takes another number of uids")
-    uid = (0, 0) if lists_uids and kind == _IN or not uids else draft.place(uids[0])
-    return [kind, *uid, *((0, 0) if type is None else draft.place(type))]
+    expected_len = int(kind in (_EQ, _IN, _IS_IN))
+    if not (lists_uids and kind == _IN) and len(uids) != expected_len:
+        raise ValueError(f"a constraint of kind {kind} needs {expected_len} uids, got {len(uids)}")
+    uid_span = (0, 0) if lists_uids and kind == _IN or not uids else encoder.span(uids[0])
+    return [kind, *uid_span, *((0, 0) if type is None else encoder.span(type))]

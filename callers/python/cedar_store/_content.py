@@ -5,53 +5,54 @@ from array import array
 from typing import Dict, Iterable, List, Tuple
 
 from ._entity import Entity
-from ._library import Laid, laid_edges
-from .values import Draft, packed
+from ._library import UidList, encode_edges
+from .values import Encoder, pack_nodes
 
 
 class Content:
-    """Entities, encoded as one text and lists of places in it. It must live until the call returns."""
+    """Entities, encoded as one text and lists of spans in it. It must live until the call returns."""
 
     def __init__(self, entities: List[Entity]) -> None:
         self.count = len(entities)
         uids = [str(entity.uid) for entity in entities]
-        places: Dict[str, int] = {}
-        for place, uid in enumerate(uids):
-            places.setdefault(uid, place)
+        uid_indices: Dict[str, int] = {}
+        for index, uid in enumerate(uids):
+            uid_indices.setdefault(uid, index)
 
-        def edges(above: Iterable[Tuple[int, Iterable[str]]]) -> List[int]:
-            found: List[int] = []
-            for place, ancestors in above:
+        def edges_to(ancestors_of: Iterable[Tuple[int, Iterable[str]]]) -> List[int]:
+            edges: List[int] = []
+            for child_index, ancestors in ancestors_of:
                 for uid in ancestors:
-                    at = places.get(uid)
-                    if at is None:
-                        at = places[uid] = len(uids)
+                    index = uid_indices.get(uid)
+                    if index is None:
+                        index = uid_indices[uid] = len(uids)
                         uids.append(str(uid))
-                    found += (place, at)
-            return found
+                    edges += (child_index, index)
+            return edges
 
-        self.edges = edges(enumerate(entity.parents for entity in entities))
-        self.above = edges(enumerate(entity.indirect_ancestors for entity in entities))
-        self.uids = Laid(uids)
-        draft = Draft(self.uids.text)
+        parent_edges = edges_to(enumerate(entity.parents for entity in entities))
+        indirect_edges = edges_to(enumerate(entity.indirect_ancestors for entity in entities))
+        self.uids = UidList(uids)
+        encoder = Encoder(self.uids.text)
         terms: List[int] = []
-        for of, entity in enumerate(entities):
+        for entity_index, entity in enumerate(entities):
             for part, fields in enumerate((entity.attrs, entity.tags)):
                 for key, term in fields.items():
-                    terms += (of, part, *draft.place(key), *draft.term(term))
-        self.text = bytes(draft.text)
+                    terms += (entity_index, part, *encoder.span(key), *encoder.term(term))
+        self.text = bytes(encoder.text)
         self.terms = array("Q", terms or bytes(8))
         self.terms_len = len(terms) // 6
-        self.nodes = array("Q", packed(draft.nodes) or bytes(8))
-        self.nodes_len = len(draft.nodes)
-        self.crossing = laid_edges(self.edges), laid_edges(self.above)
+        self.nodes = array("Q", pack_nodes(encoder.nodes) or bytes(8))
+        self.nodes_len = len(encoder.nodes)
+        self.parent_edges, self.parent_edges_len = encode_edges(parent_edges), len(parent_edges) // 2
+        self.indirect_edges, self.indirect_edges_len = encode_edges(indirect_edges), len(indirect_edges) // 2
 
     def arguments(self) -> Tuple[object, ...]:
         """Returns the arguments of the call between the handle and the mode."""
         _, _, spans, uids_len = self.uids.arguments()
-        edges, above = self.crossing
         return (
             *(self.text, len(self.text), spans, uids_len, self.count),
-            *(edges.buffer_info()[0], len(self.edges) // 2, above.buffer_info()[0], len(self.above) // 2),
+            *(self.parent_edges.buffer_info()[0], self.parent_edges_len),
+            *(self.indirect_edges.buffer_info()[0], self.indirect_edges_len),
             *(self.terms.buffer_info()[0], self.terms_len, self.nodes.buffer_info()[0], self.nodes_len),
         )

@@ -24,7 +24,7 @@ class Entity:
     equal if all their parts are equal.
 
     Raises:
-        Refused: `not a uid` if a text is not a uid.
+        CedarError: `not a uid` if a text is not a uid.
         TypeError: one text was given where a list of uids is expected, or a text is not a `str`.
     """
 
@@ -65,29 +65,29 @@ class Entity:
             return NotImplemented
         return (
             (self.uid, self.parents, self.indirect_ancestors) == (other.uid, other.parents, other.indirect_ancestors)
-            and _are_same(self.attrs, other.attrs)
-            and _are_same(self.tags, other.tags)
+            and _have_equal_terms(self.attrs, other.attrs)
+            and _have_equal_terms(self.tags, other.tags)
         )
 
     def __hash__(self) -> int:
         return hash((self.uid, self.parents))
 
 
-def _are_same(some: Mapping[str, Term], others: Mapping[str, Term]) -> bool:
-    if some.keys() != others.keys():
+def _have_equal_terms(one: Mapping[str, Term], other: Mapping[str, Term]) -> bool:
+    if one.keys() != other.keys():
         return False
-    for key, one in some.items():
-        other = others[key]
-        if isinstance(one, Expr) or isinstance(other, Expr):
-            if one != other:
+    for key, term in one.items():
+        other_term = other[key]
+        if isinstance(term, Expr) or isinstance(other_term, Expr):
+            if term != other_term:
                 return False
-        elif not same(one, other):
+        elif not same(term, other_term):
             return False
     return True
 
 
 def _as_uid(text: str) -> EntityUid:
-    """Returns the text as an `EntityUid`. Raises `Refused` if it is not a uid."""
+    """Returns the text as an `EntityUid`. Raises `CedarError` if it is not a uid."""
     return text if isinstance(text, EntityUid) else EntityUid(text)
 
 

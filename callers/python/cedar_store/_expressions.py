@@ -14,9 +14,9 @@ class Expr:
     `==` compares two expressions in Python. An expression has no truth value.
     """
 
-    __slots__ = ("_says", "below", "_hash")
-    _says: Tuple[Any, ...]
-    below: Tuple[Expr, ...]
+    __slots__ = ("_data", "operands", "_hash")
+    _data: Tuple[Any, ...]
+    operands: Tuple[Expr, ...]
     _hash: int
 
     def __new__(cls, *_: Any, **__: Any) -> Any:
@@ -24,12 +24,12 @@ class Expr:
             raise TypeError("Expr is abstract: create one of its subclasses")
         return super().__new__(cls)
 
-    def _made(self, says: Tuple[Any, ...], *below: Expr) -> None:
+    def _set_fields(self, data: Tuple[Any, ...], *operands: Expr) -> None:
         """Sets the fields: the expression's own data, and its operands."""
         set_field = object.__setattr__
-        set_field(self, "_says", says)
-        set_field(self, "below", below)
-        set_field(self, "_hash", hash((type(self), says, tuple(map(hash, below)))))
+        set_field(self, "_data", data)
+        set_field(self, "operands", operands)
+        set_field(self, "_hash", hash((type(self), data, tuple(map(hash, operands)))))
 
     def __setattr__(self, _: str, __: object) -> NoReturn:
         raise AttributeError("an expression is immutable")
@@ -81,14 +81,14 @@ class Expr:
             return NotImplemented
         pairs = [(self, other)]
         while pairs:
-            one, two = pairs.pop()
-            if one is two:
+            left, right = pairs.pop()
+            if left is right:
                 continue
-            if one._hash != two._hash or type(one) is not type(two) or one._says != two._says:
+            if left._hash != right._hash or type(left) is not type(right) or left._data != right._data:
                 return False
-            if len(one.below) != len(two.below):
+            if len(left.operands) != len(right.operands):
                 return False
-            pairs += zip(one.below, two.below)
+            pairs += zip(left.operands, right.operands)
         return True
 
     def __reduce__(self) -> Tuple[Any, ...]:
@@ -99,22 +99,22 @@ class Expr:
 
     def __str__(self) -> str:
         """Returns the text of the expression, for display."""
-        order: List[Expr] = []
+        parents_first: List[Expr] = []
         pending: List[Expr] = [self]
         while pending:
-            one = pending.pop()
-            order.append(one)
-            pending += one.below
+            expr = pending.pop()
+            parents_first.append(expr)
+            pending += expr.operands
         texts: List[str] = []
-        for one in reversed(order):
-            first = len(texts) - len(one.below)
-            texts[first:] = [one._text(texts[first:])]
+        for expr in reversed(parents_first):
+            first = len(texts) - len(expr.operands)
+            texts[first:] = [expr._text(texts[first:])]
         return texts[0]
 
     def __repr__(self) -> str:
         return f"<{type(self).__name__} {self}>"
 
-    def _text(self, below: List[str]) -> str:
+    def _text(self, operands: List[str]) -> str:
         """Returns the text of the expression, from the texts of its operands."""
         raise NotImplementedError
 
@@ -138,23 +138,23 @@ class Lit(Expr):
 
     def __init__(self, value: Literal) -> None:
         if isinstance(value, bool):
-            self._made((bool, value))
+            self._set_fields((bool, value))
         elif isinstance(value, int):
-            self._made((int, int(value)))
+            self._set_fields((int, int(value)))
         elif isinstance(value, EntityUid):
-            self._made((EntityUid, value))
+            self._set_fields((EntityUid, value))
         elif isinstance(value, str):
-            self._made((str, str(value)))
+            self._set_fields((str, str(value)))
         else:
             raise TypeError(f"a {type(value).__name__} is not a literal")
 
     @property
     def value(self) -> Literal:
         """Returns the value of the literal."""
-        found: Literal = self._says[1]
-        return found
+        value: Literal = self._data[1]
+        return value
 
-    def _text(self, below: List[str]) -> str:
+    def _text(self, operands: List[str]) -> str:
         if isinstance(self.value, bool):
             return "true" if self.value else "false"
         if isinstance(self.value, EntityUid) or not isinstance(self.value, str):
@@ -162,7 +162,7 @@ class Lit(Expr):
         return _quoted(self.value)
 
 
-class _Named(Expr):
+class _NamedExpr(Expr):
     """An expression with a name from a fixed list."""
 
     __slots__ = ()
@@ -170,38 +170,38 @@ class _Named(Expr):
 
     def __init__(self, name: str) -> None:
         if name not in self._names:
-            raise ValueError(f"the name of a {type(self).__name__} must be one of {', '.join(self._names)}")
-        self._made((name,))
+            raise ValueError(f"{name!r} is not a valid {type(self).__name__}: expected one of {', '.join(self._names)}")
+        self._set_fields((name,))
 
     @classmethod
-    def at(cls, place: int) -> Any:
+    def from_number(cls, number: int) -> Any:
         """Returns the expression with this number. Raises `ValueError` if there is none."""
-        if not 0 <= place < len(cls._names):
-            raise ValueError(f"{cls.__name__} has no member with the number {place}")
-        return cls(cls._names[place])
+        if not 0 <= number < len(cls._names):
+            raise ValueError(f"no {cls.__name__} has the number {number}")
+        return cls(cls._names[number])
 
     @property
     def name(self) -> str:
-        found: str = self._says[0]
-        return found
+        name: str = self._data[0]
+        return name
 
     @property
-    def place(self) -> int:
+    def number(self) -> int:
         """Returns the number of the expression in the library."""
         return self._names.index(self.name)
 
-    def _text(self, below: List[str]) -> str:
+    def _text(self, operands: List[str]) -> str:
         return self.name
 
 
-class Var(_Named):
+class Var(_NamedExpr):
     """A variable of a request: `principal`, `action`, `resource` or `context`."""
 
     __slots__ = ()
     _names = ("principal", "action", "resource", "context")
 
 
-class Slot(_Named):
+class Slot(_NamedExpr):
     """A slot of a template: `?principal`, `?action` or `?resource`."""
 
     __slots__ = ()
@@ -214,21 +214,21 @@ class UnknownExpr(Expr):
     __slots__ = ()
 
     def __init__(self, name: str, type: Optional[str] = None) -> None:
-        self._made((_text_only(name),), *([] if type is None else [Lit(_text_only(type))]))
+        self._set_fields((_checked_text(name),), *([] if type is None else [Lit(_checked_text(type))]))
 
     @property
     def name(self) -> str:
-        found: str = self._says[0]
-        return found
+        name: str = self._data[0]
+        return name
 
     @property
     def type(self) -> Optional[str]:
-        for one in self.below:
-            if isinstance(one, Lit):
-                return str(one.value)
+        for operand in self.operands:
+            if isinstance(operand, Lit):
+                return str(operand.value)
         return None
 
-    def _text(self, below: List[str]) -> str:
+    def _text(self, operands: List[str]) -> str:
         return f"unknown({_quoted(self.name)})"
 
 
@@ -238,10 +238,10 @@ class SetOf(Expr):
     __slots__ = ()
 
     def __init__(self, *elements: Operand) -> None:
-        self._made((), *map(expr_of, elements))
+        self._set_fields((), *map(expr_of, elements))
 
-    def _text(self, below: List[str]) -> str:
-        return "[" + ", ".join(below) + "]"
+    def _text(self, operands: List[str]) -> str:
+        return "[" + ", ".join(operands) + "]"
 
 
 class Call(Expr):
@@ -250,15 +250,15 @@ class Call(Expr):
     __slots__ = ()
 
     def __init__(self, function: str, *arguments: Operand) -> None:
-        self._made((_text_only(function),), *map(expr_of, arguments))
+        self._set_fields((_checked_text(function),), *map(expr_of, arguments))
 
     @property
     def function(self) -> str:
-        found: str = self._says[0]
-        return found
+        function: str = self._data[0]
+        return function
 
-    def _text(self, below: List[str]) -> str:
-        return f"{self.function}({', '.join(below)})"
+    def _text(self, operands: List[str]) -> str:
+        return f"{self.function}({', '.join(operands)})"
 
 
 class Not(Expr):
@@ -267,44 +267,44 @@ class Not(Expr):
     __slots__ = ()
 
     def __init__(self, operand: Operand) -> None:
-        self._made((), expr_of(operand))
+        self._set_fields((), expr_of(operand))
 
-    def _text(self, below: List[str]) -> str:
-        return f"!({below[0]})"
+    def _text(self, operands: List[str]) -> str:
+        return f"!({operands[0]})"
 
 
-class _Joined(Expr):
+class _BinaryExpr(Expr):
     """An expression with two operands."""
 
     __slots__ = ()
-    _sign = ""
+    _operator = ""
 
     def __init__(self, left: Operand, right: Operand) -> None:
-        self._made((), expr_of(left), expr_of(right))
+        self._set_fields((), expr_of(left), expr_of(right))
 
-    def _text(self, below: List[str]) -> str:
-        return f"({below[0]} {self._sign} {below[1]})"
+    def _text(self, operands: List[str]) -> str:
+        return f"({operands[0]} {self._operator} {operands[1]})"
 
 
-class And(_Joined):
+class And(_BinaryExpr):
     """The conjunction of two expressions."""
 
     __slots__ = ()
-    _sign = "&&"
+    _operator = "&&"
 
 
-class Eq(_Joined):
+class Eq(_BinaryExpr):
     """The test whether two expressions are equal."""
 
     __slots__ = ()
-    _sign = "=="
+    _operator = "=="
 
 
-class In(_Joined):
+class In(_BinaryExpr):
     """The test whether the left entity is, or is a descendant of, the right entity or an element of the right set."""
 
     __slots__ = ()
-    _sign = "in"
+    _operator = "in"
 
 
 class Is(Expr):
@@ -313,18 +313,18 @@ class Is(Expr):
     __slots__ = ()
 
     def __init__(self, operand: Operand, type: str) -> None:
-        self._made((_text_only(type),), expr_of(operand))
+        self._set_fields((_checked_text(type),), expr_of(operand))
 
     @property
     def type(self) -> str:
-        found: str = self._says[0]
-        return found
+        type_name: str = self._data[0]
+        return type_name
 
-    def _text(self, below: List[str]) -> str:
-        return f"({below[0]} is {self.type})"
+    def _text(self, operands: List[str]) -> str:
+        return f"({operands[0]} is {self.type})"
 
 
-def _text_only(text: str) -> str:
+def _checked_text(text: str) -> str:
     if not isinstance(text, str):
         raise TypeError(f"expected a str, got a {type(text).__name__}")
     return str(text)

@@ -12,7 +12,7 @@ from array import array
 from itertools import accumulate
 from typing import Any, Dict, Iterable, List, NoReturn, Optional, Tuple
 
-from ._refusals import NOT_A_UID, refuse
+from ._errors import NOT_A_UID, raise_error
 
 
 class Handle(ctypes.Structure):
@@ -46,7 +46,7 @@ _DECLARED: Dict[str, Tuple[Any, List[Any]]] = {
     "store_uids": (_U, [_P]),
     "store_text": (_U, [_P]),
     "store_slice": (_U, [_P, _P] + _TEXT + [_P, _N]),
-    "store_slice_apart": (_U, [_P, _P] + _TEXT + [_P, _N]),
+    "store_slice_deep_copy": (_U, [_P, _P] + _TEXT + [_P, _N]),
     "policies_add_static": (_U, [_P] + _TEXT + [_U]),
     "policies_add_template": (_U, [_P] + _TEXT + [_U, _U]),
     "policies_link": (_U, [_P] + _TEXT + _TEXT + _TEXT + [_P, _N]),
@@ -63,73 +63,74 @@ _DECLARED: Dict[str, Tuple[Any, List[Any]]] = {
     "policies_condition": (_U, [_P] + _TEXT),
     "policies_answer_nodes": (_N, [_P, _N, _P, _N]),
 }
-for _join in ("static", "template"):
-    _DECLARED[f"policies_add_{_join}_with"] = (_U, [_P] + _TEXT + _TEXT + [_P] + [_P, _N] * 3)
-for _read in ("get", "effect", "slots"):
-    _DECLARED[f"policies_{_read}"] = (_U, [_P] + _TEXT + [_P])
-for _read in ("annotations", "env", "template_id", "linked", "policy_text", "template_text", "unknown_entities"):
-    _DECLARED[f"policies_{_read}"] = (_U, [_P] + _TEXT)
-for _change in ("build", "add", "upsert"):
-    _DECLARED[f"store_{_change}_with"] = (_U, [_P] + _TEXT + [_P, _N, _N] + [_P, _N] * 4 + [_U])
-for _kind in ("store_", "policies_"):
-    _DECLARED[_kind + "new"] = (_U, [_P] + _KEY)
-    _DECLARED[_kind + "free"] = (None, [_P])
-    _DECLARED[_kind + "copy"] = (_U, [_P, _P])
-    _DECLARED[_kind + "deep_copy"] = (_U, [_P, _P])
-    _DECLARED[_kind + "equal"] = (_U, [_P, _P, _P])
-    _DECLARED[_kind + "refusal"] = (_N, [_P, _P, _N])
+for _name in ("static", "template"):
+    _DECLARED[f"policies_add_{_name}_with"] = (_U, [_P] + _TEXT + _TEXT + [_P] + [_P, _N] * 3)
+for _name in ("get", "effect", "slots"):
+    _DECLARED[f"policies_{_name}"] = (_U, [_P] + _TEXT + [_P])
+for _name in ("annotations", "env", "template_id", "linked", "policy_text", "template_text", "unknown_entities"):
+    _DECLARED[f"policies_{_name}"] = (_U, [_P] + _TEXT)
+for _name in ("build", "add", "upsert"):
+    _DECLARED[f"store_{_name}_with"] = (_U, [_P] + _TEXT + [_P, _N, _N] + [_P, _N] * 4 + [_U])
+for _prefix in ("store_", "policies_"):
+    _DECLARED[_prefix + "new"] = (_U, [_P] + _KEY)
+    _DECLARED[_prefix + "free"] = (None, [_P])
+    _DECLARED[_prefix + "copy"] = (_U, [_P, _P])
+    _DECLARED[_prefix + "deep_copy"] = (_U, [_P, _P])
+    _DECLARED[_prefix + "equal"] = (_U, [_P, _P, _P])
+    _DECLARED[_prefix + "refusal"] = (_N, [_P, _P, _N])
 
 
 def _path() -> str:
     """Returns the path of the shared library."""
-    named = os.environ.get("CEDAR_LIBRARY")
-    if named:
-        return os.path.abspath(named)
-    here = os.path.dirname(os.path.abspath(__file__))
-    beside = os.path.join(here, "libcedar.so")
-    if os.path.exists(beside):
-        return beside
-    callers = os.path.dirname(os.path.dirname(here))
-    left = os.path.join(callers, "out", "libcedar.so")
-    if os.path.exists(os.path.join(callers, "c", "cedar.h")) and os.path.exists(left):
-        return left
+    path = os.environ.get("CEDAR_LIBRARY")
+    if path:
+        return os.path.abspath(path)
+    package = os.path.dirname(os.path.abspath(__file__))
+    in_package = os.path.join(package, "libcedar.so")
+    if os.path.exists(in_package):
+        return in_package
+    callers = os.path.dirname(os.path.dirname(package))
+    in_checkout = os.path.join(callers, "out", "libcedar.so")
+    if os.path.exists(os.path.join(callers, "c", "cedar.h")) and os.path.exists(in_checkout):
+        return in_checkout
     raise ImportError("cannot find libcedar.so: run callers/run in the checkout, or set CEDAR_LIBRARY to its path "
                       "(callers/run-unproved builds one without the proofs, in callers/out/try)")
 
 
 _LIBRARY = ctypes.CDLL(_path())
-_HELD = ctypes.PyDLL(_LIBRARY._name)
+# The same library. Its functions keep the lock of the Python interpreter during a call.
+_LOCKED_LIBRARY = ctypes.PyDLL(_LIBRARY._name)
 
 
 def function(name: str) -> Any:
     """Returns a library function that can take long. It converts its arguments and lets other Python threads run
     meanwhile.
     """
-    found = _LIBRARY["cedar_" + name]
-    found.restype, found.argtypes = _DECLARED[name]
-    return found
+    symbol = _LIBRARY["cedar_" + name]
+    symbol.restype, symbol.argtypes = _DECLARED[name]
+    return symbol
 
 
-def quick(name: str, result: Any = _U) -> Any:
+def quick_function(name: str, result: Any = _U) -> Any:
     """Returns a library function that returns quickly. It takes bytes, sizes and addresses, and converts nothing."""
-    found = _HELD["cedar_" + name]
-    found.restype = result
-    return found
+    symbol = _LOCKED_LIBRARY["cedar_" + name]
+    symbol.restype = result
+    return symbol
 
 
-def newer(name: str) -> Any:
+def optional_function(name: str) -> Any:
     """Returns a function that older libraries do not have. If it is missing, calling it raises `NotImplementedError`.
     """
-    if has(name):
+    if has_function(name):
         return function(name)
 
-    def lacking(*_: object) -> NoReturn:
+    def missing(*_: object) -> NoReturn:
         raise NotImplementedError(f"the loaded library, {_LIBRARY._name}, has no cedar_{name}")
 
-    return lacking
+    return missing
 
 
-def has(name: str) -> bool:
+def has_function(name: str) -> bool:
     """Returns whether the library has the function."""
     return hasattr(_LIBRARY, "cedar_" + name)
 
@@ -146,31 +147,31 @@ as_size = _N.from_param
 SIZES = _Sizes({size: _N.from_param(size) for size in range(513)})
 
 
-def encoded(text: str) -> bytes:
+def encode(text: str) -> bytes:
     """Encodes a text as UTF-8. A lone surrogate is encoded too, so that the library reports it."""
     if not isinstance(text, str):
         raise TypeError(f"expected a str, got a {type(text).__name__}")
     return text.encode("utf-8", "surrogatepass")
 
 
-def text_of(text: str) -> Tuple[bytes, int]:
+def encode_with_length(text: str) -> Tuple[bytes, int]:
     """Returns the encoded text and its length."""
-    laid = encoded(text)
-    return laid, len(laid)
+    encoded = encode(text)
+    return encoded, len(encoded)
 
 
-class Laid:
+class UidList:
     """A list of uids, encoded as one text and the span of each uid in it. It must live until the call returns."""
 
     __slots__ = ("text", "spans", "count")
 
     def __init__(self, uids: List[str]) -> None:
         joined = "".join(uids)
-        self.text = encoded(joined)
+        self.text = encode(joined)
         if len(self.text) == len(joined):
             ends = array("Q", accumulate(map(len, uids)))
         else:
-            ends = array("Q", accumulate(len(encoded(uid)) for uid in uids))
+            ends = array("Q", accumulate(len(encode(uid)) for uid in uids))
         self.count = len(ends)
         self.spans = array("Q", bytes(16 * max(self.count, 1)))
         if self.count:
@@ -181,48 +182,47 @@ class Laid:
         """Returns the text, its length, the address of the spans and their number."""
         return self.text, len(self.text), self.spans.buffer_info()[0], self.count
 
+    def text_at(self, index: int) -> str:
+        """Returns the text at an index of the list."""
+        return self.text[self.spans[2 * index] : self.spans[2 * index + 1]].decode("utf-8", "replace")
 
-    def at(self, place: int) -> str:
-        """Returns the text at a place of the list."""
-        return self.text[self.spans[2 * place] : self.spans[2 * place + 1]].decode("utf-8", "replace")
-
-    def first_unread(self) -> Optional[int]:
-        """Returns the place of the first text that is not a uid, or None."""
-        place = ctypes.c_size_t(0)
-        return place.value if _uids_check(*self.arguments(), ctypes.byref(place)) == NOT_A_UID else None
+    def first_invalid(self) -> Optional[int]:
+        """Returns the index of the first text that is not a uid, or None."""
+        index = ctypes.c_size_t(0)
+        return index.value if _uids_check(*self.arguments(), ctypes.byref(index)) == NOT_A_UID else None
 
 
-def laid_edges(edges: List[int]) -> "array[int]":
+def encode_edges(edges: List[int]) -> "array[int]":
     """Encodes edges, two numbers each. The array has an address even if there are no edges."""
     return array("Q", edges or (0, 0))
 
 
-def listed(texts: Iterable[str]) -> List[str]:
+def list_of_texts(texts: Iterable[str]) -> List[str]:
     """Returns the texts as a list. Raises `TypeError` for a single text."""
     if isinstance(texts, str):
         raise TypeError("expected a list of texts, got one text")
     return list(texts)
 
 
-def halves(key: Optional[bytes]) -> Tuple[int, int]:
+def key_numbers(key: Optional[bytes]) -> Tuple[int, int]:
     """Returns a key as the two numbers that the library takes. Draws a random key if there is none."""
-    drawn = os.urandom(16) if key is None else bytes(key)
-    if len(drawn) != 16:
-        raise ValueError("a key must have 16 bytes")
-    seed, other = struct.unpack("<QQ", drawn)
-    return seed, other
+    key_bytes = os.urandom(16) if key is None else bytes(key)
+    if len(key_bytes) != 16:
+        raise ValueError(f"a key must have 16 bytes, got {len(key_bytes)}")
+    low, high = struct.unpack("<QQ", key_bytes)
+    return low, high
 
 
 _run, _status_text, _version = function("run"), function("status_text"), function("version")
-_uids_check, _refusal_part = newer("uids_check"), newer("refusal_part")
+_uids_check, _name_span = optional_function("uids_check"), optional_function("refusal_part")
 
 
-def parts_named(status: int, text: str) -> List[str]:
-    """Returns the parts that the text of an error names, in the order of the text."""
+def names_in_error_text(status: int, text: str) -> List[str]:
+    """Returns the items that the text of an error names, in the order of the text."""
     names: List[str] = []
-    laid, part = encoded(text), (ctypes.c_size_t * 2)()
-    while _refusal_part(status, laid, len(laid), len(names), part):
-        names.append(laid[part[0] : part[1]].decode("utf-8", "replace"))
+    encoded, span = encode(text), (ctypes.c_size_t * 2)()
+    while _name_span(status, encoded, len(encoded), len(names), span):
+        names.append(encoded[span[0] : span[1]].decode("utf-8", "replace"))
     return names
 
 
@@ -231,9 +231,9 @@ def status_text(status: int) -> str:
     """
     if not 0 <= status < 1 << 32:
         return ""
-    out = ctypes.create_string_buffer(256)
-    length = _status_text(status, out, 256)
-    return out.raw[:length].decode()
+    buffer = ctypes.create_string_buffer(256)
+    length = _status_text(status, buffer, 256)
+    return buffer.raw[:length].decode()
 
 
 def version() -> str:
@@ -249,12 +249,12 @@ def run(lines: bytes, *, key: Optional[bytes] = None) -> Tuple[bytes, int]:
         MemoryError: an allocation failed.
         ValueError: the key does not have 16 bytes.
     """
-    drawn, room = halves(key), max(len(lines), 4096)
+    numbers, capacity = key_numbers(key), max(len(lines), 4096)
     while True:
-        out, told, ended = ctypes.create_string_buffer(room), ctypes.c_size_t(0), ctypes.c_uint32(0)
-        status = _run(lines, len(lines), *drawn, out, room, ctypes.byref(told), ctypes.byref(ended))
+        buffer, length, exit_status = ctypes.create_string_buffer(capacity), ctypes.c_size_t(0), ctypes.c_uint32(0)
+        status = _run(lines, len(lines), *numbers, buffer, capacity, ctypes.byref(length), ctypes.byref(exit_status))
         if status:
-            refuse(status)
-        if told.value <= room:
-            return out.raw[: told.value], ended.value
-        room = told.value
+            raise_error(status)
+        if length.value <= capacity:
+            return buffer.raw[: length.value], exit_status.value
+        capacity = length.value

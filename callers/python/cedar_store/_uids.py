@@ -4,8 +4,8 @@ from __future__ import annotations
 import ctypes
 from typing import Any, Iterable, List, Tuple
 
-from ._library import encoded, function, text_of
-from ._refusals import NOT_A_UID, refuse
+from ._errors import NOT_A_UID, raise_error
+from ._library import encode, encode_with_length, function
 
 _check, _make, _parts = function("uid_check"), function("uid_make"), function("uid_parts")
 
@@ -17,9 +17,9 @@ def is_uid(text: str) -> bool:
         TypeError: the text is not a `str`.
         MemoryError: an allocation failed.
     """
-    status = _check(*text_of(text))
+    status = _check(*encode_with_length(text))
     if status and status != NOT_A_UID:
-        refuse(status)
+        raise_error(status)
     return not status
 
 
@@ -29,7 +29,7 @@ class EntityUid(str):
     `EntityUid(text)` checks a text; `EntityUid.make` builds a uid from a type and an id.
 
     Raises:
-        Refused: `not a uid` if the text is not a uid.
+        CedarError: `not a uid` if the text is not a uid.
         TypeError: the text is not a `str`.
     """
 
@@ -37,7 +37,7 @@ class EntityUid(str):
 
     def __new__(cls, text: str) -> EntityUid:
         if not is_uid(text):
-            refuse(NOT_A_UID, "not a uid " + text)
+            raise_error(NOT_A_UID, "not a uid " + text)
         return str.__new__(cls, text)
 
     @classmethod
@@ -45,27 +45,27 @@ class EntityUid(str):
         """Builds the uid with a type, like `A::B`, and an id. The id is any text, not escaped.
 
         Raises:
-            Refused: `not a name` if the type is not a name; `not UTF-8` if the id has a lone surrogate.
+            CedarError: `not a name` if the type is not a name; `not UTF-8` if the id has a lone surrogate.
             TypeError: the type or the id is not a `str`.
             MemoryError: an allocation failed.
         """
-        (kind, kind_length), (own, length) = text_of(type), text_of(id)
-        room, told = kind_length + 2 * length + 16, ctypes.c_size_t(0)
+        (type_bytes, type_length), (id_bytes, id_length) = encode_with_length(type), encode_with_length(id)
+        capacity, length = type_length + 2 * id_length + 16, ctypes.c_size_t(0)
         while True:
-            out = ctypes.create_string_buffer(room)
-            status = _make(kind, kind_length, own, length, out, room, ctypes.byref(told))
+            buffer = ctypes.create_string_buffer(capacity)
+            status = _make(type_bytes, type_length, id_bytes, id_length, buffer, capacity, ctypes.byref(length))
             if status:
-                refuse(status)
-            if told.value <= room:
-                return str.__new__(cls, out.raw[: told.value].decode())
-            room = told.value
+                raise_error(status)
+            if length.value <= capacity:
+                return str.__new__(cls, buffer.raw[: length.value].decode())
+            capacity = length.value
 
     @staticmethod
     def escape(id: str) -> str:
         """Escapes an id for use between the quotes of a uid.
 
         Raises:
-            Refused: `not UTF-8` if the id has a lone surrogate.
+            CedarError: `not UTF-8` if the id has a lone surrogate.
             TypeError: the id is not a `str`.
         """
         return EntityUid.make("A", id)[4:-1]
@@ -73,12 +73,12 @@ class EntityUid(str):
     @property
     def parts(self) -> Tuple[str, str]:
         """Returns the type and the id. The id is not escaped."""
-        text = encoded(self)
-        out, kind, told = ctypes.create_string_buffer(len(text)), ctypes.c_size_t(0), ctypes.c_size_t(0)
-        status = _parts(text, len(text), out, len(text), ctypes.byref(kind), ctypes.byref(told))
+        text = encode(self)
+        buffer, type_length, length = ctypes.create_string_buffer(len(text)), ctypes.c_size_t(0), ctypes.c_size_t(0)
+        status = _parts(text, len(text), buffer, len(text), ctypes.byref(type_length), ctypes.byref(length))
         if status:
-            refuse(status)
-        return out.raw[: kind.value].decode(), out.raw[kind.value : told.value].decode()
+            raise_error(status)
+        return buffer.raw[: type_length.value].decode(), buffer.raw[type_length.value : length.value].decode()
 
     @property
     def type(self) -> str:
@@ -94,7 +94,7 @@ class EntityUid(str):
         return EntityUid, (str(self),)
 
 
-def named(texts: Iterable[str]) -> List[EntityUid]:
+def unchecked_uids(texts: Iterable[str]) -> List[EntityUid]:
     """Returns texts that the library wrote as `EntityUid`s, without a check."""
-    new, kind = str.__new__, EntityUid
-    return [new(kind, text) for text in texts]
+    new, uid_type = str.__new__, EntityUid
+    return [new(uid_type, text) for text in texts]

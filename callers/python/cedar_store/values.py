@@ -36,7 +36,7 @@ from ._expressions import (
     UnknownExpr,
     Var,
 )
-from ._library import encoded
+from ._library import encode
 from ._uids import EntityUid
 
 __all__ = [
@@ -69,7 +69,7 @@ __all__ = [
 ]
 
 _BOOL, _LONG, _TEXT, _UID, _SET, _RECORD, _CALL, _VAR = range(8)
-_SLOT, _UNKNOWN, _NOT, _AND, _EQ, _IN, _IS, _LEFT_OVER = range(8, 16)
+_SLOT, _UNKNOWN, _NOT, _AND, _EQ, _IN, _IS, _RESIDUAL = range(8, 16)
 
 
 @dataclasses.dataclass(frozen=True)
@@ -95,11 +95,11 @@ class Record(Dict[str, "Term"]):
             self._hash = hash(frozenset(self.items()))
             return self._hash
 
-    def _is_fixed(self, *_: Any, **__: Any) -> NoReturn:
+    def _raise_immutable(self, *_: Any, **__: Any) -> NoReturn:
         raise TypeError("a record is immutable")
 
-    __setitem__ = __delitem__ = __ior__ = _is_fixed  # type: ignore[assignment]
-    clear = pop = popitem = setdefault = update = _is_fixed  # type: ignore[assignment]
+    __setitem__ = __delitem__ = __ior__ = _raise_immutable  # type: ignore[assignment]
+    clear = pop = popitem = setdefault = update = _raise_immutable  # type: ignore[assignment]
 
     def __reduce__(self) -> Tuple[Any, ...]:
         return Record, (dict(self),)
@@ -124,36 +124,36 @@ _NODE = struct.Struct("=I4xQQQq")
 NODE_SIZE = _NODE.size
 
 
-def packed(nodes: Iterable[Node]) -> bytes:
+def pack_nodes(nodes: Iterable[Node]) -> bytes:
     """Encodes nodes as they are in memory."""
     return b"".join([_NODE.pack(*node) for node in nodes])
 
 
-def unpacked(laid: bytes) -> List[Node]:
+def unpack_nodes(encoded: bytes) -> List[Node]:
     """Decodes nodes from their bytes in memory."""
-    return [Node(*fields) for fields in _NODE.iter_unpack(laid)]
+    return [Node(*fields) for fields in _NODE.iter_unpack(encoded)]
 
 
-class Draft:
+class Encoder:
     """An encoder of terms: one text, in which each string occurs once, and the nodes of all terms."""
 
     def __init__(self, text: bytes = b"") -> None:
         self.text = bytearray(text)
         self.nodes: List[Node] = []
-        self._places: Dict[str, Tuple[int, int]] = {}
+        self._spans: Dict[str, Tuple[int, int]] = {}
 
-    def place(self, text: str) -> Tuple[int, int]:
+    def span(self, text: str) -> Tuple[int, int]:
         """Returns the start and the end of a string in the text. Adds the string if it is new."""
-        found = self._places.get(text)
-        if found is None:
+        span = self._spans.get(text)
+        if span is None:
             start = len(self.text)
-            self.text += encoded(text)
-            found = self._places[text] = start, len(self.text)
-        return found
+            self.text += encode(text)
+            span = self._spans[text] = start, len(self.text)
+        return span
 
-    def _add(self, turned: List[Node]) -> Tuple[int, int]:
+    def _add_reversed(self, nodes: List[Node]) -> Tuple[int, int]:
         first = len(self.nodes)
-        self.nodes += reversed(turned)
+        self.nodes += reversed(nodes)
         return first, len(self.nodes)
 
     def term(self, term: Term) -> Tuple[int, int]:
@@ -164,8 +164,8 @@ class Draft:
             ValueError: a number does not fit into 64 bits.
         """
         if isinstance(term, Expr):
-            return self._add([Node(_LEFT_OVER, 1), *self._turned_expr(term)])
-        return self._add(self._turned_value(term))
+            return self._add_reversed([Node(_RESIDUAL, 1), *self._expr_nodes(term)])
+        return self._add_reversed(self._value_nodes(term))
 
     def expr(self, expr: Expr) -> Tuple[int, int]:
         """Encodes an expression. Returns the range of its nodes.
@@ -173,67 +173,67 @@ class Draft:
         Raises:
             ValueError: a number does not fit into 64 bits.
         """
-        return self._add(self._turned_expr(expr))
+        return self._add_reversed(self._expr_nodes(expr))
 
-    def _turned_value(self, value: Value) -> List[Node]:
+    def _value_nodes(self, root: Value) -> List[Node]:
         """Returns the nodes of a value, from the last to the first."""
-        turned: List[Node] = []
-        pending: List[Any] = [value]
+        nodes: List[Node] = []
+        pending: List[Any] = [root]
         while pending:
-            one = pending.pop()
-            if isinstance(one, (bool, int, str)):
-                turned.append(self._literal(one))
-            elif isinstance(one, Extension):
-                turned.append(Node(_CALL, 1, *self.place(one.function)))
-                pending.append(str(one.text))
-            elif isinstance(one, AnyMapping):
-                turned.append(Node(_RECORD, len(one)))
-                for key, below in one.items():
-                    pending += (_key(key), below)
-            elif isinstance(one, (frozenset, set, list, tuple)):
-                turned.append(Node(_SET, len(one)))
-                pending += one
+            value = pending.pop()
+            if isinstance(value, (bool, int, str)):
+                nodes.append(self._literal_node(value))
+            elif isinstance(value, Extension):
+                nodes.append(Node(_CALL, 1, *self.span(value.function)))
+                pending.append(str(value.text))
+            elif isinstance(value, AnyMapping):
+                nodes.append(Node(_RECORD, len(value)))
+                for key, member in value.items():
+                    pending += (_checked_key(key), member)
+            elif isinstance(value, (frozenset, set, list, tuple)):
+                nodes.append(Node(_SET, len(value)))
+                pending += value
             else:
-                raise TypeError(f"a {type(one).__name__} is not a value")
-        return turned
+                raise TypeError(f"a {type(value).__name__} is not a value")
+        return nodes
 
-    def _literal(self, one: Union[bool, int, str]) -> Node:
-        if isinstance(one, bool):
-            return Node(_BOOL, number=int(one))
-        if isinstance(one, int):
-            if not -(1 << 63) <= one < 1 << 63:
+    def _literal_node(self, literal: Union[bool, int, str]) -> Node:
+        if isinstance(literal, bool):
+            return Node(_BOOL, number=int(literal))
+        if isinstance(literal, int):
+            if not -(1 << 63) <= literal < 1 << 63:
                 raise ValueError("a number must fit into 64 bits")
-            return Node(_LONG, number=int(one))
-        return Node(_UID if isinstance(one, EntityUid) else _TEXT, 0, *self.place(one))
+            return Node(_LONG, number=int(literal))
+        return Node(_UID if isinstance(literal, EntityUid) else _TEXT, 0, *self.span(literal))
 
-    def _turned_expr(self, expr: Expr) -> List[Node]:
+    def _expr_nodes(self, root: Expr) -> List[Node]:
         """Returns the nodes of an expression, from the last to the first."""
-        turned: List[Node] = []
-        pending: List[Expr] = [expr]
+        nodes: List[Node] = []
+        pending: List[Expr] = [root]
         while pending:
-            one = pending.pop()
-            if isinstance(one, Lit):
-                turned.append(self._literal(one.value))
-            elif isinstance(one, (Var, Slot)):
-                turned.append(Node(_VAR if isinstance(one, Var) else _SLOT, number=one.place))
-            elif isinstance(one, UnknownExpr):
-                turned.append(Node(_UNKNOWN, len(one.below), *self.place(one.name)))
-            elif isinstance(one, SetOf):
-                turned.append(Node(_SET, len(one.below)))
-            elif isinstance(one, Call):
-                turned.append(Node(_CALL, len(one.below), *self.place(one.function)))
-            elif isinstance(one, Is):
-                turned.append(Node(_IS, 0, *self.place(one.type)))
+            expr = pending.pop()
+            if isinstance(expr, Lit):
+                nodes.append(self._literal_node(expr.value))
+            elif isinstance(expr, (Var, Slot)):
+                nodes.append(Node(_VAR if isinstance(expr, Var) else _SLOT, number=expr.number))
+            elif isinstance(expr, UnknownExpr):
+                nodes.append(Node(_UNKNOWN, len(expr.operands), *self.span(expr.name)))
+            elif isinstance(expr, SetOf):
+                nodes.append(Node(_SET, len(expr.operands)))
+            elif isinstance(expr, Call):
+                nodes.append(Node(_CALL, len(expr.operands), *self.span(expr.function)))
+            elif isinstance(expr, Is):
+                nodes.append(Node(_IS, 0, *self.span(expr.type)))
             else:
-                turned.append(Node(_JOINED[type(one)]))
-            pending += one.below
-        return turned
+                nodes.append(Node(_OPERATOR_KINDS[type(expr)]))
+            pending += expr.operands
+        return nodes
 
 
-_JOINED: Dict[Type[Expr], int] = {Not: _NOT, And: _AND, Eq: _EQ, In: _IN}
+_OPERATOR_KINDS: Dict[Type[Expr], int] = {Not: _NOT, And: _AND, Eq: _EQ, In: _IN}
 
 
-def _key(key: object) -> str:
+def _checked_key(key: object) -> str:
     if not isinstance(key, str):
         raise TypeError(f"expected a str as a key, got a {type(key).__name__}")
     return str(key)
@@ -246,9 +246,9 @@ def to_nodes(term: Term) -> Tuple[bytes, List[Node]]:
         TypeError: the term is not a value.
         ValueError: a number does not fit into 64 bits.
     """
-    draft = Draft()
-    draft.term(term)
-    return bytes(draft.text), draft.nodes
+    encoder = Encoder()
+    encoder.term(term)
+    return bytes(encoder.text), encoder.nodes
 
 
 def expr_to_nodes(expr: Expr) -> Tuple[bytes, List[Node]]:
@@ -257,9 +257,9 @@ def expr_to_nodes(expr: Expr) -> Tuple[bytes, List[Node]]:
     Raises:
         ValueError: a number does not fit into 64 bits.
     """
-    draft = Draft()
-    draft.expr(expr)
-    return bytes(draft.text), draft.nodes
+    encoder = Encoder()
+    encoder.expr(expr)
+    return bytes(encoder.text), encoder.nodes
 
 
 def from_nodes(text: bytes, nodes: Sequence[Node]) -> Term:
@@ -268,12 +268,12 @@ def from_nodes(text: bytes, nodes: Sequence[Node]) -> Term:
     Raises:
         ValueError: the nodes are invalid, or a set has two members that are equal in Python, like true and 1.
     """
-    if nodes and nodes[-1].kind == _LEFT_OVER and nodes[-1].len == 1:
+    if nodes and nodes[-1].kind == _RESIDUAL and nodes[-1].len == 1:
         return expr_from_nodes(text, nodes[:-1])
-    reader = _Reader(text)
+    decoder = _Decoder(text)
     for node in nodes:
-        reader.take(node)
-    value: Value = reader.only()[0]
+        decoder.decode(node)
+    value: Value = decoder.only_value()[0]
     return value
 
 
@@ -284,19 +284,19 @@ def same(one: Value, other: Value) -> bool:
         TypeError: an argument is not a value.
         ValueError: a number does not fit into 64 bits.
     """
-    reader, draft = _Reader(b""), Draft()
-    sections = [draft.term(one), draft.term(other)]
-    reader.text = bytes(draft.text)
-    places = []
-    for start, end in sections:
-        for node in draft.nodes[start:end]:
-            reader.take(node, makes=False)
-        places.append(reader.only()[1])
-        reader.stack.clear()
-    return places[0] == places[1]
+    decoder, encoder = _Decoder(b""), Encoder()
+    ranges = [encoder.term(one), encoder.term(other)]
+    decoder.text = bytes(encoder.text)
+    numbers = []
+    for start, end in ranges:
+        for node in encoder.nodes[start:end]:
+            decoder.decode(node, builds_value=False)
+        numbers.append(decoder.only_value()[1])
+        decoder.stack.clear()
+    return numbers[0] == numbers[1]
 
 
-class _Reader:
+class _Decoder:
     """A decoder of values. Two values have the same number exactly if they are equal."""
 
     def __init__(self, text: bytes) -> None:
@@ -304,76 +304,76 @@ class _Reader:
         self.stack: List[Tuple[Any, int]] = []
         self._numbers: Dict[object, int] = {}
 
-    def only(self) -> Tuple[Any, int]:
+    def only_value(self) -> Tuple[Any, int]:
         """Returns the decoded value and its number. Raises `ValueError` if there is not exactly one."""
         if len(self.stack) != 1:
             raise ValueError("the nodes do not encode exactly one value")
         return self.stack[0]
 
-    def take(self, node: Node, makes: bool = True) -> None:
-        """Decodes a node from the values before it. Without `makes`, only numbers are computed, no values."""
+    def decode(self, node: Node, builds_value: bool = True) -> None:
+        """Decodes a node from the values before it. Without `builds_value`, only numbers are computed, no values."""
         kind = node.kind
         value: Any = None
-        says: object
+        content: object
         if kind <= _UID:
-            value = _literal_of(self.text, node)
-            says = value
+            value = _decode_literal(self.text, node)
+            content = value
         elif kind == _CALL and node.len == 1:
-            ((argument, _),) = self._below(1)
+            ((argument, _),) = self._pop(1)
             if not isinstance(argument, str) or isinstance(argument, EntityUid):
                 raise ValueError("an extension function takes one text")
-            value = Extension(_part(self.text, node), argument)
-            says = value.function, value.text
+            value = Extension(_node_text(self.text, node), argument)
+            content = value.function, value.text
         elif kind == _SET:
-            found = {number: member for member, number in self._below(node.len)}
-            says = frozenset(found)
-            if makes:
-                value = frozenset(found.values())
-                if len(value) < len(found):
+            members = {number: member for member, number in self._pop(node.len)}
+            content = frozenset(members)
+            if builds_value:
+                value = frozenset(members.values())
+                if len(value) < len(members):
                     raise ValueError("a set has members that are equal in Python, like true and 1")
         elif kind == _RECORD:
-            fields = self._fields(node.len)
-            says = frozenset((key, number) for key, (_, number) in fields.items())
-            if makes:
+            fields = self._pop_fields(node.len)
+            content = frozenset((key, number) for key, (_, number) in fields.items())
+            if builds_value:
                 value = Record({key: member for key, (member, _) in fields.items()})
                 hash(value)
         else:
             raise ValueError(f"a value cannot contain a node of kind {kind}")
-        self.stack.append((value, self._numbers.setdefault((kind, says), len(self._numbers))))
+        self.stack.append((value, self._numbers.setdefault((kind, content), len(self._numbers))))
 
-    def _below(self, count: int) -> List[Tuple[Any, int]]:
+    def _pop(self, count: int) -> List[Tuple[Any, int]]:
         first = len(self.stack) - count
         if first < 0:
             raise ValueError("a node has too few operands before it")
-        taken = self.stack[first:]
+        operands = self.stack[first:]
         del self.stack[first:]
-        return taken
+        return operands
 
-    def _fields(self, count: int) -> Dict[str, Tuple[Any, int]]:
-        taken = self._below(2 * count)
+    def _pop_fields(self, count: int) -> Dict[str, Tuple[Any, int]]:
+        operands = self._pop(2 * count)
         fields = {}
-        for (key, _), one in zip(taken[::2], taken[1::2]):
+        for (key, _), member in zip(operands[::2], operands[1::2]):
             if not isinstance(key, str) or isinstance(key, EntityUid):
                 raise ValueError("the key of a record must be a text")
-            fields[key] = one
+            fields[key] = member
         return fields
 
 
-def _part(text: bytes, node: Node) -> str:
+def _node_text(text: bytes, node: Node) -> str:
     if not node.start <= node.end <= len(text):
         raise ValueError("a span is not within its text")
     return text[node.start : node.end].decode()
 
 
-def _literal_of(text: bytes, node: Node) -> Union[bool, int, str]:
+def _decode_literal(text: bytes, node: Node) -> Union[bool, int, str]:
     if node.kind == _BOOL:
         if node.number not in (0, 1):
             raise ValueError("a Boolean must be 0 or 1")
         return bool(node.number)
     if node.kind == _LONG:
         return node.number
-    part = _part(text, node)
-    return str.__new__(EntityUid, part) if node.kind == _UID else part
+    literal = _node_text(text, node)
+    return str.__new__(EntityUid, literal) if node.kind == _UID else literal
 
 
 def expr_from_nodes(text: bytes, nodes: Iterable[Node]) -> Expr:
@@ -384,45 +384,45 @@ def expr_from_nodes(text: bytes, nodes: Iterable[Node]) -> Expr:
     """
     stack: List[Expr] = []
     for node in nodes:
-        stack.append(_expr_of(text, node, stack))
+        stack.append(_decode_expr(text, node, stack))
     if len(stack) != 1:
         raise ValueError("the nodes do not encode exactly one expression")
     return stack[0]
 
 
-def _expr_of(text: bytes, node: Node, stack: List[Expr]) -> Expr:
+def _decode_expr(text: bytes, node: Node, stack: List[Expr]) -> Expr:
     """Decodes the expression of a node, and pops its operands from the stack."""
     kind = node.kind
     if kind <= _UID:
-        return Lit(_literal_of(text, node))
+        return Lit(_decode_literal(text, node))
     if kind in (_VAR, _SLOT):
-        found: Expr = (Var if kind == _VAR else Slot).at(node.number)
-        return found
+        named: Expr = (Var if kind == _VAR else Slot).from_number(node.number)
+        return named
     if kind == _SET:
-        return SetOf(*_popped(stack, node.len))
+        return SetOf(*_pop_exprs(stack, node.len))
     if kind == _CALL:
-        return Call(_part(text, node), *_popped(stack, node.len))
+        return Call(_node_text(text, node), *_pop_exprs(stack, node.len))
     if kind == _UNKNOWN and node.len == 0:
-        return UnknownExpr(_part(text, node))
+        return UnknownExpr(_node_text(text, node))
     if kind == _UNKNOWN and node.len == 1:
-        (type,) = _popped(stack, 1)
+        (type,) = _pop_exprs(stack, 1)
         if not isinstance(type, Lit) or not isinstance(type.value, str):
             raise ValueError("the type of an unknown must be a text")
-        return UnknownExpr(_part(text, node), type.value)
+        return UnknownExpr(_node_text(text, node), type.value)
     if kind == _IS:
-        (operand,) = _popped(stack, 1)
-        return Is(operand, _part(text, node))
-    for made, number in _JOINED.items():
-        if kind == number:
-            joined: Expr = made(*_popped(stack, 1 if made is Not else 2))
-            return joined
+        (operand,) = _pop_exprs(stack, 1)
+        return Is(operand, _node_text(text, node))
+    for operator, operator_kind in _OPERATOR_KINDS.items():
+        if kind == operator_kind:
+            expr: Expr = operator(*_pop_exprs(stack, 1 if operator is Not else 2))
+            return expr
     raise ValueError(f"an expression cannot contain a node of kind {kind}")
 
 
-def _popped(stack: List[Expr], count: int) -> List[Expr]:
+def _pop_exprs(stack: List[Expr], count: int) -> List[Expr]:
     first = len(stack) - count
     if first < 0:
         raise ValueError("a node has too few operands before it")
-    taken = stack[first:]
+    operands = stack[first:]
     del stack[first:]
-    return taken
+    return operands

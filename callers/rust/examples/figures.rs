@@ -10,7 +10,7 @@ use std::time::Instant;
 
 const SIZE: usize = 100_000;
 const CHILDREN: usize = 8;
-const ASKED: usize = 100_000;
+const QUERIES: usize = 100_000;
 
 fn uid(place: usize) -> String {
     format!("A::\"n{place}\"")
@@ -22,23 +22,23 @@ fn parent(place: usize) -> Option<usize> {
 
 // Returns the pairs to query. In every second pair, the second uid is an ancestor of the first.
 fn pairs() -> Vec<(String, String)> {
-    let one = |ask: usize| {
-        let child = 1 + ask * 7919 % (SIZE - 1);
-        let above = parent(child).and_then(parent).unwrap_or(0);
-        let other = if ask & 1 == 0 {
-            above
+    let pair = |index: usize| {
+        let child = 1 + index * 7919 % (SIZE - 1);
+        let grandparent = parent(child).and_then(parent).unwrap_or(0);
+        let other = if index & 1 == 0 {
+            grandparent
         } else {
-            ask * 104_729 % SIZE
+            index * 104_729 % SIZE
         };
         (uid(child), uid(other))
     };
-    (0..ASKED).map(one).collect()
+    (0..QUERIES).map(pair).collect()
 }
 
 // Returns the processor time of this thread in seconds, if Linux reports it.
 fn on_processor() -> Option<f64> {
-    let told = std::fs::read_to_string("/proc/thread-self/schedstat").ok()?;
-    let nanoseconds: f64 = told.split(' ').next()?.parse().ok()?;
+    let stat = std::fs::read_to_string("/proc/thread-self/schedstat").ok()?;
+    let nanoseconds: f64 = stat.split(' ').next()?.parse().ok()?;
     Some(nanoseconds / 1e9)
 }
 
@@ -47,19 +47,19 @@ fn seconds_from(start: Instant) -> f64 {
 }
 
 // Returns the shortest time of three runs, and the result of the last one.
-fn least<T>(make: impl Fn() -> T) -> (f64, T) {
+fn least<T>(call: impl Fn() -> T) -> (f64, T) {
     let timed = || {
         let start = Instant::now();
         let before = seconds_from(start);
-        let made = make();
-        (seconds_from(start) - before, made)
+        let result = call();
+        (seconds_from(start) - before, result)
     };
-    let (first, second, (third, made)) = (timed().0, timed().0, timed());
-    (first.min(second).min(third), made)
+    let (first, second, (third, result)) = (timed().0, timed().0, timed());
+    (first.min(second).min(third), result)
 }
 
-fn print(what: &str, seconds: f64) {
-    println!("{what:<58} {seconds:8.4} s");
+fn print(title: &str, seconds: f64) {
+    println!("{title:<58} {seconds:8.4} s");
 }
 
 fn read(uid: &str) -> EntityUID {
@@ -74,38 +74,38 @@ fn through_the_crate(pairs: &[(String, String)]) -> usize {
     let entities: Vec<Entity> = (0..SIZE).map(entity).collect();
     let (seconds, store) = least(|| Entities::from_entities(&entities, ComputeNow).unwrap());
     print("from_entities through this crate", seconds);
-    let asked: Vec<_> = pairs
+    let pairs_of_uids: Vec<_> = pairs
         .iter()
         .map(|(child, other)| (read(child), read(other)))
         .collect();
-    let asks = || {
-        let is_below = |(child, other): &&(EntityUID, EntityUID)| {
+    let run_queries = || {
+        let is_descendant = |(child, other): &&(EntityUID, EntityUID)| {
             store.is_descendant_of(child, other).unwrap()
         };
-        asked.iter().filter(is_below).count()
+        pairs_of_uids.iter().filter(is_descendant).count()
     };
-    let (seconds, count) = least(asks);
+    let (seconds, count) = least(run_queries);
     print("is_descendant_of through this crate", seconds);
-    let numbers: Vec<_> = asked
+    let numbers: Vec<_> = pairs_of_uids
         .iter()
         .map(|(child, other)| (store.number(child).unwrap(), store.number(other).unwrap()))
         .collect();
-    let asks = || {
-        let is_below = |&&(child, other): &&(UidNumber, UidNumber)| {
+    let run_queries = || {
+        let is_descendant = |&&(child, other): &&(UidNumber, UidNumber)| {
             store.is_descendant_of_numbers(child, other).unwrap()
         };
-        numbers.iter().filter(is_below).count()
+        numbers.iter().filter(is_descendant).count()
     };
-    let (seconds, same) = least(asks);
+    let (seconds, same) = least(run_queries);
     assert_eq!(same, count);
     print("is_descendant_of by numbers of both uids", seconds);
-    let found = || {
-        let is_below = |(child, other): &&(EntityUID, EntityUID)| {
+    let lookups = || {
+        let is_descendant = |(child, other): &&(EntityUID, EntityUID)| {
             store.entity(child).unwrap().is_descendant_of(other)
         };
-        asked.iter().filter(is_below).count()
+        pairs_of_uids.iter().filter(is_descendant).count()
     };
-    print("is_descendant_of after a lookup", least(found).0);
+    print("is_descendant_of after a lookup", least(lookups).0);
     let are_uids =
         |(child, other): &&(String, String)| is_uid(child).unwrap() && is_uid(other).unwrap();
     print(
@@ -114,15 +114,15 @@ fn through_the_crate(pairs: &[(String, String)]) -> usize {
     );
     let lists = || {
         let count = |(child, _): &(EntityUID, EntityUID)| store.ancestors(child).unwrap().len();
-        asked.iter().map(count).sum::<usize>()
+        pairs_of_uids.iter().map(count).sum::<usize>()
     };
     print("ancestors through this crate", least(lists).0);
-    with_content(entities, &asked);
+    with_content(entities, &pairs_of_uids);
     count
 }
 
 // Measures the same tree, in which each entity has two attributes.
-fn with_content(entities: Vec<Entity>, asked: &[(EntityUID, EntityUID)]) {
+fn with_content(entities: Vec<Entity>, pairs_of_uids: &[(EntityUID, EntityUID)]) {
     let full = |entity: Entity| {
         let names = ["a", "b"].map(Value::from);
         entity
@@ -133,20 +133,20 @@ fn with_content(entities: Vec<Entity>, asked: &[(EntityUID, EntityUID)]) {
     let (seconds, store) = least(|| Entities::from_entities(&entities, ComputeNow).unwrap());
     print("from_entities with two attributes each", seconds);
     let reads = || {
-        let is_there =
+        let has_names =
             |(child, _): &&(EntityUID, EntityUID)| store.get(child, "names").unwrap().is_some();
-        asked.iter().filter(is_there).count()
+        pairs_of_uids.iter().filter(has_names).count()
     };
     print("one of the attributes", least(reads).0);
-    let wholes = || {
-        let whole =
+    let read_entities = || {
+        let read_entity =
             |(child, _): &(EntityUID, EntityUID)| store.entity(child).unwrap().into_entity();
-        asked
+        pairs_of_uids
             .iter()
-            .map(|pair| whole(pair).attrs_len())
+            .map(|pair| read_entity(pair).attrs_len())
             .sum::<usize>()
     };
-    print("whole entities", least(wholes).0);
+    print("whole entities", least(read_entities).0);
 }
 
 const USERS: usize = 40_000;
@@ -154,10 +154,10 @@ const GROUPS: usize = 500;
 const MILLION: usize = 1_000_000;
 
 // A generator of pseudorandom numbers below a bound.
-struct Drawn(u64);
+struct Random(u64);
 
-impl Drawn {
-    fn below(&mut self, bound: usize) -> usize {
+impl Random {
+    fn next(&mut self, bound: usize) -> usize {
         self.0 ^= self.0 << 13;
         self.0 ^= self.0 >> 7;
         self.0 ^= self.0 << 17;
@@ -167,92 +167,96 @@ impl Drawn {
 
 // Measures queries of an authorizer, through this crate and in sets of Rust. Each user is in two of many nested groups.
 fn users_in_groups() {
-    let mut drawn = Drawn(88_172_645_463_325_252);
-    let named = |kind: &str, place: usize| read(&format!("{kind}::\"{place}\""));
-    let groups: Vec<EntityUID> = (0..GROUPS).map(|place| named("Group", place)).collect();
-    let users: Vec<EntityUID> = (0..USERS).map(|place| named("User", place)).collect();
+    let mut random = Random(88_172_645_463_325_252);
+    let numbered_uid = |kind: &str, place: usize| read(&format!("{kind}::\"{place}\""));
+    let groups: Vec<EntityUID> = (0..GROUPS)
+        .map(|place| numbered_uid("Group", place))
+        .collect();
+    let users: Vec<EntityUID> = (0..USERS)
+        .map(|place| numbered_uid("User", place))
+        .collect();
     let mut entities = vec![Entity::with_uid(groups[0].clone())];
     for place in 1..GROUPS {
-        let above = groups[drawn.below(place)].clone();
-        entities.push(Entity::with_uid(groups[place].clone()).with_parents([above]));
+        let parent = groups[random.next(place)].clone();
+        entities.push(Entity::with_uid(groups[place].clone()).with_parents([parent]));
     }
     for user in &users {
-        let above = [drawn.below(GROUPS), drawn.below(GROUPS)].map(|place| groups[place].clone());
-        entities.push(Entity::with_uid(user.clone()).with_parents(above));
+        let parents = [random.next(GROUPS), random.next(GROUPS)].map(|place| groups[place].clone());
+        entities.push(Entity::with_uid(user.clone()).with_parents(parents));
     }
     let store = Entities::from_entities(&entities, ComputeNow).unwrap();
-    let asked: Vec<(usize, usize)> = (0..MILLION)
-        .map(|_| (drawn.below(USERS), drawn.below(GROUPS)))
+    let pairs_of_uids: Vec<(usize, usize)> = (0..MILLION)
+        .map(|_| (random.next(USERS), random.next(GROUPS)))
         .collect();
-    let asks = || {
-        let is_below = |&&(user, group): &&(usize, usize)| {
+    let run_queries = || {
+        let is_descendant = |&&(user, group): &&(usize, usize)| {
             store
                 .is_descendant_of(&users[user], &groups[group])
                 .unwrap()
         };
-        asked.iter().filter(is_below).count()
+        pairs_of_uids.iter().filter(is_descendant).count()
     };
-    let (seconds, count) = least(asks);
+    let (seconds, count) = least(run_queries);
     print(
         "a million is_descendant_of, of 40,000 users in 500 groups",
         seconds,
     );
     let texts: Vec<String> = groups.iter().map(EntityUID::to_string).collect();
-    let above: Vec<(String, HashSet<String>)> = users
+    let ancestors: Vec<(String, HashSet<String>)> = users
         .iter()
         .map(|user| {
-            let above = store.ancestors(user).unwrap();
+            let ancestors = store.ancestors(user).unwrap();
             (
                 user.to_string(),
-                above.iter().map(EntityUID::to_string).collect(),
+                ancestors.iter().map(EntityUID::to_string).collect(),
             )
         })
         .collect();
-    let sets: HashMap<&str, &HashSet<String>> = above
+    let sets: HashMap<&str, &HashSet<String>> = ancestors
         .iter()
-        .map(|(user, above)| (user.as_str(), above))
+        .map(|(user, ancestors)| (user.as_str(), ancestors))
         .collect();
-    let asks = || {
-        let is_below = |&&(user, group): &&(usize, usize)| {
-            sets[above[user].0.as_str()].contains(&texts[group])
+    let run_queries = || {
+        let is_descendant = |&&(user, group): &&(usize, usize)| {
+            sets[ancestors[user].0.as_str()].contains(&texts[group])
         };
-        asked.iter().filter(is_below).count()
+        pairs_of_uids.iter().filter(is_descendant).count()
     };
-    let (seconds, same) = least(asks);
+    let (seconds, same) = least(run_queries);
     assert_eq!(same, count);
     print("the same in hash maps of Rust", seconds);
 }
 
-type Above = HashMap<String, HashSet<String>>;
+type Ancestors = HashMap<String, HashSet<String>>;
 
 // Returns the ancestors of each entity. A parent comes before its children.
-fn closed() -> Above {
-    let mut above: Above = HashMap::new();
+fn closed_tree() -> Ancestors {
+    let mut ancestors: Ancestors = HashMap::new();
     for place in 0..SIZE {
-        let mut own = HashSet::new();
+        let mut uids = HashSet::new();
         if let Some(parent) = parent(place).map(uid) {
-            own.extend(above[&parent].iter().cloned());
-            own.insert(parent);
+            uids.extend(ancestors[&parent].iter().cloned());
+            uids.insert(parent);
         }
-        above.insert(uid(place), own);
+        ancestors.insert(uid(place), uids);
     }
-    above
+    ancestors
 }
 
 fn in_hash_maps(pairs: &[(String, String)]) -> usize {
-    let (seconds, above) = least(closed);
+    let (seconds, ancestors) = least(closed_tree);
     print("the same tree in hash maps of Rust, parents first", seconds);
-    let asks = || {
+    let run_queries = || {
         pairs
             .iter()
-            .filter(|(child, other)| above[child].contains(other))
+            .filter(|(child, other)| ancestors[child].contains(other))
             .count()
     };
-    let (seconds, count) = least(asks);
+    let (seconds, count) = least(run_queries);
     print("is_descendant_of in hash maps of Rust", seconds);
     let lists = || {
         let sorted = |child| {
-            let mut list: Vec<String> = above[child].iter().cloned().collect();
+            let mut list: Vec<String> = ancestors[child].iter().cloned().collect();
             list.sort();
             list.len()
         };
@@ -270,22 +274,22 @@ fn by_the_program(pairs: &[(String, String)]) {
         None => format!("ent\t{}\n", uid(place)),
     };
     let build: String = (0..SIZE).map(line).collect::<String>() + "build\n";
-    let asks: String = pairs
+    let query_lines: String = pairs
         .iter()
         .map(|(child, _)| format!("anc\t{child}\n"))
         .collect();
     let empty = "\n".repeat(4_000_000);
     let timed = |input: &str| least(|| black_box(run(input.as_bytes()).unwrap())).0;
     print("the same tree by the program in one call", timed(&build));
-    let both = timed(&(build.clone() + &asks + &empty));
+    let total = timed(&(build.clone() + &query_lines + &empty));
     print(
         "ancestors by the program in one call",
-        both - timed(&(build + &empty)),
+        total - timed(&(build + &empty)),
     );
 }
 
 fn main() {
-    println!("a tree of {SIZE}, each with {CHILDREN} children; {ASKED} queries");
+    println!("a tree of {SIZE}, each with {CHILDREN} children; {QUERIES} queries");
     let pairs = pairs();
     let count = through_the_crate(&pairs);
     assert_eq!(count, in_hash_maps(&pairs));

@@ -19,11 +19,11 @@ use std::sync::Arc;
 /// use cedar_store_proved::ast::{ActionConstraint, EntityUID};
 /// let uid = |text| EntityUID::from_normalized_str(text).unwrap();
 /// let (view, edit) = (uid(r#"Action::"view""#), uid(r#"Action::"edit""#));
-/// let both = ActionConstraint::is_in([view.clone(), edit.clone()]);
-/// assert_eq!(both.to_string(), r#"action in [Action::"view",Action::"edit"]"#);
-/// assert_eq!(both.as_expr().to_string(), r#"action in [Action::"view", Action::"edit"]"#);
+/// let actions = ActionConstraint::is_in([view.clone(), edit.clone()]);
+/// assert_eq!(actions.to_string(), r#"action in [Action::"view",Action::"edit"]"#);
+/// assert_eq!(actions.as_expr().to_string(), r#"action in [Action::"view", Action::"edit"]"#);
 /// // a list is given from its back
-/// assert!(both.iter_euids().eq([&edit, &view]));
+/// assert!(actions.iter_euids().eq([&edit, &view]));
 /// ```
 #[derive(Clone, Debug)]
 pub enum ActionConstraint {

@@ -225,13 +225,13 @@ impl TemplateBody {
     /// Returns the condition: `principal constraint && (action constraint && (resource constraint && clause))`. A
     /// missing clause counts as `true`. The three `&&` nodes have the location of the body.
     pub fn condition(&self) -> Expr {
-        let both =
+        let and =
             |left, right| Expr::and(left, right).with_maybe_source_loc(self.parts().loc.clone());
         let clause = self.non_scope_constraints().cloned();
         let rest = clause.unwrap_or_else(|| Expr::val(true));
-        let rest = both(self.resource_constraint_expr(), rest);
-        let rest = both(self.action_constraint_expr(), rest);
-        both(self.principal_constraint_expr(), rest)
+        let rest = and(self.resource_constraint_expr(), rest);
+        let rest = and(self.action_constraint_expr(), rest);
+        and(self.principal_constraint_expr(), rest)
     }
 }
 

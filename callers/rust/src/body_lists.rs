@@ -23,7 +23,7 @@ pub(crate) struct Scope {
 /// The spans of the key and the value of an annotation.
 #[repr(C)]
 #[derive(Clone, Copy)]
-pub(crate) struct Annotated {
+pub(crate) struct AnnotationSpans {
     key: Span,
     value: Span,
 }
@@ -42,7 +42,7 @@ pub(crate) struct Head {
 pub(crate) struct BodyLists {
     pub(crate) lists: Lists,
     pub(crate) head: Head,
-    pub(crate) annotations: Vec<Annotated>,
+    pub(crate) annotations: Vec<AnnotationSpans>,
     pub(crate) nodes: Vec<Node>,
 }
 
@@ -61,7 +61,7 @@ pub(crate) fn has_texts(kind: u32) -> bool {
 }
 
 // Encodes a reference. `kinds` has the kind for a uid and the kind for the slot.
-fn referring(lists: &mut Lists, reference: &EntityReference, kinds: (u32, u32)) -> Scope {
+fn encode_reference(lists: &mut Lists, reference: &EntityReference, kinds: (u32, u32)) -> Scope {
     let (with_uid, with_slot) = kinds;
     let (kind, uid) = match reference {
         EntityReference::EUID(euid) => (with_uid, lists.part(euid.as_str())),
@@ -71,29 +71,29 @@ fn referring(lists: &mut Lists, reference: &EntityReference, kinds: (u32, u32)) 
     Scope { kind, uid, ty }
 }
 
-fn scope(lists: &mut Lists, asked: &PrincipalOrResourceConstraint) -> Scope {
-    use PrincipalOrResourceConstraint as Asked;
-    let named = |lists: &mut Lists, ty: &EntityType| lists.part(ty.name().as_str());
-    match asked {
-        Asked::Any => Scope::default(),
-        Asked::Eq(reference) => referring(lists, reference, (EQ, EQ_SLOT)),
-        Asked::In(reference) => referring(lists, reference, (IN, IN_SLOT)),
-        Asked::Is(ty) => Scope {
+fn encode_scope(lists: &mut Lists, constraint: &PrincipalOrResourceConstraint) -> Scope {
+    use PrincipalOrResourceConstraint as Constraint;
+    let push_type = |lists: &mut Lists, ty: &EntityType| lists.part(ty.name().as_str());
+    match constraint {
+        Constraint::Any => Scope::default(),
+        Constraint::Eq(reference) => encode_reference(lists, reference, (EQ, EQ_SLOT)),
+        Constraint::In(reference) => encode_reference(lists, reference, (IN, IN_SLOT)),
+        Constraint::Is(ty) => Scope {
             kind: IS,
-            ty: named(lists, ty),
+            ty: push_type(lists, ty),
             ..Scope::default()
         },
-        Asked::IsIn(ty, reference) => Scope {
-            ty: named(lists, ty),
-            ..referring(lists, reference, (IS_IN, IS_IN_SLOT))
+        Constraint::IsIn(ty, reference) => Scope {
+            ty: push_type(lists, ty),
+            ..encode_reference(lists, reference, (IS_IN, IS_IN_SLOT))
         },
     }
 }
 
 // Encodes the constraint on the action. The uids of a list are added to `lists`.
-fn action(lists: &mut Lists, asked: &ActionConstraint) -> Scope {
+fn encode_action(lists: &mut Lists, constraint: &ActionConstraint) -> Scope {
     let mut uid = Span::default();
-    let kind = match asked {
+    let kind = match constraint {
         ActionConstraint::Any => ANY,
         ActionConstraint::Eq(euid) => {
             uid = lists.part(euid.as_str());
@@ -101,7 +101,7 @@ fn action(lists: &mut Lists, asked: &ActionConstraint) -> Scope {
         }
         ActionConstraint::In(euids) => {
             for euid in euids {
-                lists.put(euid.as_str());
+                lists.push_uid(euid.as_str());
             }
             IN
         }
@@ -118,14 +118,14 @@ impl BodyLists {
         let mut lists = Lists::default();
         let head = Head {
             effect: body.effect() as u32,
-            principal: scope(&mut lists, body.principal_constraint().as_inner()),
-            action: action(&mut lists, body.action_constraint()),
-            resource: scope(&mut lists, body.resource_constraint().as_inner()),
+            principal: encode_scope(&mut lists, body.principal_constraint().as_inner()),
+            action: encode_action(&mut lists, body.action_constraint()),
+            resource: encode_scope(&mut lists, body.resource_constraint().as_inner()),
         };
         let annotation = |(key, annotation): (&AnyId, &Annotation)| {
             let key = lists.part(key.as_ref());
             let value = lists.part(&annotation.val);
-            Annotated { key, value }
+            AnnotationSpans { key, value }
         };
         let annotations = body.annotations().map(annotation).collect();
         let mut draft = Draft::over(&mut lists);
@@ -143,23 +143,23 @@ impl BodyLists {
 }
 
 fn read_uid(text: &str) -> Arc<EntityUID> {
-    Arc::new(EntityUID::written(text))
+    Arc::new(EntityUID::from_valid_text(text))
 }
 
 /// Decodes a constraint on the principal or the resource from its kind and its texts. Returns `None` if they do not
 /// form a constraint, which the library never returns.
 pub(crate) fn read_scope(kind: u32, texts: &[String]) -> Option<PrincipalOrResourceConstraint> {
-    use PrincipalOrResourceConstraint as Asked;
-    let named = |ty: &str| Arc::new(EntityType::from(Name::written(ty)));
+    use PrincipalOrResourceConstraint as Constraint;
+    let entity_type = |ty: &str| Arc::new(EntityType::from(Name::from_valid_text(ty)));
     Some(match (kind, texts) {
-        (ANY, []) => Asked::any(),
-        (EQ, [uid]) => Asked::is_eq(read_uid(uid)),
-        (EQ_SLOT, []) => Asked::is_eq_slot(),
-        (IN, [uid]) => Asked::is_in(read_uid(uid)),
-        (IN_SLOT, []) => Asked::is_in_slot(),
-        (IS, [ty]) => Asked::is_entity_type(named(ty)),
-        (IS_IN, [ty, uid]) => Asked::is_entity_type_in(named(ty), read_uid(uid)),
-        (IS_IN_SLOT, [ty]) => Asked::is_entity_type_in_slot(named(ty)),
+        (ANY, []) => Constraint::any(),
+        (EQ, [uid]) => Constraint::is_eq(read_uid(uid)),
+        (EQ_SLOT, []) => Constraint::is_eq_slot(),
+        (IN, [uid]) => Constraint::is_in(read_uid(uid)),
+        (IN_SLOT, []) => Constraint::is_in_slot(),
+        (IS, [ty]) => Constraint::is_entity_type(entity_type(ty)),
+        (IS_IN, [ty, uid]) => Constraint::is_entity_type_in(entity_type(ty), read_uid(uid)),
+        (IS_IN_SLOT, [ty]) => Constraint::is_entity_type_in_slot(entity_type(ty)),
         _ => return None,
     })
 }

@@ -241,8 +241,8 @@ impl Entity {
     ///
     /// The last two are checked by the library, in a store of only this entity. It can also return:
     ///
-    /// - `Refused` with [`Reason::Memory`](crate::Reason::Memory): an allocation failed.
-    /// - `Refused` with [`Reason::TooDeep`](crate::Reason::TooDeep): a value or an expression has more than 1,000
+    /// - `Other` with [`Reason::Memory`](crate::Reason::Memory): an allocation failed.
+    /// - `Other` with [`Reason::TooDeep`](crate::Reason::TooDeep): a value or an expression has more than 1,000
     ///   levels.
     ///
     /// ```
@@ -260,8 +260,8 @@ impl Entity {
             let ancestor = twice.clone();
             return Err(EntitiesError::DuplicateAncestor { uid, ancestor });
         }
-        let alone = Entities::from_entities([self], TCComputation::AssumeAlreadyComputed)?;
-        Ok(alone.validate()?)
+        let store = Entities::from_entities([self], TCComputation::AssumeAlreadyComputed)?;
+        Ok(store.validate()?)
     }
 
     /// Returns whether [`Entity::validate`] succeeds.
@@ -311,15 +311,15 @@ impl Hash for Entity {
 
 // Writes items with a separator between them.
 fn write_separated<T: fmt::Display>(
-    things: impl Iterator<Item = T>,
+    items: impl Iterator<Item = T>,
     mark: &str,
     f: &mut fmt::Formatter<'_>,
 ) -> fmt::Result {
-    for (place, thing) in things.enumerate() {
+    for (place, item) in items.enumerate() {
         if place > 0 {
             f.write_str(mark)?;
         }
-        write!(f, "{thing}")?;
+        write!(f, "{item}")?;
     }
     Ok(())
 }

@@ -1,11 +1,10 @@
 //! Errors, with one type for each kind of call. The types and variants have the names of the package `cedar-store`.
-//! Each type has an additional variant `Refused` for failures that `cedar-store` does not report.
+//! Each type has an additional variant `Other` for failures that `cedar-store` does not report.
+use crate::error::{Error, Reason};
 use crate::ffi;
 use crate::policy::PolicyID;
-use crate::refusal::{Reason, Refusal};
 use crate::slots::SlotId;
 use crate::uid::EntityUID;
-use std::error::Error;
 use std::fmt;
 use std::fmt::{Debug, Display};
 
@@ -18,7 +17,7 @@ pub enum ParseErrors {
     /// `::"` is not a name.
     InvalidName,
     /// An allocation failed.
-    Refused(Refusal),
+    Other(Error),
 }
 
 impl ParseErrors {
@@ -121,7 +120,7 @@ pub enum EntitiesError {
     ReservedKey(String),
     /// An allocation failed (`Reason::Memory`), or a value or an expression has more than 1,000 levels
     /// (`Reason::TooDeep`).
-    Refused(Refusal),
+    Other(Error),
 }
 
 /// An error of a call that adds policies or templates to a set.
@@ -134,7 +133,7 @@ pub enum PolicySetError {
     },
     /// An allocation failed (`Reason::Memory`), a clause has more than 1,000 levels (`Reason::TooDeep`), or a static
     /// policy contains a slot (`Reason::NotStatic`).
-    Refused(Refusal),
+    Other(Error),
 }
 
 /// An error of a call that links a template.
@@ -163,7 +162,7 @@ pub enum LinkingError {
         id: PolicyID,
     },
     /// An allocation failed.
-    Refused(Refusal),
+    Other(Error),
 }
 
 /// An error of a call that removes a link.
@@ -174,7 +173,7 @@ pub enum PolicySetUnlinkError {
     /// The id belongs to a static policy or a template.
     NotLinkError(PolicyID),
     /// An allocation failed.
-    Refused(Refusal),
+    Other(Error),
 }
 
 /// An error of a call that removes a static policy.
@@ -185,7 +184,7 @@ pub enum PolicySetPolicyRemovalError {
     /// The id belongs to a link.
     RemovePolicyNoTemplateError(PolicyID),
     /// An allocation failed.
-    Refused(Refusal),
+    Other(Error),
 }
 
 /// An error of a call that removes a template.
@@ -198,7 +197,7 @@ pub enum PolicySetTemplateRemovalError {
     /// The id belongs to a static policy or a link.
     NotTemplateError(PolicyID),
     /// An allocation failed.
-    Refused(Refusal),
+    Other(Error),
 }
 
 /// An error of a call that lists the policies of a template.
@@ -208,21 +207,21 @@ pub enum PolicySetGetLinksError {
     MissingTemplate(PolicyID),
 }
 
-// ---- conversions from `Refusal`
+// ---- conversions from `Error`
 
-fn three(uids: Vec<EntityUID>) -> Option<[EntityUID; 3]> {
+fn three_uids(uids: Vec<EntityUID>) -> Option<[EntityUID; 3]> {
     uids.try_into().ok()
 }
 
-impl From<Refusal> for EntitiesError {
-    fn from(refusal: Refusal) -> EntitiesError {
-        let mut uids = refusal.uids().into_iter();
-        match (refusal.reason(), uids.next(), uids.next()) {
+impl From<Error> for EntitiesError {
+    fn from(error: Error) -> EntitiesError {
+        let mut uids = error.uids().into_iter();
+        match (error.reason(), uids.next(), uids.next()) {
             (Reason::Duplicate, Some(uid), _) => EntitiesError::Duplicate(uid),
             (Reason::Cycle, Some(uid), _) => {
                 EntitiesError::TransitiveClosureError(TcError::HasCycle(HasCycle::new(uid)))
             }
-            (Reason::NotClosed, ..) => match three(refusal.uids()) {
+            (Reason::NotClosed, ..) => match three_uids(error.uids()) {
                 Some([child, parent, grandparent]) => {
                     let edge = MissingTcEdge {
                         child,
@@ -231,7 +230,7 @@ impl From<Refusal> for EntitiesError {
                     };
                     EntitiesError::TransitiveClosureError(TcError::MissingTcEdge(edge))
                 }
-                None => EntitiesError::Refused(refusal),
+                None => EntitiesError::Other(error),
             },
             (Reason::SelfAncestor, Some(uid), _) => EntitiesError::SelfAncestor { uid },
             (Reason::DuplicateAncestor, Some(uid), Some(ancestor)) => {
@@ -240,23 +239,23 @@ impl From<Refusal> for EntitiesError {
             (Reason::ActionParentIsNotAction, Some(uid), Some(parent)) => {
                 EntitiesError::ActionParentIsNotAction { uid, parent }
             }
-            (Reason::ReservedKey, ..) => EntitiesError::ReservedKey(refusal.said().to_owned()),
-            _ => EntitiesError::Refused(refusal),
+            (Reason::ReservedKey, ..) => EntitiesError::ReservedKey(error.details().to_owned()),
+            _ => EntitiesError::Other(error),
         }
     }
 }
 
-impl From<Refusal> for PolicySetError {
-    fn from(refusal: Refusal) -> PolicySetError {
-        match refusal.reason() {
-            Reason::Occupied => PolicySetError::Occupied { id: refusal.id() },
-            _ => PolicySetError::Refused(refusal),
+impl From<Error> for PolicySetError {
+    fn from(error: Error) -> PolicySetError {
+        match error.reason() {
+            Reason::Occupied => PolicySetError::Occupied { id: error.id() },
+            _ => PolicySetError::Other(error),
         }
     }
 }
 
 // Parses a comma-separated list of slots.
-fn listed(text: &str) -> Vec<SlotId> {
+fn parse_slots(text: &str) -> Vec<SlotId> {
     let slots = text.split(',');
     let slot = |word: &str| SlotId::ALL.into_iter().find(|id| id.to_string() == word);
     slots.filter_map(slot).collect()
@@ -266,166 +265,166 @@ const UNBOUND: &str = "the following slots were not provided as arguments: ";
 const EXTRA: &str =
     "he following slots were provided as arguments, but did not exist in the template: ";
 
-impl From<Refusal> for LinkingError {
-    fn from(refusal: Refusal) -> LinkingError {
-        match (refusal.reason(), refusal.uids().pop()) {
+impl From<Error> for LinkingError {
+    fn from(error: Error) -> LinkingError {
+        match (error.reason(), error.uids().pop()) {
             (Reason::Arity, _) => {
-                let (before, extra) = refusal
-                    .said()
+                let (before, extra) = error
+                    .details()
                     .split_once(EXTRA)
-                    .unwrap_or((refusal.said(), ""));
+                    .unwrap_or((error.details(), ""));
                 let unbound = before.strip_prefix(UNBOUND).unwrap_or_default();
                 LinkingError::ArityError {
-                    unbound_values: listed(unbound.trim_end_matches(". T")),
-                    extra_values: listed(extra),
+                    unbound_values: parse_slots(unbound.trim_end_matches(". T")),
+                    extra_values: parse_slots(extra),
                 }
             }
             (Reason::NotAnAction, Some(uid)) => LinkingError::NotAnAction { uid },
-            (Reason::NoSuchTemplate, _) => LinkingError::NoSuchTemplate { id: refusal.id() },
-            (Reason::IdConflict, _) => LinkingError::PolicyIdConflict { id: refusal.id() },
-            _ => LinkingError::Refused(refusal),
+            (Reason::NoSuchTemplate, _) => LinkingError::NoSuchTemplate { id: error.id() },
+            (Reason::IdConflict, _) => LinkingError::PolicyIdConflict { id: error.id() },
+            _ => LinkingError::Other(error),
         }
     }
 }
 
-impl From<Refusal> for PolicySetUnlinkError {
-    fn from(refusal: Refusal) -> PolicySetUnlinkError {
-        match refusal.reason() {
-            Reason::NoLink => PolicySetUnlinkError::UnlinkingError(refusal.id()),
-            Reason::NotALink => PolicySetUnlinkError::NotLinkError(refusal.id()),
-            _ => PolicySetUnlinkError::Refused(refusal),
+impl From<Error> for PolicySetUnlinkError {
+    fn from(error: Error) -> PolicySetUnlinkError {
+        match error.reason() {
+            Reason::NoLink => PolicySetUnlinkError::UnlinkingError(error.id()),
+            Reason::NotALink => PolicySetUnlinkError::NotLinkError(error.id()),
+            _ => PolicySetUnlinkError::Other(error),
         }
     }
 }
 
-impl From<Refusal> for PolicySetPolicyRemovalError {
-    fn from(refusal: Refusal) -> PolicySetPolicyRemovalError {
+impl From<Error> for PolicySetPolicyRemovalError {
+    fn from(error: Error) -> PolicySetPolicyRemovalError {
         use PolicySetPolicyRemovalError as E;
-        match refusal.reason() {
-            Reason::NoStatic => E::RemovePolicyNoLinkError(refusal.id()),
-            Reason::NotStatic => E::RemovePolicyNoTemplateError(refusal.id()),
-            _ => E::Refused(refusal),
+        match error.reason() {
+            Reason::NoStatic => E::RemovePolicyNoLinkError(error.id()),
+            Reason::NotStatic => E::RemovePolicyNoTemplateError(error.id()),
+            _ => E::Other(error),
         }
     }
 }
 
-impl From<Refusal> for PolicySetTemplateRemovalError {
-    fn from(refusal: Refusal) -> PolicySetTemplateRemovalError {
+impl From<Error> for PolicySetTemplateRemovalError {
+    fn from(error: Error) -> PolicySetTemplateRemovalError {
         use PolicySetTemplateRemovalError as E;
-        match refusal.reason() {
-            Reason::NoTemplate => E::RemovePolicyNoTemplateError(refusal.id()),
-            Reason::WithLinks => E::RemoveTemplateWithLinksError(refusal.id()),
-            Reason::NotATemplate => E::NotTemplateError(refusal.id()),
-            _ => E::Refused(refusal),
+        match error.reason() {
+            Reason::NoTemplate => E::RemovePolicyNoTemplateError(error.id()),
+            Reason::WithLinks => E::RemoveTemplateWithLinksError(error.id()),
+            Reason::NotATemplate => E::NotTemplateError(error.id()),
+            _ => E::Other(error),
         }
     }
 }
 
-// ---- conversions into `Refusal`
+// ---- conversions into `Error`
 
-impl From<ParseErrors> for Refusal {
-    fn from(error: ParseErrors) -> Refusal {
+impl From<ParseErrors> for Error {
+    fn from(error: ParseErrors) -> Error {
         match error {
-            ParseErrors::NotNormalized => Refusal::new(4, Vec::new),
-            ParseErrors::InvalidName => Refusal::new(27, Vec::new),
-            ParseErrors::Refused(refusal) => refusal,
+            ParseErrors::NotNormalized => Error::new(4, Vec::new),
+            ParseErrors::InvalidName => Error::new(27, Vec::new),
+            ParseErrors::Other(error) => error,
         }
     }
 }
 
-impl From<EntitiesError> for Refusal {
-    fn from(error: EntitiesError) -> Refusal {
+impl From<EntitiesError> for Error {
+    fn from(error: EntitiesError) -> Error {
         use EntitiesError as E;
         match error {
-            E::Duplicate(uid) => Refusal::naming(Reason::Duplicate, &[uid]),
+            E::Duplicate(uid) => Error::with_names(Reason::Duplicate, &[uid]),
             E::TransitiveClosureError(TcError::HasCycle(cycle)) => {
-                Refusal::naming(Reason::Cycle, &[cycle.vertex])
+                Error::with_names(Reason::Cycle, &[cycle.vertex])
             }
             E::TransitiveClosureError(TcError::MissingTcEdge(edge)) => {
                 let uids = [edge.child, edge.parent, edge.grandparent];
-                Refusal::naming(Reason::NotClosed, &uids)
+                Error::with_names(Reason::NotClosed, &uids)
             }
-            E::SelfAncestor { uid } => Refusal::naming(Reason::SelfAncestor, &[uid]),
+            E::SelfAncestor { uid } => Error::with_names(Reason::SelfAncestor, &[uid]),
             E::DuplicateAncestor { uid, ancestor } => {
-                Refusal::naming(Reason::DuplicateAncestor, &[uid, ancestor])
+                Error::with_names(Reason::DuplicateAncestor, &[uid, ancestor])
             }
             E::ActionParentIsNotAction { uid, parent } => {
-                Refusal::naming(Reason::ActionParentIsNotAction, &[uid, parent])
+                Error::with_names(Reason::ActionParentIsNotAction, &[uid, parent])
             }
-            E::ReservedKey(key) => Refusal::naming(Reason::ReservedKey, &[key]),
-            E::Refused(refusal) => refusal,
+            E::ReservedKey(key) => Error::with_names(Reason::ReservedKey, &[key]),
+            E::Other(error) => error,
         }
     }
 }
 
-impl From<PolicySetError> for Refusal {
-    fn from(error: PolicySetError) -> Refusal {
+impl From<PolicySetError> for Error {
+    fn from(error: PolicySetError) -> Error {
         match error {
-            PolicySetError::Occupied { id } => Refusal::naming(Reason::Occupied, &[id.as_ref()]),
-            PolicySetError::Refused(refusal) => refusal,
+            PolicySetError::Occupied { id } => Error::with_names(Reason::Occupied, &[id.as_ref()]),
+            PolicySetError::Other(error) => error,
         }
     }
 }
 
-impl From<LinkingError> for Refusal {
-    fn from(error: LinkingError) -> Refusal {
+impl From<LinkingError> for Error {
+    fn from(error: LinkingError) -> Error {
         match error {
-            LinkingError::ArityError { .. } => Refusal::naming(Reason::Arity, &[error]),
-            LinkingError::NotAnAction { uid } => Refusal::naming(Reason::NotAnAction, &[uid]),
+            LinkingError::ArityError { .. } => Error::with_names(Reason::Arity, &[error]),
+            LinkingError::NotAnAction { uid } => Error::with_names(Reason::NotAnAction, &[uid]),
             LinkingError::NoSuchTemplate { id } => {
-                Refusal::naming(Reason::NoSuchTemplate, &[id.as_ref()])
+                Error::with_names(Reason::NoSuchTemplate, &[id.as_ref()])
             }
             LinkingError::PolicyIdConflict { id } => {
-                Refusal::naming(Reason::IdConflict, &[id.as_ref()])
+                Error::with_names(Reason::IdConflict, &[id.as_ref()])
             }
-            LinkingError::Refused(refusal) => refusal,
+            LinkingError::Other(error) => error,
         }
     }
 }
 
-impl From<PolicySetUnlinkError> for Refusal {
-    fn from(error: PolicySetUnlinkError) -> Refusal {
+impl From<PolicySetUnlinkError> for Error {
+    fn from(error: PolicySetUnlinkError) -> Error {
         use PolicySetUnlinkError as E;
         match error {
-            E::UnlinkingError(id) => Refusal::naming(Reason::NoLink, &[id.as_ref()]),
-            E::NotLinkError(id) => Refusal::naming(Reason::NotALink, &[id.as_ref()]),
-            E::Refused(refusal) => refusal,
+            E::UnlinkingError(id) => Error::with_names(Reason::NoLink, &[id.as_ref()]),
+            E::NotLinkError(id) => Error::with_names(Reason::NotALink, &[id.as_ref()]),
+            E::Other(error) => error,
         }
     }
 }
 
-impl From<PolicySetPolicyRemovalError> for Refusal {
-    fn from(error: PolicySetPolicyRemovalError) -> Refusal {
+impl From<PolicySetPolicyRemovalError> for Error {
+    fn from(error: PolicySetPolicyRemovalError) -> Error {
         use PolicySetPolicyRemovalError as E;
         match error {
-            E::RemovePolicyNoLinkError(id) => Refusal::naming(Reason::NoStatic, &[id.as_ref()]),
+            E::RemovePolicyNoLinkError(id) => Error::with_names(Reason::NoStatic, &[id.as_ref()]),
             E::RemovePolicyNoTemplateError(id) => {
-                Refusal::naming(Reason::NotStatic, &[id.as_ref()])
+                Error::with_names(Reason::NotStatic, &[id.as_ref()])
             }
-            E::Refused(refusal) => refusal,
+            E::Other(error) => error,
         }
     }
 }
 
-impl From<PolicySetTemplateRemovalError> for Refusal {
-    fn from(error: PolicySetTemplateRemovalError) -> Refusal {
+impl From<PolicySetTemplateRemovalError> for Error {
+    fn from(error: PolicySetTemplateRemovalError) -> Error {
         use PolicySetTemplateRemovalError as E;
         match error {
             E::RemovePolicyNoTemplateError(id) => {
-                Refusal::naming(Reason::NoTemplate, &[id.as_ref()])
+                Error::with_names(Reason::NoTemplate, &[id.as_ref()])
             }
             E::RemoveTemplateWithLinksError(id) => {
-                Refusal::naming(Reason::WithLinks, &[id.as_ref()])
+                Error::with_names(Reason::WithLinks, &[id.as_ref()])
             }
-            E::NotTemplateError(id) => Refusal::naming(Reason::NotATemplate, &[id.as_ref()]),
-            E::Refused(refusal) => refusal,
+            E::NotTemplateError(id) => Error::with_names(Reason::NotATemplate, &[id.as_ref()]),
+            E::Other(error) => error,
         }
     }
 }
 
-impl From<PolicySetGetLinksError> for Refusal {
-    fn from(_: PolicySetGetLinksError) -> Refusal {
-        Refusal::new(26, Vec::new)
+impl From<PolicySetGetLinksError> for Error {
+    fn from(_: PolicySetGetLinksError) -> Error {
+        Error::new(26, Vec::new)
     }
 }
 
@@ -436,7 +435,7 @@ impl fmt::Display for ParseErrors {
         match self {
             ParseErrors::NotNormalized => f.write_str("not a normalized entity uid"),
             ParseErrors::InvalidName => f.write_str("not a valid name"),
-            ParseErrors::Refused(refusal) => write!(f, "{refusal}"),
+            ParseErrors::Other(error) => write!(f, "{error}"),
         }
     }
 }
@@ -476,7 +475,7 @@ impl fmt::Display for EntitiesError {
                 )
             }
             E::ReservedKey(key) => write!(f, "the key `{key}` is reserved"),
-            E::Refused(refusal) => write!(f, "{refusal}"),
+            E::Other(error) => write!(f, "{error}"),
         }
     }
 }
@@ -485,12 +484,12 @@ impl fmt::Display for PolicySetError {
     fn fmt(&self, f: &mut fmt::Formatter<'_>) -> fmt::Result {
         match self {
             PolicySetError::Occupied { id } => write!(f, "duplicate template or policy id `{id}`"),
-            PolicySetError::Refused(refusal) => write!(f, "{refusal}"),
+            PolicySetError::Other(error) => write!(f, "{error}"),
         }
     }
 }
 
-fn joined(slots: &[SlotId]) -> String {
+fn join_slots(slots: &[SlotId]) -> String {
     slots
         .iter()
         .map(SlotId::to_string)
@@ -505,7 +504,7 @@ impl fmt::Display for LinkingError {
                 unbound_values,
                 extra_values,
             } => {
-                let (unbound, extra) = (joined(unbound_values), joined(extra_values));
+                let (unbound, extra) = (join_slots(unbound_values), join_slots(extra_values));
                 match (unbound.is_empty(), extra.is_empty()) {
                     (_, true) => write!(f, "{UNBOUND}{unbound}"),
                     (true, false) => write!(f, "t{EXTRA}{extra}"),
@@ -527,7 +526,7 @@ impl fmt::Display for LinkingError {
                     "template-linked policy id `{id}` conflicts with an existing policy id"
                 )
             }
-            LinkingError::Refused(refusal) => write!(f, "{refusal}"),
+            LinkingError::Other(error) => write!(f, "{error}"),
         }
     }
 }
@@ -548,7 +547,7 @@ impl fmt::Display for PolicySetUnlinkError {
                     "unable to remove link with policy id `{id}` because it is a static policy"
                 )
             }
-            E::Refused(refusal) => write!(f, "{refusal}"),
+            E::Other(error) => write!(f, "{error}"),
         }
     }
 }
@@ -559,7 +558,7 @@ impl fmt::Display for PolicySetPolicyRemovalError {
         let (id, list) = match self {
             E::RemovePolicyNoLinkError(id) => (id, "link"),
             E::RemovePolicyNoTemplateError(id) => (id, "template"),
-            E::Refused(refusal) => return write!(f, "{refusal}"),
+            E::Other(error) => return write!(f, "{error}"),
         };
         write!(
             f,
@@ -580,7 +579,7 @@ impl fmt::Display for PolicySetTemplateRemovalError {
                     "unable to remove template with policy id `{id}` because it is a static policy"
                 );
             }
-            E::Refused(refusal) => return write!(f, "{refusal}"),
+            E::Other(error) => return write!(f, "{error}"),
         };
         write!(
             f,
@@ -596,12 +595,12 @@ impl fmt::Display for PolicySetGetLinksError {
     }
 }
 
-impl<K: Debug + Display> Error for TcError<K> {}
-impl Error for ParseErrors {}
-impl Error for EntitiesError {}
-impl Error for PolicySetError {}
-impl Error for LinkingError {}
-impl Error for PolicySetUnlinkError {}
-impl Error for PolicySetPolicyRemovalError {}
-impl Error for PolicySetTemplateRemovalError {}
-impl Error for PolicySetGetLinksError {}
+impl<K: Debug + Display> std::error::Error for TcError<K> {}
+impl std::error::Error for ParseErrors {}
+impl std::error::Error for EntitiesError {}
+impl std::error::Error for PolicySetError {}
+impl std::error::Error for LinkingError {}
+impl std::error::Error for PolicySetUnlinkError {}
+impl std::error::Error for PolicySetPolicyRemovalError {}
+impl std::error::Error for PolicySetTemplateRemovalError {}
+impl std::error::Error for PolicySetGetLinksError {}

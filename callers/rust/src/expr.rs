@@ -31,7 +31,7 @@ use std::sync::Arc;
 pub struct Expr {
     pub(crate) head: Head,
     // The operands, if the kind has any.
-    below: Option<Arc<Vec<Expr>>>,
+    operands: Option<Arc<Vec<Expr>>>,
     loc: Option<Loc>,
 }
 
@@ -83,23 +83,23 @@ impl Expr {
     fn leaf(head: Head) -> Expr {
         Expr {
             head,
-            below: None,
+            operands: None,
             loc: None,
         }
     }
 
     /// Creates a node with operands. The caller must pass as many as the kind has.
-    pub(crate) fn over(head: Head, below: Vec<Expr>) -> Expr {
+    pub(crate) fn over(head: Head, operands: Vec<Expr>) -> Expr {
         Expr {
             head,
-            below: Some(Arc::new(below)),
+            operands: Some(Arc::new(operands)),
             loc: None,
         }
     }
 
     /// Returns the operands.
-    pub(crate) fn below(&self) -> &[Expr] {
-        self.below.as_deref().map_or(&[], Vec::as_slice)
+    pub(crate) fn operands(&self) -> &[Expr] {
+        self.operands.as_deref().map_or(&[], Vec::as_slice)
     }
 
     /// Creates the expression of a literal. A new node has no location.
@@ -188,18 +188,18 @@ impl Expr {
     /// assert!(matches!(operand.node(), ExprNode::Slot(SlotId::Resource)));
     /// ```
     pub fn node(&self) -> ExprNode<'_> {
-        match (&self.head, self.below()) {
+        match (&self.head, self.operands()) {
             (Head::Val(literal), _) => ExprNode::Val(literal),
             (Head::Var(var), _) => ExprNode::Var(*var),
             (Head::Slot(id), _) => ExprNode::Slot(*id),
             (Head::Unknown(unknown), _) => ExprNode::Unknown(unknown),
-            (Head::Set, below) => ExprNode::Set(below),
-            (Head::Call(name), below) => ExprNode::Call(name, below),
-            (Head::Not, below) => ExprNode::Not(&below[0]),
-            (Head::And, below) => ExprNode::And(&below[0], &below[1]),
-            (Head::Eq, below) => ExprNode::Eq(&below[0], &below[1]),
-            (Head::In, below) => ExprNode::In(&below[0], &below[1]),
-            (Head::Is(ty), below) => ExprNode::Is(&below[0], ty),
+            (Head::Set, operands) => ExprNode::Set(operands),
+            (Head::Call(name), operands) => ExprNode::Call(name, operands),
+            (Head::Not, operands) => ExprNode::Not(&operands[0]),
+            (Head::And, operands) => ExprNode::And(&operands[0], &operands[1]),
+            (Head::Eq, operands) => ExprNode::Eq(&operands[0], &operands[1]),
+            (Head::In, operands) => ExprNode::In(&operands[0], &operands[1]),
+            (Head::Is(ty), operands) => ExprNode::Is(&operands[0], ty),
         }
     }
 
@@ -209,7 +209,7 @@ impl Expr {
         let (mut pending, mut met) = (vec![self], Vec::new());
         while let Some(expr) = pending.pop() {
             met.push(expr);
-            pending.extend(expr.below());
+            pending.extend(expr.operands());
         }
         met
     }
@@ -243,10 +243,10 @@ impl Expr {
     /// - `UnknownFunction`: another function is called. The error names the first such function in the order of
     ///   [`Expr::subexpressions`].
     pub fn try_validate(&self) -> Result<(), ExprValidationError> {
-        let known = ["ip", "decimal", "datetime", "duration"];
+        let known_functions = ["ip", "decimal", "datetime", "duration"];
         for expr in self.subexpressions() {
             match &expr.head {
-                Head::Call(name) if !known.contains(&name.as_str()) => {
+                Head::Call(name) if !known_functions.contains(&name.as_str()) => {
                     return Err(ExprValidationError::UnknownFunction { name: name.clone() });
                 }
                 _ => {}
@@ -267,8 +267,8 @@ impl Expr {
 // Moves the operands of an expression onto a list. Shared operands are only released, because other expressions use
 // them.
 fn push_operands(expr: &mut Expr, pending: &mut Vec<Expr>) {
-    if let Some(below) = expr.below.take() {
-        pending.extend(Arc::into_inner(below).unwrap_or_default());
+    if let Some(operands) = expr.operands.take() {
+        pending.extend(Arc::into_inner(operands).unwrap_or_default());
     }
 }
 
@@ -287,7 +287,7 @@ impl PartialEq for Expr {
     fn eq(&self, other: &Expr) -> bool {
         let mut pairs = vec![(self, other)];
         while let Some((one, other)) = pairs.pop() {
-            let (ones, others) = (one.below(), other.below());
+            let (ones, others) = (one.operands(), other.operands());
             if one.head != other.head || ones.len() != others.len() {
                 return false;
             }
@@ -306,8 +306,8 @@ impl Hash for Expr {
         let mut pending = vec![self];
         while let Some(expr) = pending.pop() {
             expr.head.hash(state);
-            expr.below().len().hash(state);
-            pending.extend(expr.below());
+            expr.operands().len().hash(state);
+            pending.extend(expr.operands());
         }
     }
 }

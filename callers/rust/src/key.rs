@@ -8,9 +8,9 @@ use std::hash::BuildHasher;
 ///
 /// ```
 /// use cedar_store_proved::{Entities, Key};
-/// let drawn = Entities::with_key(Key::drawn()).unwrap();
-/// let everybodys = Entities::with_key(Key { seed: 0, key: 0 }).unwrap();
-/// assert!(drawn.deep_eq(&everybodys));
+/// let random = Entities::with_key(Key::random()).unwrap();
+/// let fixed = Entities::with_key(Key { seed: 0, key: 0 }).unwrap();
+/// assert!(random.deep_eq(&fixed));
 /// ```
 #[derive(Clone, Copy)]
 pub struct Key {
@@ -22,7 +22,7 @@ pub struct Key {
 
 impl Key {
     /// Returns a random key, from the source that the standard library uses for its hash maps. Does not allocate.
-    pub fn drawn() -> Key {
+    pub fn random() -> Key {
         let state = RandomState::new();
         Key {
             seed: state.hash_one(0u8),

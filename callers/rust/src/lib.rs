@@ -26,10 +26,11 @@
 
 mod action;
 mod annotation;
-mod apart;
 mod body;
 mod body_lists;
+mod deep_copy;
 mod entity;
+mod error;
 mod errors;
 mod expr;
 #[allow(unsafe_code)]
@@ -40,12 +41,11 @@ mod lists;
 mod name;
 mod nodes;
 mod numbers;
+mod policies_cache;
 mod policies_iters;
-mod policies_read;
 mod policies_queries;
 mod policy;
 mod policy_set;
-mod refusal;
 mod scope;
 mod slots;
 mod stored;
@@ -55,15 +55,15 @@ mod uid;
 mod value;
 mod value_walk;
 
-pub use apart::{EntitiesDeepCopy, PolicySetDeepCopy};
 pub use ast::{Effect, Entity, EntityUID, PolicyID, PolicySet, SlotEnv, SlotId, Value};
+pub use deep_copy::{EntitiesDeepCopy, PolicySetDeepCopy};
 pub use entities::{Dereference, Entities, TCComputation};
+pub use error::{Error, Reason};
 pub use key::Key;
 pub use numbers::UidNumber;
-pub use policies_read::Renaming;
+pub use policies_cache::Renaming;
 pub use policies_queries::Bound;
 pub use policy::Slots;
-pub use refusal::{Reason, Refusal};
 
 /// Ids, entities, values, expressions, constraints, policies, templates and policy sets.
 pub mod ast {
@@ -181,11 +181,11 @@ pub fn slice(store: &Entities, uids: &[EntityUID]) -> Entities {
 /// assert!(cedar_store_proved::is_uid("A::\"a\"").unwrap());
 /// assert!(!cedar_store_proved::is_uid("A::a").unwrap());
 /// ```
-pub fn is_uid(text: &str) -> Result<bool, Refusal> {
+pub fn is_uid(text: &str) -> Result<bool, Error> {
     match ffi::check_uid(text) {
         0 => Ok(true),
         4 => Ok(false),
-        status => Err(Refusal::new(status, Vec::new)),
+        status => Err(Error::new(status, Vec::new)),
     }
 }
 
@@ -200,8 +200,8 @@ pub fn is_uid(text: &str) -> Result<bool, Refusal> {
 /// let (out, status) = cedar_store_proved::run(b"ent\tA::\"a\"\nbuild\n").unwrap();
 /// assert_eq!((out.as_slice(), status), (b"ok 1\n".as_slice(), 0));
 /// ```
-pub fn run(input: &[u8]) -> Result<(Vec<u8>, u32), Refusal> {
-    run_with_key(input, Key::drawn())
+pub fn run(input: &[u8]) -> Result<(Vec<u8>, u32), Error> {
+    run_with_key(input, Key::random())
 }
 
 /// Runs the program on the lines of an input, with this key. Otherwise works like [`run`]. Runs the program a second
@@ -210,15 +210,15 @@ pub fn run(input: &[u8]) -> Result<(Vec<u8>, u32), Refusal> {
 /// # Errors
 ///
 /// - `Memory`: an allocation failed.
-pub fn run_with_key(input: &[u8], key: Key) -> Result<(Vec<u8>, u32), Refusal> {
+pub fn run_with_key(input: &[u8], key: Key) -> Result<(Vec<u8>, u32), Error> {
     let mut out = vec![0; input.len().max(4096)];
     loop {
-        let given = ffi::run(input, key, &mut out);
-        let (told, ended) = given.map_err(|status| Refusal::new(status, Vec::new))?;
-        if told <= out.len() {
-            out.truncate(told);
-            return Ok((out, ended));
+        let result = ffi::run(input, key, &mut out);
+        let (output_len, exit_status) = result.map_err(|status| Error::new(status, Vec::new))?;
+        if output_len <= out.len() {
+            out.truncate(output_len);
+            return Ok((out, exit_status));
         }
-        out.resize(told, 0);
+        out.resize(output_len, 0);
     }
 }

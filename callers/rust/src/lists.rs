@@ -34,7 +34,7 @@ pub(crate) struct Lists {
 /// Uids and edges, with edges to indirect ancestors, attributes and tags.
 pub(crate) struct Content {
     pub(crate) lists: Lists,
-    pub(crate) above: Vec<Edge>,
+    pub(crate) indirect: Vec<Edge>,
     pub(crate) terms: Vec<Term>,
     pub(crate) nodes: Vec<Node>,
 }
@@ -54,7 +54,7 @@ impl Lists {
     }
 
     /// Appends a uid. Returns its index.
-    pub(crate) fn put(&mut self, uid: &str) -> usize {
+    pub(crate) fn push_uid(&mut self, uid: &str) -> usize {
         let at = self.part(uid);
         self.uids.push(at);
         self.uids.len() - 1
@@ -64,7 +64,7 @@ impl Lists {
     pub(crate) fn of_texts<U: AsRef<str>>(texts: impl IntoIterator<Item = U>) -> Lists {
         let mut lists = Lists::default();
         for text in texts {
-            lists.put(text.as_ref());
+            lists.push_uid(text.as_ref());
         }
         lists
     }
@@ -85,7 +85,7 @@ impl Lists {
     fn place<'a>(&mut self, places: &mut Places<'a>, uid: &'a EntityUID) -> usize {
         *places
             .entry(uid.as_str())
-            .or_insert_with(|| self.put(uid.as_str()))
+            .or_insert_with(|| self.push_uid(uid.as_str()))
     }
 
     /// Encodes entities with their parents. The parents that are not among the entities follow the entities.
@@ -107,7 +107,7 @@ impl Content {
     pub(crate) fn of_entities(entities: &[impl Borrow<Entity>]) -> Content {
         let entities: Vec<&Entity> = entities.iter().map(Borrow::borrow).collect();
         let (mut lists, mut places) = Lists::of_uids(&entities);
-        let (mut above, mut terms) = (Vec::new(), Vec::new());
+        let (mut indirect, mut terms) = (Vec::new(), Vec::new());
         for (from, entity) in entities.iter().enumerate() {
             for parent in entity.parents() {
                 let to = lists.place(&mut places, parent);
@@ -115,7 +115,7 @@ impl Content {
             }
             for ancestor in entity.indirect_ancestors() {
                 let to = lists.place(&mut places, ancestor);
-                above.push(Edge { from, to });
+                indirect.push(Edge { from, to });
             }
         }
         let mut draft = Draft::over(&mut lists);
@@ -137,7 +137,7 @@ impl Content {
         let nodes = draft.into_nodes();
         Content {
             lists,
-            above,
+            indirect,
             terms,
             nodes,
         }

@@ -1,7 +1,7 @@
 //! Names, identifiers, and source locations.
+use crate::error::Error;
 use crate::errors::ParseErrors;
 use crate::ffi;
-use crate::refusal::Refusal;
 use std::cmp::Ordering;
 use std::fmt;
 use std::sync::Arc;
@@ -49,7 +49,7 @@ impl Id {
     /// # Errors
     ///
     /// - `InvalidName`: the text is not an identifier, or it is a reserved word.
-    /// - `Refused`: an allocation failed.
+    /// - `Other`: an allocation failed.
     ///
     /// ```
     /// use cedar_store_proved::ast::Id;
@@ -83,14 +83,14 @@ impl AnyId {
         let is_first = |b: &u8| is_in_word(b) && !b.is_ascii_digit();
         match text.as_bytes().split_first() {
             Some((first, rest)) if is_first(first) && rest.iter().all(is_in_word) => {
-                Ok(AnyId::written(text))
+                Ok(AnyId::from_valid_text(text))
             }
             _ => Err(ParseErrors::InvalidName),
         }
     }
 
     /// Creates an identifier from a text that the library wrote.
-    pub(crate) fn written(text: &str) -> AnyId {
+    pub(crate) fn from_valid_text(text: &str) -> AnyId {
         AnyId { text: text.into() }
     }
 }
@@ -110,7 +110,7 @@ impl Name {
     /// # Errors
     ///
     /// - `InvalidName`: the text is not a name.
-    /// - `Refused`: an allocation failed.
+    /// - `Other`: an allocation failed.
     ///
     /// ```
     /// use cedar_store_proved::ast::Name;
@@ -120,9 +120,9 @@ impl Name {
     /// ```
     pub fn from_normalized_str(text: &str) -> Result<Name, ParseErrors> {
         match ffi::make_uid(text, "") {
-            Ok(_) => Ok(Name::written(text)),
+            Ok(_) => Ok(Name::from_valid_text(text)),
             Err(27) => Err(ParseErrors::InvalidName),
-            Err(status) => Err(ParseErrors::Refused(Refusal::new(status, Vec::new))),
+            Err(status) => Err(ParseErrors::Other(Error::new(status, Vec::new))),
         }
     }
 
@@ -131,7 +131,7 @@ impl Name {
     /// # Errors
     ///
     /// - `InvalidName`: the text is not a name, or it has several identifiers.
-    /// - `Refused`: an allocation failed.
+    /// - `Other`: an allocation failed.
     pub fn parse_unqualified_name(text: &str) -> Result<Name, ParseErrors> {
         match text.contains("::") {
             true => Err(ParseErrors::InvalidName),
@@ -140,7 +140,7 @@ impl Name {
     }
 
     /// Creates a name from a text that is known to be one.
-    pub(crate) fn written(text: &str) -> Name {
+    pub(crate) fn from_valid_text(text: &str) -> Name {
         let last = text.rsplit("::").next().unwrap_or(text);
         Name {
             text: text.into(),
@@ -168,7 +168,9 @@ impl Name {
     /// ```
     pub fn qualify_with_name(&self, namespace: Option<&Name>) -> Name {
         match namespace {
-            Some(path) if self.is_unqualified() => Name::written(&format!("{path}::{self}")),
+            Some(path) if self.is_unqualified() => {
+                Name::from_valid_text(&format!("{path}::{self}"))
+            }
             _ => self.clone(),
         }
     }

@@ -46,7 +46,7 @@ const AND: u32 = 11;
 const EQ: u32 = 12;
 const IN: u32 = 13;
 const IS: u32 = 14;
-const LEFT_OVER: u32 = 15;
+const RESIDUAL: u32 = 15;
 
 impl Node {
     fn of(kind: u32, len: usize) -> Node {
@@ -95,7 +95,7 @@ impl<'a, 'b> Draft<'a, 'b> {
         self.nodes
     }
 
-    fn put(&mut self, text: &str) -> Span {
+    fn push_text(&mut self, text: &str) -> Span {
         let start = self.text.len();
         self.text.push_str(text);
         Span {
@@ -109,13 +109,13 @@ impl<'a, 'b> Draft<'a, 'b> {
         if let Some(at) = self.keys.get(key) {
             return *at;
         }
-        let at = self.put(key);
+        let at = self.push_text(key);
         self.keys.insert(key, at);
         at
     }
 
-    fn named(&mut self, kind: u32, len: usize, text: &str) -> Node {
-        let at = self.put(text);
+    fn text_node(&mut self, kind: u32, len: usize, text: &str) -> Node {
+        let at = self.push_text(text);
         Node {
             at,
             ..Node::of(kind, len)
@@ -128,7 +128,7 @@ impl<'a, 'b> Draft<'a, 'b> {
         match term {
             PartialValue::Value(value) => self.value(&value.value),
             PartialValue::Residual(expr) => {
-                self.nodes.push(Node::of(LEFT_OVER, 1));
+                self.nodes.push(Node::of(RESIDUAL, 1));
                 self.expr(expr);
             }
         }
@@ -147,8 +147,8 @@ impl<'a, 'b> Draft<'a, 'b> {
         match literal {
             Literal::Bool(truth) => Node::numbered(BOOL, i64::from(*truth)),
             Literal::Long(number) => Node::numbered(LONG, *number),
-            Literal::String(text) => self.named(TEXT, 0, text),
-            Literal::EntityUID(uid) => self.named(UID, 0, uid.as_str()),
+            Literal::String(text) => self.text_node(TEXT, 0, text),
+            Literal::EntityUID(uid) => self.text_node(UID, 0, uid.as_str()),
         }
     }
 
@@ -156,7 +156,7 @@ impl<'a, 'b> Draft<'a, 'b> {
         let mut pending = vec![Piece::Kind(kind)];
         while let Some(piece) = pending.pop() {
             let node = match piece {
-                Piece::Text(text) => self.named(TEXT, 0, text),
+                Piece::Text(text) => self.text_node(TEXT, 0, text),
                 Piece::Key(key) => Node {
                     at: self.key(key),
                     ..Node::of(TEXT, 0)
@@ -177,7 +177,7 @@ impl<'a, 'b> Draft<'a, 'b> {
                 }
                 Piece::Kind(ValueKind::ExtensionValue(extension)) => {
                     pending.push(Piece::Text(&extension.arg));
-                    self.named(CALL, 1, extension.func.as_str())
+                    self.text_node(CALL, 1, extension.func.as_str())
                 }
             };
             self.nodes.push(node);
@@ -191,30 +191,30 @@ impl<'a, 'b> Draft<'a, 'b> {
             Head::Slot(id) => Node::numbered(SLOT, *id as i64),
             Head::Unknown(unknown) => {
                 let len = usize::from(unknown.type_annotation.is_some());
-                self.named(UNKNOWN, len, &unknown.name)
+                self.text_node(UNKNOWN, len, &unknown.name)
             }
             Head::Set => Node::of(SET, len),
-            Head::Call(name) => self.named(CALL, len, name.as_str()),
+            Head::Call(name) => self.text_node(CALL, len, name.as_str()),
             Head::Not => Node::of(NOT, 0),
             Head::And => Node::of(AND, 0),
             Head::Eq => Node::of(EQ, 0),
             Head::In => Node::of(IN, 0),
-            Head::Is(ty) => self.named(IS, 0, ty.name().as_str()),
+            Head::Is(ty) => self.text_node(IS, 0, ty.name().as_str()),
         }
     }
 
     fn expr(&mut self, expr: &Expr) {
         let mut pending = vec![expr];
         while let Some(expr) = pending.pop() {
-            let node = self.head(&expr.head, expr.below().len());
+            let node = self.head(&expr.head, expr.operands().len());
             self.nodes.push(node);
             if let Head::Unknown(unknown) = &expr.head {
                 if let Some(StaticType::Entity { ty }) = &unknown.type_annotation {
-                    let node = self.named(TEXT, 0, ty.name().as_str());
+                    let node = self.text_node(TEXT, 0, ty.name().as_str());
                     self.nodes.push(node);
                 }
             }
-            pending.extend(expr.below());
+            pending.extend(expr.operands());
         }
     }
 }
@@ -222,8 +222,8 @@ impl<'a, 'b> Draft<'a, 'b> {
 /// Decodes a partial value. Returns `None` if the nodes do not form one, which the library never returns.
 pub(crate) fn read(text: &str, nodes: &[Node]) -> Option<PartialValue> {
     match nodes.split_last() {
-        Some((last, below)) if last.kind == LEFT_OVER => {
-            read_all(text, below, read_expr).map(PartialValue::Residual)
+        Some((last, operands)) if last.kind == RESIDUAL => {
+            read_all(text, operands, read_expr).map(PartialValue::Residual)
         }
         _ => read_all(text, nodes, read_value).map(PartialValue::Value),
     }
@@ -242,15 +242,15 @@ fn read_all<T>(
 ) -> Option<T> {
     let mut stack = Vec::new();
     for node in nodes {
-        let made = read(text.get(node.at.start..node.at.end)?, node, &mut stack)?;
-        stack.push(made);
+        let item = read(text.get(node.at.start..node.at.end)?, node, &mut stack)?;
+        stack.push(item);
     }
-    let only = stack.pop()?;
-    stack.is_empty().then_some(only)
+    let result = stack.pop()?;
+    stack.is_empty().then_some(result)
 }
 
 // Pops `count` items from a stack. Returns them in the order in which they were pushed.
-fn taken<T>(stack: &mut Vec<T>, count: usize) -> Option<Vec<T>> {
+fn pop_many<T>(stack: &mut Vec<T>, count: usize) -> Option<Vec<T>> {
     let first = stack.len().checked_sub(count)?;
     Some(stack.split_off(first))
 }
@@ -260,7 +260,9 @@ fn read_literal(text: &str, node: &Node) -> Option<Literal> {
         BOOL => Some(Literal::Bool(node.number == 1)),
         LONG => Some(Literal::Long(node.number)),
         TEXT => Some(Literal::String(text.to_owned())),
-        UID => Some(Literal::EntityUID(Arc::new(EntityUID::written(text)))),
+        UID => Some(Literal::EntityUID(Arc::new(EntityUID::from_valid_text(
+            text,
+        )))),
         _ => None,
     }
 }
@@ -275,11 +277,11 @@ fn text_of(value: &Value) -> Option<&str> {
 
 fn read_value(text: &str, node: &Node, stack: &mut Vec<Value>) -> Option<Value> {
     match node.kind {
-        SET => Some(Value::set(taken(stack, node.len)?, None)),
+        SET => Some(Value::set(pop_many(stack, node.len)?, None)),
         RECORD => {
-            let mut below = taken(stack, node.len.checked_mul(2)?)?.into_iter();
+            let mut items = pop_many(stack, node.len.checked_mul(2)?)?.into_iter();
             let mut pairs = Vec::with_capacity(node.len);
-            while let (Some(key), Some(value)) = (below.next(), below.next()) {
+            while let (Some(key), Some(value)) = (items.next(), items.next()) {
                 pairs.push((text_of(&key)?.to_owned(), value));
             }
             Some(Value::record(pairs, None))
@@ -288,7 +290,7 @@ fn read_value(text: &str, node: &Node, stack: &mut Vec<Value>) -> Option<Value> 
             let argument = stack.pop()?;
             let arg = text_of(&argument)?.to_owned();
             Some(Value::from(ExtensionValue {
-                func: Name::written(text),
+                func: Name::from_valid_text(text),
                 arg,
             }))
         }
@@ -300,11 +302,11 @@ fn read_unknown(name: &str, node: &Node, stack: &mut Vec<Expr>) -> Option<Expr> 
     if node.len == 0 {
         return Some(Expr::unknown(Unknown::new_untyped(name)));
     }
-    let below = stack.pop()?;
-    let Head::Val(Literal::String(ty)) = &below.head else {
+    let type_name = stack.pop()?;
+    let Head::Val(Literal::String(ty)) = &type_name.head else {
         return None;
     };
-    let ty = EntityType::from(Name::written(ty));
+    let ty = EntityType::from(Name::from_valid_text(ty));
     Some(Expr::unknown(Unknown::new_with_type(
         name,
         StaticType::Entity { ty },
@@ -318,13 +320,13 @@ fn read_expr(text: &str, node: &Node, stack: &mut Vec<Expr>) -> Option<Expr> {
         SLOT => return Some(Expr::slot(*SlotId::ALL.get(place.ok()?)?)),
         UNKNOWN => return read_unknown(text, node, stack),
         SET => (Head::Set, node.len),
-        CALL => (Head::Call(Name::written(text)), node.len),
+        CALL => (Head::Call(Name::from_valid_text(text)), node.len),
         NOT => (Head::Not, 1),
         AND => (Head::And, 2),
         EQ => (Head::Eq, 2),
         IN => (Head::In, 2),
-        IS => (Head::Is(EntityType::from(Name::written(text))), 1),
+        IS => (Head::Is(EntityType::from(Name::from_valid_text(text))), 1),
         _ => return Some(Expr::val(read_literal(text, node)?)),
     };
-    Some(Expr::over(head, taken(stack, count)?))
+    Some(Expr::over(head, pop_many(stack, count)?))
 }

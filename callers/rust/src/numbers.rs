@@ -1,5 +1,5 @@
 //! Numbers of uids, for programs that query the same uids many times.
-use crate::refusal::{Reason, Refusal};
+use crate::error::{Error, Reason};
 use crate::stored::Entities;
 use crate::uid::EntityUID;
 use std::sync::atomic::{AtomicU64, Ordering};
@@ -45,8 +45,8 @@ impl Entities {
     /// store.remove([r#"User::"alice""#], TCComputation::ComputeNow).unwrap();
     /// assert!(!store.contains_number(alice).unwrap());
     /// ```
-    pub fn number(&self, uid: impl AsRef<str>) -> Result<UidNumber, Refusal> {
-        let number = self.answered(self.held.uid_number(uid.as_ref()))?;
+    pub fn number(&self, uid: impl AsRef<str>) -> Result<UidNumber, Error> {
+        let number = self.value_if_ok(self.handle.uid_number(uid.as_ref()))?;
         Ok(UidNumber {
             store: self.id,
             number,
@@ -54,11 +54,11 @@ impl Entities {
     }
 
     // Returns the library's number.
-    fn own(&self, number: UidNumber) -> Result<usize, Refusal> {
+    fn raw_number(&self, number: UidNumber) -> Result<usize, Error> {
         if number.store == self.id {
             return Ok(number.number);
         }
-        Err(Refusal::plain(Reason::BadArgument))
+        Err(Error::of_reason(Reason::BadArgument))
     }
 
     /// Returns the uid of a number.
@@ -67,9 +67,9 @@ impl Entities {
     ///
     /// - `BadArgument`: the number belongs to another store.
     /// - `Memory`: an allocation failed.
-    pub fn uid_of_number(&self, number: UidNumber) -> Result<EntityUID, Refusal> {
-        self.judged(self.held.number_uid(self.own(number)?))?;
-        Ok(EntityUID::written(&self.held.answer_text()))
+    pub fn uid_of_number(&self, number: UidNumber) -> Result<EntityUID, Error> {
+        self.check_status(self.handle.number_uid(self.raw_number(number)?))?;
+        Ok(EntityUID::from_valid_text(&self.handle.result_text()))
     }
 
     /// Returns whether the store has an entity with the uid of this number.
@@ -77,8 +77,8 @@ impl Entities {
     /// # Errors
     ///
     /// - `BadArgument`: the number belongs to another store.
-    pub fn contains_number(&self, number: UidNumber) -> Result<bool, Refusal> {
-        self.answered(self.held.has_number(self.own(number)?))
+    pub fn contains_number(&self, number: UidNumber) -> Result<bool, Error> {
+        self.value_if_ok(self.handle.has_number(self.raw_number(number)?))
     }
 
     /// Returns whether an entity is a descendant of a uid, as [`Entities::is_descendant_of`] does, for the numbers of
@@ -92,8 +92,8 @@ impl Entities {
         &self,
         child: UidNumber,
         ancestor: UidNumber,
-    ) -> Result<bool, Refusal> {
-        let (child, ancestor) = (self.own(child)?, self.own(ancestor)?);
-        self.answered(self.held.is_below(child, ancestor))
+    ) -> Result<bool, Error> {
+        let (child, ancestor) = (self.raw_number(child)?, self.raw_number(ancestor)?);
+        self.value_if_ok(self.handle.is_descendant_of_numbers(child, ancestor))
     }
 }

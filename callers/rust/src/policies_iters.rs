@@ -1,5 +1,5 @@
 //! Iterators over the policies, bodies and links of a set, in insertion order.
-use crate::policies_read::Ids;
+use crate::policies_cache::Ids;
 use crate::policy::{Policy, PolicyID};
 use crate::policy_set::PolicySet;
 use crate::template::Template;

@@ -2,12 +2,12 @@
 use crate::action::ActionConstraint;
 use crate::annotation::{Annotation, Annotations};
 use crate::body_lists;
+use crate::error::Error;
 use crate::expr::Expr;
 use crate::name::AnyId;
 use crate::nodes::read_clause;
 use crate::policy::{Effect, PolicyID, Slots};
 use crate::policy_set::PolicySet;
-use crate::refusal::Refusal;
 use crate::scope::{PrincipalConstraint, PrincipalOrResourceConstraint, ResourceConstraint};
 use crate::slots::{SlotEnv, SlotId};
 use crate::template::Template;
@@ -25,19 +25,19 @@ pub enum Bound {
 }
 
 impl PolicySet {
-    // Returns the texts of the last answer.
-    fn told(&self, status: u32) -> Result<Vec<String>, Refusal> {
-        self.judged(status)?;
-        Ok(self.held.answer(str::to_owned))
+    // Returns the texts of the last result.
+    fn result_texts(&self, status: u32) -> Result<Vec<String>, Error> {
+        self.check_status(status)?;
+        Ok(self.handle.map_results(str::to_owned))
     }
 
-    pub(crate) fn text(&self, status: u32) -> Result<String, Refusal> {
-        self.judged(status)?;
-        Ok(self.held.answer_text())
+    pub(crate) fn text(&self, status: u32) -> Result<String, Error> {
+        self.check_status(status)?;
+        Ok(self.handle.result_text())
     }
 
-    fn number(&self, (status, number): (u32, u32)) -> Result<u32, Refusal> {
-        self.judged(status)?;
+    fn number(&self, (status, number): (u32, u32)) -> Result<u32, Error> {
+        self.check_status(status)?;
         Ok(number)
     }
 
@@ -46,8 +46,8 @@ impl PolicySet {
     /// # Errors
     ///
     /// - `Memory`: an allocation failed.
-    pub fn body_ids(&self) -> Result<Vec<String>, Refusal> {
-        self.told(self.held.ids(0))
+    pub fn body_ids(&self) -> Result<Vec<String>, Error> {
+        self.result_texts(self.handle.ids(0))
     }
 
     /// Returns the ids of static policies and links, in insertion order.
@@ -55,8 +55,8 @@ impl PolicySet {
     /// # Errors
     ///
     /// - `Memory`: an allocation failed.
-    pub fn policy_ids(&self) -> Result<Vec<String>, Refusal> {
-        self.told(self.held.ids(1))
+    pub fn policy_ids(&self) -> Result<Vec<String>, Error> {
+        self.result_texts(self.handle.ids(1))
     }
 
     /// Returns the kind of item to which an id is bound, if it is bound.
@@ -73,8 +73,8 @@ impl PolicySet {
     /// assert_eq!(set.effect("p").unwrap(), Effect::Forbid);
     /// assert_eq!(set.effect("q").unwrap_err().reason(), Reason::NoBody);
     /// ```
-    pub fn bound(&self, id: impl AsRef<str>) -> Result<Option<Bound>, Refusal> {
-        Ok(match self.number(self.held.get(id.as_ref()))? {
+    pub fn bound(&self, id: impl AsRef<str>) -> Result<Option<Bound>, Error> {
+        Ok(match self.number(self.handle.get(id.as_ref()))? {
             1 => Some(Bound::Static),
             2 => Some(Bound::Link),
             3 => Some(Bound::Template),
@@ -88,8 +88,8 @@ impl PolicySet {
     ///
     /// - `NoBody`: the id is not bound.
     /// - `Memory`: an allocation failed.
-    pub fn effect(&self, id: impl AsRef<str>) -> Result<Effect, Refusal> {
-        match self.number(self.held.effect(id.as_ref()))? {
+    pub fn effect(&self, id: impl AsRef<str>) -> Result<Effect, Error> {
+        match self.number(self.handle.effect(id.as_ref()))? {
             0 => Ok(Effect::Permit),
             _ => Ok(Effect::Forbid),
         }
@@ -101,8 +101,8 @@ impl PolicySet {
     ///
     /// - `NoBody`: no template or static policy has this id.
     /// - `Memory`: an allocation failed.
-    pub fn slots(&self, id: impl AsRef<str>) -> Result<Slots, Refusal> {
-        Ok(Slots::of(self.number(self.held.slots(id.as_ref()))?))
+    pub fn slots(&self, id: impl AsRef<str>) -> Result<Slots, Error> {
+        Ok(Slots::of(self.number(self.handle.slots(id.as_ref()))?))
     }
 
     /// Returns the annotation with this key of a policy or template, if it has one. A link has the annotations of its
@@ -113,8 +113,8 @@ impl PolicySet {
     /// - `NotAName`: the key is not an identifier.
     /// - `NoBody`: the id is not bound.
     /// - `Memory`: an allocation failed.
-    pub fn annotation(&self, id: impl AsRef<str>, key: &str) -> Result<Option<String>, Refusal> {
-        let (status, has) = self.held.annotation(id.as_ref(), key);
+    pub fn annotation(&self, id: impl AsRef<str>, key: &str) -> Result<Option<String>, Error> {
+        let (status, has) = self.handle.annotation(id.as_ref(), key);
         let text = self.text(status)?;
         Ok(has.then_some(text))
     }
@@ -126,8 +126,10 @@ impl PolicySet {
     ///
     /// - `NoBody`: the id is not bound.
     /// - `Memory`: an allocation failed.
-    pub fn annotations(&self, id: impl AsRef<str>) -> Result<Vec<(String, String)>, Refusal> {
-        let mut texts = self.told(self.held.annotations(id.as_ref()))?.into_iter();
+    pub fn annotations(&self, id: impl AsRef<str>) -> Result<Vec<(String, String)>, Error> {
+        let mut texts = self
+            .result_texts(self.handle.annotations(id.as_ref()))?
+            .into_iter();
         let mut pairs = Vec::new();
         while let (Some(key), Some(value)) = (texts.next(), texts.next()) {
             pairs.push((key, value));
@@ -141,14 +143,14 @@ impl PolicySet {
     ///
     /// - `NoBody`: no link or static policy has this id.
     /// - `Memory`: an allocation failed.
-    pub fn env(&self, id: impl AsRef<str>) -> Result<SlotEnv, Refusal> {
-        let texts = self.told(self.held.env(id.as_ref()))?;
+    pub fn env(&self, id: impl AsRef<str>) -> Result<SlotEnv, Error> {
+        let texts = self.result_texts(self.handle.env(id.as_ref()))?;
         let bound = SlotId::ALL
             .into_iter()
             .zip(texts)
             .filter(|(_, uid)| !uid.is_empty());
         Ok(bound
-            .map(|(id, uid)| (id, EntityUID::written(&uid)))
+            .map(|(id, uid)| (id, EntityUID::from_valid_text(&uid)))
             .collect())
     }
 
@@ -158,8 +160,8 @@ impl PolicySet {
     ///
     /// - `NoBody`: no link or static policy has this id.
     /// - `Memory`: an allocation failed.
-    pub fn template_id(&self, id: impl AsRef<str>) -> Result<String, Refusal> {
-        self.text(self.held.template_id(id.as_ref()))
+    pub fn template_id(&self, id: impl AsRef<str>) -> Result<String, Error> {
+        self.text(self.handle.template_id(id.as_ref()))
     }
 
     /// Returns the ids of the links of the template with this id, in insertion order. For a static policy, returns only
@@ -169,8 +171,8 @@ impl PolicySet {
     ///
     /// - `NoBody`: no template or static policy has this id.
     /// - `Memory`: an allocation failed.
-    pub fn linked(&self, id: impl AsRef<str>) -> Result<Vec<String>, Refusal> {
-        self.told(self.held.linked(id.as_ref()))
+    pub fn linked(&self, id: impl AsRef<str>) -> Result<Vec<String>, Error> {
+        self.result_texts(self.handle.linked(id.as_ref()))
     }
 
     /// Returns a readable text of the static policy or the link with this id.
@@ -179,8 +181,8 @@ impl PolicySet {
     ///
     /// - `NoBody`: no link or static policy has this id.
     /// - `Memory`: an allocation failed.
-    pub fn policy_text(&self, id: impl AsRef<str>) -> Result<String, Refusal> {
-        self.text(self.held.policy_text(id.as_ref()))
+    pub fn policy_text(&self, id: impl AsRef<str>) -> Result<String, Error> {
+        self.text(self.handle.policy_text(id.as_ref()))
     }
 
     /// Returns a readable text of the template or the static policy with this id.
@@ -189,23 +191,23 @@ impl PolicySet {
     ///
     /// - `NoBody`: no template or static policy has this id.
     /// - `Memory`: an allocation failed.
-    pub fn template_text(&self, id: impl AsRef<str>) -> Result<String, Refusal> {
-        self.text(self.held.template_text(id.as_ref()))
+    pub fn template_text(&self, id: impl AsRef<str>) -> Result<String, Error> {
+        self.text(self.handle.template_text(id.as_ref()))
     }
 
     // Returns the kind of a constraint, and its texts.
-    fn scope(&self, id: &str, which: u32) -> Result<(u32, Vec<String>), Refusal> {
-        let kind = self.number(self.held.scope(id, which))?;
+    fn scope(&self, id: &str, part: u32) -> Result<(u32, Vec<String>), Error> {
+        let kind = self.number(self.handle.scope(id, part))?;
         let texts = match body_lists::has_texts(kind) {
-            true => self.held.answer(str::to_owned),
+            true => self.handle.map_results(str::to_owned),
             false => Vec::new(),
         };
         Ok((kind, texts))
     }
 
     // Returns the constraint on the principal (0) or the resource (2).
-    fn asked(&self, id: &str, which: u32) -> Result<PrincipalOrResourceConstraint, Refusal> {
-        let (kind, texts) = self.scope(id, which)?;
+    fn read_constraint(&self, id: &str, part: u32) -> Result<PrincipalOrResourceConstraint, Error> {
+        let (kind, texts) = self.scope(id, part)?;
         Ok(body_lists::read_scope(kind, &texts).expect("the library returns a constraint"))
     }
 
@@ -227,11 +229,9 @@ impl PolicySet {
     /// assert_eq!(set.principal_constraint("l").unwrap().to_string(), r#"principal == User::"alice""#);
     /// assert_eq!(set.condition("l").unwrap().to_string(), "(principal == ?principal) && (true && (true && true))");
     /// ```
-    pub fn principal_constraint(
-        &self,
-        id: impl AsRef<str>,
-    ) -> Result<PrincipalConstraint, Refusal> {
-        self.asked(id.as_ref(), 0).map(PrincipalConstraint::new)
+    pub fn principal_constraint(&self, id: impl AsRef<str>) -> Result<PrincipalConstraint, Error> {
+        self.read_constraint(id.as_ref(), 0)
+            .map(PrincipalConstraint::new)
     }
 
     /// Returns the constraint on the action of the policy or template with this id. A link has the constraint of its
@@ -241,7 +241,7 @@ impl PolicySet {
     ///
     /// - `NoBody`: the id is not bound.
     /// - `Memory`: an allocation failed.
-    pub fn action_constraint(&self, id: impl AsRef<str>) -> Result<ActionConstraint, Refusal> {
+    pub fn action_constraint(&self, id: impl AsRef<str>) -> Result<ActionConstraint, Error> {
         let (kind, texts) = self.scope(id.as_ref(), 1)?;
         Ok(body_lists::read_action(kind, &texts).expect("the library returns a constraint"))
     }
@@ -253,13 +253,14 @@ impl PolicySet {
     ///
     /// - `NoBody`: the id is not bound.
     /// - `Memory`: an allocation failed.
-    pub fn resource_constraint(&self, id: impl AsRef<str>) -> Result<ResourceConstraint, Refusal> {
-        self.asked(id.as_ref(), 2).map(ResourceConstraint::new)
+    pub fn resource_constraint(&self, id: impl AsRef<str>) -> Result<ResourceConstraint, Error> {
+        self.read_constraint(id.as_ref(), 2)
+            .map(ResourceConstraint::new)
     }
 
     // Returns the last expression that the library wrote.
     fn expr(&self) -> Expr {
-        let (text, nodes) = (self.held.answer_text(), self.held.nodes());
+        let (text, nodes) = (self.handle.result_text(), self.handle.nodes());
         read_clause(&text, &nodes).expect("the library returns an expression")
     }
 
@@ -270,9 +271,9 @@ impl PolicySet {
     ///
     /// - `NoBody`: the id is not bound.
     /// - `Memory`: an allocation failed.
-    pub fn non_scope_constraints(&self, id: impl AsRef<str>) -> Result<Option<Expr>, Refusal> {
-        let (status, has) = self.held.clause(id.as_ref());
-        self.judged(status)?;
+    pub fn non_scope_constraints(&self, id: impl AsRef<str>) -> Result<Option<Expr>, Error> {
+        let (status, has) = self.handle.clause(id.as_ref());
+        self.check_status(status)?;
         Ok(has.then(|| self.expr()))
     }
 
@@ -283,8 +284,8 @@ impl PolicySet {
     ///
     /// - `NoBody`: the id is not bound.
     /// - `Memory`: an allocation failed.
-    pub fn condition(&self, id: impl AsRef<str>) -> Result<Expr, Refusal> {
-        self.judged(self.held.condition(id.as_ref()))?;
+    pub fn condition(&self, id: impl AsRef<str>) -> Result<Expr, Error> {
+        self.check_status(self.handle.condition(id.as_ref()))?;
         Ok(self.expr())
     }
 
@@ -302,15 +303,16 @@ impl PolicySet {
     /// set.bind_static("p", Effect::Permit).unwrap();
     /// assert!(set.unknown_entities("p").unwrap().is_empty());
     /// ```
-    pub fn unknown_entities(&self, id: impl AsRef<str>) -> Result<Vec<EntityUID>, Refusal> {
-        self.judged(self.held.unknown_entities(id.as_ref()))?;
-        Ok(self.held.answer(EntityUID::written))
+    pub fn unknown_entities(&self, id: impl AsRef<str>) -> Result<Vec<EntityUID>, Error> {
+        self.check_status(self.handle.unknown_entities(id.as_ref()))?;
+        Ok(self.handle.map_results(EntityUID::from_valid_text))
     }
 
     /// Reads a body of the set.
-    pub(crate) fn encoded_body(&self, id: &PolicyID) -> Result<Template, Refusal> {
-        let annotation =
-            |(key, val): (String, String)| (AnyId::written(&key), Annotation { val, loc: None });
+    pub(crate) fn encoded_body(&self, id: &PolicyID) -> Result<Template, Error> {
+        let annotation = |(key, val): (String, String)| {
+            (AnyId::from_valid_text(&key), Annotation { val, loc: None })
+        };
         let annotations: Annotations = self.annotations(id)?.into_iter().map(annotation).collect();
         Ok(Template::new(
             id.clone(),

@@ -291,7 +291,7 @@ impl Policy {
         let unknowns = condition.unknowns().into_iter();
         for unknown in unknowns.filter(|unknown| unknown.type_annotation.is_some()) {
             match EntityUID::from_normalized_str(&unknown.name) {
-                Err(ParseErrors::Refused(refusal)) => panic!("cannot allocate a uid: {refusal}"),
+                Err(ParseErrors::Other(error)) => panic!("cannot allocate a uid: {error}"),
                 read => uids.extend(read),
             }
         }

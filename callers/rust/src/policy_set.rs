@@ -1,22 +1,22 @@
 //! Policy sets.
-use crate::apart::PolicySetDeepCopy;
 use crate::body::TemplateBody;
 use crate::body_lists::BodyLists;
+use crate::deep_copy::PolicySetDeepCopy;
+use crate::error::Error;
 use crate::errors::{
     LinkingError, PolicySetError, PolicySetGetLinksError, PolicySetPolicyRemovalError,
     PolicySetTemplateRemovalError, PolicySetUnlinkError,
 };
-use crate::ffi::{Held, Sets};
+use crate::ffi::{OwnedHandle, Sets};
 use crate::invalid::PolicySetValidationError;
 use crate::key::Key;
 use crate::lists::Lists;
+use crate::policies_cache::{get_or_try_init, Renaming, SetCache};
 use crate::policies_iters::{
     AllTemplates, IntoPolicies, LinkedIds, Policies, StaticPolicies, Templates,
 };
-use crate::policies_read::{kept, Read, Renaming};
 use crate::policies_queries::Bound;
 use crate::policy::{Effect, Policy, PolicyID, Slots};
-use crate::refusal::Refusal;
 use crate::slots::{SlotEnv, SlotId};
 use crate::template::{StaticPolicy, Template};
 use crate::uid::EntityUID;
@@ -76,31 +76,31 @@ const MEMORY: &str = "cannot allocate the result of a query";
 /// shares(cedar_store_proved::ast::PolicySet::new());
 /// ```
 pub struct PolicySet {
-    pub(crate) held: Held<Sets>,
-    read: OnceCell<Read>,
+    pub(crate) handle: OwnedHandle<Sets>,
+    cache: OnceCell<SetCache>,
 }
 
-fn answered<T>(given: Result<T, Refusal>) -> T {
-    given.expect(MEMORY)
+fn expect_allocated<T>(result: Result<T, Error>) -> T {
+    result.expect(MEMORY)
 }
 
 impl PolicySet {
-    fn of(held: Result<Held<Sets>, u32>) -> Result<PolicySet, Refusal> {
-        match held {
-            Ok(held) => Ok(PolicySet::of_held(held)),
-            Err(status) => Err(Refusal::new(status, Vec::new)),
+    fn of(handle: Result<OwnedHandle<Sets>, u32>) -> Result<PolicySet, Error> {
+        match handle {
+            Ok(handle) => Ok(PolicySet::from_handle(handle)),
+            Err(status) => Err(Error::new(status, Vec::new)),
         }
     }
 
-    pub(crate) fn of_held(held: Held<Sets>) -> PolicySet {
+    pub(crate) fn from_handle(handle: OwnedHandle<Sets>) -> PolicySet {
         PolicySet {
-            held,
-            read: OnceCell::new(),
+            handle,
+            cache: OnceCell::new(),
         }
     }
 
-    pub(crate) fn judged(&self, status: u32) -> Result<(), Refusal> {
-        Refusal::judged(status, || self.held.words())
+    pub(crate) fn check_status(&self, status: u32) -> Result<(), Error> {
+        Error::check_status(status, || self.handle.error_text())
     }
 
     /// Creates an empty set, with a random key.
@@ -109,7 +109,7 @@ impl PolicySet {
     ///
     /// Panics if the allocation of a few bytes fails. [`PolicySet::with_key`] returns an error instead.
     pub fn new() -> PolicySet {
-        PolicySet::with_key(Key::drawn()).expect("cannot allocate an empty set")
+        PolicySet::with_key(Key::random()).expect("cannot allocate an empty set")
     }
 
     /// Creates an empty set. The hash maps of the set and of its copies use this key.
@@ -117,8 +117,8 @@ impl PolicySet {
     /// # Errors
     ///
     /// - `Memory`: an allocation failed.
-    pub fn with_key(key: Key) -> Result<PolicySet, Refusal> {
-        PolicySet::of(Held::new(key))
+    pub fn with_key(key: Key) -> Result<PolicySet, Error> {
+        PolicySet::of(OwnedHandle::new(key))
     }
 
     // ---- edits
@@ -141,7 +141,7 @@ impl PolicySet {
     pub fn try_from_iter(
         policies: impl IntoIterator<Item = Policy>,
     ) -> Result<PolicySet, PolicySetError> {
-        let mut set = PolicySet::with_key(Key::drawn())?;
+        let mut set = PolicySet::with_key(Key::random())?;
         for policy in policies {
             set.add(policy)?;
         }
@@ -153,7 +153,7 @@ impl PolicySet {
     /// # Errors
     ///
     /// - `Occupied`: the id is already bound.
-    /// - `Refused`: the clause has more than 1,000 levels, or an allocation failed.
+    /// - `Other`: the clause has more than 1,000 levels, or an allocation failed.
     ///
     /// ```
     /// use cedar_store_proved::ast::*;
@@ -172,8 +172,8 @@ impl PolicySet {
     /// };
     /// let mut set = PolicySet::new();
     /// set.add_static(policy(Effect::Permit)).unwrap();
-    /// let refusal = set.add_static(policy(Effect::Forbid)).unwrap_err();
-    /// assert_eq!(refusal, PolicySetError::Occupied { id: PolicyID::from_string("p") });
+    /// let error = set.add_static(policy(Effect::Forbid)).unwrap_err();
+    /// assert_eq!(error, PolicySetError::Occupied { id: PolicyID::from_string("p") });
     /// ```
     pub fn add_static(&mut self, policy: StaticPolicy) -> Result<(), PolicySetError> {
         self.insert_static_body(policy.body())
@@ -182,16 +182,16 @@ impl PolicySet {
     // Adds a static policy with this body. The library returns an error if the body contains a slot.
     fn insert_static_body(&mut self, body: &TemplateBody) -> Result<(), PolicySetError> {
         let id = body.id().as_ref();
-        let status = self.held.add_static_with(id, &BodyLists::of(body));
-        self.static_joined(status, id)
+        let status = self.handle.add_static_with(id, &BodyLists::of(body));
+        self.record_static(status, id)
     }
 
-    fn static_joined(&mut self, status: u32, id: &str) -> Result<(), PolicySetError> {
-        self.judged(status)?;
-        if let Some(read) = self.read.get_mut() {
+    fn record_static(&mut self, status: u32, id: &str) -> Result<(), PolicySetError> {
+        self.check_status(status)?;
+        if let Some(cache) = self.cache.get_mut() {
             let id = PolicyID::from_string(id);
-            read.push_body(id.clone());
-            read.policies.push(id, OnceCell::new());
+            cache.push_body(id.clone());
+            cache.policies.push(id, OnceCell::new());
         }
         Ok(())
     }
@@ -201,21 +201,21 @@ impl PolicySet {
     /// # Errors
     ///
     /// - `Occupied`: the id is already bound.
-    /// - `Refused`: the clause has more than 1,000 levels, or an allocation failed.
+    /// - `Other`: the clause has more than 1,000 levels, or an allocation failed.
     pub fn add_template(&mut self, template: Template) -> Result<(), PolicySetError> {
         self.insert_template_body(template.body())
     }
 
     fn insert_template_body(&mut self, body: &TemplateBody) -> Result<(), PolicySetError> {
         let id = body.id().as_ref();
-        let status = self.held.add_template_with(id, &BodyLists::of(body));
-        self.template_joined(status, id)
+        let status = self.handle.add_template_with(id, &BodyLists::of(body));
+        self.record_template(status, id)
     }
 
-    fn template_joined(&mut self, status: u32, id: &str) -> Result<(), PolicySetError> {
-        self.judged(status)?;
-        if let Some(read) = self.read.get_mut() {
-            read.push_body(PolicyID::from_string(id));
+    fn record_template(&mut self, status: u32, id: &str) -> Result<(), PolicySetError> {
+        self.check_status(status)?;
+        if let Some(cache) = self.cache.get_mut() {
+            cache.push_body(PolicyID::from_string(id));
         }
         Ok(())
     }
@@ -228,13 +228,13 @@ impl PolicySet {
     /// - `Occupied`: the id of a link's template is bound to anything but an equal template. This is checked before the
     ///   link's own id.
     /// - `Occupied`: the id of a link is already bound, or it is also the id of its template.
-    /// - `Refused`: a clause has more than 1,000 levels, a static policy contains a slot, or an allocation failed.
+    /// - `Other`: a clause has more than 1,000 levels, a static policy contains a slot, or an allocation failed.
     pub fn add(&mut self, policy: Policy) -> Result<(), PolicySetError> {
         if policy.is_static() {
             return self.insert_static_body(policy.template().body());
         }
         let (id, template_id) = (policy.id(), policy.template().id());
-        let held = match self.bound(template_id)? {
+        let stored = match self.bound(template_id)? {
             Some(Bound::Template) => self.try_body(template_id)?,
             None => None,
             Some(Bound::Static | Bound::Link) => {
@@ -242,15 +242,15 @@ impl PolicySet {
                 return Err(PolicySetError::Occupied { id });
             }
         };
-        if held.is_some_and(|held| **held != *policy.template()) {
+        if stored.is_some_and(|stored| **stored != *policy.template()) {
             let id = template_id.clone();
             return Err(PolicySetError::Occupied { id });
         }
-        let is_held = held.is_some();
+        let is_stored = stored.is_some();
         if id == template_id || self.bound(id)?.is_some() {
             return Err(PolicySetError::Occupied { id: id.clone() });
         }
-        match is_held {
+        match is_stored {
             true => Ok(self.insert_link_body(template_id, id, policy.env())?),
             false => self.insert_with_template(&policy),
         }
@@ -259,14 +259,14 @@ impl PolicySet {
     // Adds a link and its template. Merges a set of these two, so that either both are added or none.
     fn insert_with_template(&mut self, link: &Policy) -> Result<(), PolicySetError> {
         let (template, id) = (link.template(), link.id());
-        let mut both = PolicySet::with_key(Key::drawn())?;
-        both.insert_template_body(template.body())?;
-        both.bind_link(template.id(), id, link.env())?;
-        let status = self.held.merge(&both.held, false);
-        self.judged(status)?;
-        if let Some(read) = self.read.get_mut() {
-            read.push_body(template.id().clone());
-            read.policies.push(id.clone(), OnceCell::new());
+        let mut pair = PolicySet::with_key(Key::random())?;
+        pair.insert_template_body(template.body())?;
+        pair.bind_link(template.id(), id, link.env())?;
+        let status = self.handle.merge(&pair.handle, false);
+        self.check_status(status)?;
+        if let Some(cache) = self.cache.get_mut() {
+            cache.push_body(template.id().clone());
+            cache.policies.push(id.clone(), OnceCell::new());
         }
         Ok(())
     }
@@ -276,7 +276,7 @@ impl PolicySet {
     /// # Errors
     ///
     /// - `Occupied`: the id is already bound.
-    /// - `Refused`: an allocation failed.
+    /// - `Other`: an allocation failed.
     ///
     /// ```
     /// use cedar_store_proved::ast::{Effect, PolicyID, PolicySet};
@@ -291,8 +291,8 @@ impl PolicySet {
         effect: Effect,
     ) -> Result<(), PolicySetError> {
         let id = id.as_ref();
-        let status = self.held.add_static(id, effect as u32);
-        self.static_joined(status, id)
+        let status = self.handle.add_static(id, effect as u32);
+        self.record_static(status, id)
     }
 
     /// Adds a template with this effect. Each variable with a slot must be equal to the uid bound to the slot. Calls
@@ -301,7 +301,7 @@ impl PolicySet {
     /// # Errors
     ///
     /// - `Occupied`: the id is already bound.
-    /// - `Refused`: an allocation failed.
+    /// - `Other`: an allocation failed.
     pub fn bind_template(
         &mut self,
         id: impl AsRef<str>,
@@ -309,8 +309,8 @@ impl PolicySet {
         slots: Slots,
     ) -> Result<(), PolicySetError> {
         let id = id.as_ref();
-        let status = self.held.add_template(id, effect as u32, slots.number());
-        self.template_joined(status, id)
+        let status = self.handle.add_template(id, effect as u32, slots.number());
+        self.record_template(status, id)
     }
 
     /// Links a template: adds a link with this id and these bindings. Returns the link.
@@ -324,7 +324,7 @@ impl PolicySet {
     /// - `NotAnAction`: the action's slot is bound to a uid that is not an action.
     /// - `PolicyIdConflict`: the id `new_id` is already bound.
     ///
-    /// The call returns `Refused` if an allocation failed.
+    /// The call returns `Other` if an allocation failed.
     ///
     /// ```
     /// use cedar_store_proved::ast::{Effect, LinkingError, PolicySet, SlotEnv, SlotId};
@@ -356,16 +356,16 @@ impl PolicySet {
         template_id: &PolicyID,
         id: &PolicyID,
         values: &SlotEnv,
-    ) -> Result<(), Refusal> {
+    ) -> Result<(), Error> {
         let template = self.try_body(template_id)?.cloned();
         self.bind_link(template_id, id, values)?;
         let template = template.expect("the linked template exists");
         // The library does not store the locations of bound uids.
         let bound = values.iter();
-        let values = bound.map(|(slot, uid)| (*slot, EntityUID::written(uid.as_str())));
+        let values = bound.map(|(slot, uid)| (*slot, EntityUID::from_valid_text(uid.as_str())));
         let link = Policy::of(template, Some(id.clone()), values.collect());
-        if let Some(read) = self.read.get_mut() {
-            read.push_link(id.clone(), link);
+        if let Some(cache) = self.cache.get_mut() {
+            cache.push_link(id.clone(), link);
         }
         Ok(())
     }
@@ -376,12 +376,12 @@ impl PolicySet {
         template_id: &PolicyID,
         id: &PolicyID,
         values: &SlotEnv,
-    ) -> Result<(), Refusal> {
+    ) -> Result<(), Error> {
         let bound = SlotId::ALL.map(|slot| values.get(&slot).map_or("", EntityUID::as_str));
         let values = Lists::of_texts(bound);
         let (template_id, id) = (template_id.as_ref(), id.as_ref());
-        let status = self.held.link(template_id, id, &values);
-        self.judged(status)
+        let status = self.handle.link(template_id, id, &values);
+        self.check_status(status)
     }
 
     /// Removes the link with this id, and returns it.
@@ -390,19 +390,19 @@ impl PolicySet {
     ///
     /// - `UnlinkingError`: the id is not bound.
     /// - `NotLinkError`: the id belongs to a static policy or a template.
-    /// - `Refused`: an allocation failed.
+    /// - `Other`: an allocation failed.
     pub fn unlink(&mut self, id: &PolicyID) -> Result<Policy, PolicySetUnlinkError> {
         let policy = self.try_policy(id)?.cloned();
-        let status = self.held.unlink(id.as_ref());
-        self.judged(status)?;
-        Ok(self.left(policy))
+        let status = self.handle.unlink(id.as_ref());
+        self.check_status(status)?;
+        Ok(self.record_removal(policy))
     }
 
     // Updates the cache after a policy was removed. `policy` was read before.
-    fn left(&mut self, policy: Option<Policy>) -> Policy {
+    fn record_removal(&mut self, policy: Option<Policy>) -> Policy {
         let policy = policy.expect("the removed policy was in the set");
-        if let Some(read) = self.read.get_mut() {
-            read.remove_policy(&policy);
+        if let Some(cache) = self.cache.get_mut() {
+            cache.remove_policy(&policy);
         }
         policy
     }
@@ -413,12 +413,12 @@ impl PolicySet {
     ///
     /// - `RemovePolicyNoLinkError`: no policy has this id.
     /// - `RemovePolicyNoTemplateError`: the id belongs to a link.
-    /// - `Refused`: an allocation failed.
+    /// - `Other`: an allocation failed.
     pub fn remove_static(&mut self, id: &PolicyID) -> Result<Policy, PolicySetPolicyRemovalError> {
         let policy = self.try_policy(id)?.cloned();
-        let status = self.held.remove_static(id.as_ref());
-        self.judged(status)?;
-        Ok(self.left(policy))
+        let status = self.handle.remove_static(id.as_ref());
+        self.check_status(status)?;
+        Ok(self.record_removal(policy))
     }
 
     /// Removes the template with this id, and returns it.
@@ -428,16 +428,16 @@ impl PolicySet {
     /// - `RemovePolicyNoTemplateError`: the id is not bound.
     /// - `RemoveTemplateWithLinksError`: the template has links.
     /// - `NotTemplateError`: the id belongs to a static policy or a link.
-    /// - `Refused`: an allocation failed.
+    /// - `Other`: an allocation failed.
     pub fn remove_template(
         &mut self,
         id: &PolicyID,
     ) -> Result<Template, PolicySetTemplateRemovalError> {
         let template = self.try_body(id)?.cloned();
-        let status = self.held.remove_template(id.as_ref());
-        self.judged(status)?;
-        if let Some(read) = self.read.get_mut() {
-            read.remove_body(id);
+        let status = self.handle.remove_template(id.as_ref());
+        self.check_status(status)?;
+        if let Some(cache) = self.cache.get_mut() {
+            cache.remove_body(id);
         }
         let template = template.expect("the removed template was in the set");
         Ok(Arc::unwrap_or_clone(template))
@@ -451,7 +451,7 @@ impl PolicySet {
     ///
     /// - `Occupied`: `rename` is false, and both sets bind the id to different items. The error names the first such
     ///   id.
-    /// - `Refused`: an allocation failed.
+    /// - `Other`: an allocation failed.
     ///
     /// ```
     /// use cedar_store_proved::ast::{Effect, PolicyID, PolicySet};
@@ -467,41 +467,41 @@ impl PolicySet {
         other: &PolicySet,
         rename: bool,
     ) -> Result<Renaming, PolicySetError> {
-        let status = self.held.merge(&other.held, rename);
-        self.judged(status)?;
-        self.read.take();
+        let status = self.handle.merge(&other.handle, rename);
+        self.check_status(status)?;
+        self.cache.take();
         Ok(Renaming::of(
-            self.held.answer(|id| PolicyID::from_string(id)),
+            self.handle.map_results(|id| PolicyID::from_string(id)),
         ))
     }
 
     // ---- cached reads
 
-    fn try_read(&self) -> Result<&Read, Refusal> {
-        kept(&self.read, || {
-            Ok(Read::of(self.body_ids()?, self.policy_ids()?))
+    fn try_cache(&self) -> Result<&SetCache, Error> {
+        get_or_try_init(&self.cache, || {
+            Ok(SetCache::of(self.body_ids()?, self.policy_ids()?))
         })
     }
 
-    fn try_body(&self, id: &PolicyID) -> Result<Option<&Arc<Template>>, Refusal> {
-        let body = self.try_read()?.bodies.at(id);
-        body.map(|body| kept(body, || Ok(Arc::new(self.encoded_body(id)?))))
+    fn try_body(&self, id: &PolicyID) -> Result<Option<&Arc<Template>>, Error> {
+        let body = self.try_cache()?.bodies.at(id);
+        body.map(|body| get_or_try_init(body, || Ok(Arc::new(self.encoded_body(id)?))))
             .transpose()
     }
 
-    fn try_policy(&self, id: &PolicyID) -> Result<Option<&Policy>, Refusal> {
-        let policy = self.try_read()?.policies.at(id);
+    fn try_policy(&self, id: &PolicyID) -> Result<Option<&Policy>, Error> {
+        let policy = self.try_cache()?.policies.at(id);
         policy
-            .map(|policy| kept(policy, || self.read_policy(id)))
+            .map(|policy| get_or_try_init(policy, || self.read_policy(id)))
             .transpose()
     }
 
-    fn read(&self) -> &Read {
-        answered(self.try_read())
+    fn cache(&self) -> &SetCache {
+        expect_allocated(self.try_cache())
     }
 
     // Reads a policy of the set.
-    fn read_policy(&self, id: &PolicyID) -> Result<Policy, Refusal> {
+    fn read_policy(&self, id: &PolicyID) -> Result<Policy, Error> {
         let template_id = PolicyID::from_smolstr(self.template_id(id)?);
         let template = self.try_body(&template_id)?.expect("a policy has a body");
         let link = (template_id != *id).then(|| id.clone());
@@ -514,7 +514,7 @@ impl PolicySet {
     ///
     /// Panics if an allocation fails.
     pub fn is_empty(&self) -> bool {
-        self.read().bodies.is_empty()
+        self.cache().bodies.is_empty()
     }
 
     /// Returns the static policy or the link with this id, if there is one. The first request calls the library twice,
@@ -524,7 +524,7 @@ impl PolicySet {
     ///
     /// Panics if an allocation fails.
     pub fn get(&self, id: &PolicyID) -> Option<&Policy> {
-        answered(self.try_policy(id))
+        expect_allocated(self.try_policy(id))
     }
 
     /// Returns the template with this id, or the body of the static policy with this id. The first request calls the
@@ -534,7 +534,7 @@ impl PolicySet {
     ///
     /// Panics if an allocation fails.
     pub fn get_template(&self, id: &PolicyID) -> Option<&Template> {
-        answered(self.try_body(id)).map(Arc::as_ref)
+        expect_allocated(self.try_body(id)).map(Arc::as_ref)
     }
 
     /// Returns the shared template with this id, or the shared body of the static policy with this id.
@@ -543,7 +543,7 @@ impl PolicySet {
     ///
     /// Panics if an allocation fails.
     pub fn get_template_arc(&self, id: &PolicyID) -> Option<Arc<Template>> {
-        answered(self.try_body(id)).cloned()
+        expect_allocated(self.try_body(id)).cloned()
     }
 
     /// Iterates over all policies, which are static policies and links, in insertion order.
@@ -552,7 +552,7 @@ impl PolicySet {
     ///
     /// Panics if an allocation fails.
     pub fn policies(&self) -> Policies<'_> {
-        let ids = self.read().policies.ids();
+        let ids = self.cache().policies.ids();
         Policies { set: self, ids }
     }
 
@@ -572,7 +572,7 @@ impl PolicySet {
     ///
     /// Panics if an allocation fails.
     pub fn all_templates(&self) -> AllTemplates<'_> {
-        let ids = self.read().bodies.ids();
+        let ids = self.cache().bodies.ids();
         AllTemplates { set: self, ids }
     }
 
@@ -608,16 +608,16 @@ impl PolicySet {
         &self,
         id: &PolicyID,
     ) -> Result<LinkedIds<'_>, PolicySetGetLinksError> {
-        let Some(links) = self.read().links.at(id) else {
+        let Some(links) = self.cache().links.at(id) else {
             return Err(PolicySetGetLinksError::MissingTemplate(id.clone()));
         };
-        let told = || {
-            answered(self.linked(id))
+        let read_links = || {
+            expect_allocated(self.linked(id))
                 .into_iter()
                 .map(PolicyID::from_smolstr)
                 .collect()
         };
-        Ok(LinkedIds(links.get_or_init(told).iter()))
+        Ok(LinkedIds(links.get_or_init(read_links).iter()))
     }
 
     /// Checks whether the set is valid. Calls the library once. Does not change the set.
@@ -638,11 +638,11 @@ impl PolicySet {
     /// set.bind_template("t", Effect::Permit, Slots::none()).unwrap();
     /// assert!(set.validate().is_ok());
     /// set.link("t", "l", SlotEnv::new()).unwrap();
-    /// let refusal = set.validate().unwrap_err();
-    /// assert_eq!((refusal.reason(), refusal.to_string().as_str()), (Reason::SlotlessLink, "link without slots l"));
+    /// let error = set.validate().unwrap_err();
+    /// assert_eq!((error.reason(), error.to_string().as_str()), (Reason::SlotlessLink, "link without slots l"));
     /// ```
-    pub fn validate(&self) -> Result<(), Refusal> {
-        self.judged(self.held.validate())
+    pub fn validate(&self) -> Result<(), Error> {
+        self.check_status(self.handle.validate())
     }
 
     /// Returns the set itself if its links and its bodies are valid. Reads the whole set.
@@ -679,10 +679,10 @@ impl PolicySet {
     /// # Errors
     ///
     /// - `Memory`: an allocation failed.
-    pub fn deep_copy(&self) -> Result<PolicySetDeepCopy, Refusal> {
-        match self.held.deep_copy() {
-            Ok(held) => Ok(PolicySetDeepCopy::of(held)),
-            Err(status) => Err(Refusal::new(status, Vec::new)),
+    pub fn deep_copy(&self) -> Result<PolicySetDeepCopy, Error> {
+        match self.handle.deep_copy() {
+            Ok(handle) => Ok(PolicySetDeepCopy::of(handle)),
+            Err(status) => Err(Error::new(status, Vec::new)),
         }
     }
 
@@ -691,8 +691,8 @@ impl PolicySet {
     /// # Errors
     ///
     /// - `Memory`: an allocation failed.
-    pub fn try_clone(&self) -> Result<PolicySet, Refusal> {
-        PolicySet::of(self.held.copy())
+    pub fn try_clone(&self) -> Result<PolicySet, Error> {
+        PolicySet::of(self.handle.copy())
     }
 }
 
@@ -703,14 +703,14 @@ impl Clone for PolicySet {
     ///
     /// Panics if an allocation fails. [`PolicySet::try_clone`] returns an error instead.
     fn clone(&self) -> PolicySet {
-        answered(self.try_clone())
+        expect_allocated(self.try_clone())
     }
 }
 
 impl PartialEq for PolicySet {
     /// Returns whether both sets have equal bodies in the same order, and equal policies in the same order.
     fn eq(&self, other: &PolicySet) -> bool {
-        self.held.is_equal(&other.held)
+        self.handle.is_equal(&other.handle)
     }
 }
 
@@ -725,7 +725,7 @@ impl Default for PolicySet {
 impl fmt::Display for PolicySet {
     /// Writes the bodies and the policies, in their orders. Calls the library once.
     fn fmt(&self, f: &mut fmt::Formatter<'_>) -> fmt::Result {
-        let text = self.text(self.held.text()).map_err(|_| fmt::Error)?;
+        let text = self.text(self.handle.text()).map_err(|_| fmt::Error)?;
         f.write_str(&text)
     }
 }

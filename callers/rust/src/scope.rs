@@ -162,37 +162,37 @@ pub enum PrincipalOrResourceConstraint {
     IsIn(Arc<EntityType>, EntityReference),
 }
 
-use PrincipalOrResourceConstraint as Asked;
+use PrincipalOrResourceConstraint as Constraint;
 
 impl PrincipalOrResourceConstraint {
     /// Creates a constraint that allows any entity.
     pub fn any() -> PrincipalOrResourceConstraint {
-        Asked::Any
+        Constraint::Any
     }
 
     /// Creates a constraint that requires equality with this uid.
     pub fn is_eq(euid: Arc<EntityUID>) -> PrincipalOrResourceConstraint {
-        Asked::Eq(EntityReference::euid(euid))
+        Constraint::Eq(EntityReference::euid(euid))
     }
 
     /// Creates a constraint that requires equality with the uid bound to the slot. The slot has no location.
     pub fn is_eq_slot() -> PrincipalOrResourceConstraint {
-        Asked::Eq(EntityReference::Slot(None))
+        Constraint::Eq(EntityReference::Slot(None))
     }
 
     /// Creates a constraint that requires the entity to be in this uid.
     pub fn is_in(euid: Arc<EntityUID>) -> PrincipalOrResourceConstraint {
-        Asked::In(EntityReference::euid(euid))
+        Constraint::In(EntityReference::euid(euid))
     }
 
     /// Creates a constraint that requires the entity to be in the uid bound to the slot. The slot has no location.
     pub fn is_in_slot() -> PrincipalOrResourceConstraint {
-        Asked::In(EntityReference::Slot(None))
+        Constraint::In(EntityReference::Slot(None))
     }
 
     /// Creates a constraint that requires this entity type.
     pub fn is_entity_type(entity_type: Arc<EntityType>) -> PrincipalOrResourceConstraint {
-        Asked::Is(entity_type)
+        Constraint::Is(entity_type)
     }
 
     /// Creates a constraint that requires this entity type, and the entity to be in this uid.
@@ -200,44 +200,44 @@ impl PrincipalOrResourceConstraint {
         entity_type: Arc<EntityType>,
         in_entity: Arc<EntityUID>,
     ) -> PrincipalOrResourceConstraint {
-        Asked::IsIn(entity_type, EntityReference::euid(in_entity))
+        Constraint::IsIn(entity_type, EntityReference::euid(in_entity))
     }
 
     /// Creates a constraint that requires this entity type, and the entity to be in the uid bound to the slot. The slot
     /// has no location.
     pub fn is_entity_type_in_slot(entity_type: Arc<EntityType>) -> PrincipalOrResourceConstraint {
-        Asked::IsIn(entity_type, EntityReference::Slot(None))
+        Constraint::IsIn(entity_type, EntityReference::Slot(None))
     }
 
     /// Returns the constraint as an expression on this variable and its slot. A constraint that allows any entity is
     /// `true`. A slot node has the location of the reference.
     pub fn as_expr(&self, v: PrincipalOrResource) -> Expr {
         let variable = || Expr::var(Var::from(v));
-        let named = |reference: &EntityReference| reference.into_expr(SlotId::from(v));
+        let operand = |reference: &EntityReference| reference.into_expr(SlotId::from(v));
         let is = |ty: &EntityType| Expr::is_entity_type(variable(), ty.clone());
         match self {
-            Asked::Any => Expr::val(true),
-            Asked::In(reference) => Expr::is_in(variable(), named(reference)),
-            Asked::Eq(reference) => Expr::is_eq(variable(), named(reference)),
-            Asked::Is(ty) => is(ty),
-            Asked::IsIn(ty, reference) => {
-                Expr::and(is(ty), Expr::is_in(variable(), named(reference)))
+            Constraint::Any => Expr::val(true),
+            Constraint::In(reference) => Expr::is_in(variable(), operand(reference)),
+            Constraint::Eq(reference) => Expr::is_eq(variable(), operand(reference)),
+            Constraint::Is(ty) => is(ty),
+            Constraint::IsIn(ty, reference) => {
+                Expr::and(is(ty), Expr::is_in(variable(), operand(reference)))
             }
         }
     }
 
     /// Returns the text of the constraint on this variable and its slot, for example `principal is T in ?principal`.
     pub fn display(&self, v: PrincipalOrResource) -> String {
-        let named = |reference: &EntityReference| match reference {
+        let text = |reference: &EntityReference| match reference {
             EntityReference::EUID(euid) => euid.to_string(),
             EntityReference::Slot(_) => SlotId::from(v).to_string(),
         };
         match self {
-            Asked::Any => v.to_string(),
-            Asked::In(reference) => format!("{v} in {}", named(reference)),
-            Asked::Eq(reference) => format!("{v} == {}", named(reference)),
-            Asked::Is(ty) => format!("{v} is {ty}"),
-            Asked::IsIn(ty, reference) => format!("{v} is {ty} in {}", named(reference)),
+            Constraint::Any => v.to_string(),
+            Constraint::In(reference) => format!("{v} in {}", text(reference)),
+            Constraint::Eq(reference) => format!("{v} == {}", text(reference)),
+            Constraint::Is(ty) => format!("{v} is {ty}"),
+            Constraint::IsIn(ty, reference) => format!("{v} is {ty} in {}", text(reference)),
         }
     }
 
@@ -258,18 +258,18 @@ impl PrincipalOrResourceConstraint {
     // Returns the required type, if there is one.
     fn stated_type(&self) -> Option<&EntityType> {
         match self {
-            Asked::Is(ty) | Asked::IsIn(ty, _) => Some(ty),
-            Asked::Any | Asked::In(_) | Asked::Eq(_) => None,
+            Constraint::Is(ty) | Constraint::IsIn(ty, _) => Some(ty),
+            Constraint::Any | Constraint::In(_) | Constraint::Eq(_) => None,
         }
     }
 
     // Returns the reference, if there is one.
     fn reference(&self) -> Option<&EntityReference> {
         match self {
-            Asked::In(reference) | Asked::Eq(reference) | Asked::IsIn(_, reference) => {
-                Some(reference)
-            }
-            Asked::Any | Asked::Is(_) => None,
+            Constraint::In(reference)
+            | Constraint::Eq(reference)
+            | Constraint::IsIn(_, reference) => Some(reference),
+            Constraint::Any | Constraint::Is(_) => None,
         }
     }
 
@@ -282,11 +282,13 @@ impl PrincipalOrResourceConstraint {
     }
 
     // Replaces the slot by a uid.
-    fn with_filled_slot(self, euid: Arc<EntityUID>) -> Asked {
+    fn with_filled_slot(self, euid: Arc<EntityUID>) -> Constraint {
         match self {
-            Asked::Eq(EntityReference::Slot(_)) => Asked::is_eq(euid),
-            Asked::In(EntityReference::Slot(_)) => Asked::is_in(euid),
-            Asked::IsIn(ty, EntityReference::Slot(_)) => Asked::is_entity_type_in(ty, euid),
+            Constraint::Eq(EntityReference::Slot(_)) => Constraint::is_eq(euid),
+            Constraint::In(EntityReference::Slot(_)) => Constraint::is_in(euid),
+            Constraint::IsIn(ty, EntityReference::Slot(_)) => {
+                Constraint::is_entity_type_in(ty, euid)
+            }
             other => other,
         }
     }
@@ -340,32 +342,32 @@ macro_rules! constraints {
 
             /// Creates a constraint that allows any entity.
             pub fn any() -> $kind {
-                $kind::new(Asked::any())
+                $kind::new(Constraint::any())
             }
 
             /// Creates a constraint that requires equality with this uid.
             pub fn is_eq(euid: Arc<EntityUID>) -> $kind {
-                $kind::new(Asked::is_eq(euid))
+                $kind::new(Constraint::is_eq(euid))
             }
 
             /// Creates a constraint that requires equality with the uid bound to the slot.
             pub fn is_eq_slot() -> $kind {
-                $kind::new(Asked::is_eq_slot())
+                $kind::new(Constraint::is_eq_slot())
             }
 
             /// Creates a constraint that requires the entity to be in this uid.
             pub fn is_in(euid: Arc<EntityUID>) -> $kind {
-                $kind::new(Asked::is_in(euid))
+                $kind::new(Constraint::is_in(euid))
             }
 
             /// Creates a constraint that requires the entity to be in the uid bound to the slot.
             pub fn is_in_slot() -> $kind {
-                $kind::new(Asked::is_in_slot())
+                $kind::new(Constraint::is_in_slot())
             }
 
             /// Creates a constraint that requires this entity type.
             pub fn is_entity_type(entity_type: Arc<EntityType>) -> $kind {
-                $kind::new(Asked::is_entity_type(entity_type))
+                $kind::new(Constraint::is_entity_type(entity_type))
             }
 
             /// Creates a constraint that requires this entity type, and the entity to be in this uid.
@@ -373,12 +375,12 @@ macro_rules! constraints {
                 entity_type: Arc<EntityType>,
                 in_entity: Arc<EntityUID>,
             ) -> $kind {
-                $kind::new(Asked::is_entity_type_in(entity_type, in_entity))
+                $kind::new(Constraint::is_entity_type_in(entity_type, in_entity))
             }
 
             /// Creates a constraint that requires this entity type, and the entity to be in the uid bound to the slot.
             pub fn is_entity_type_in_slot(entity_type: Arc<EntityType>) -> $kind {
-                $kind::new(Asked::is_entity_type_in_slot(entity_type))
+                $kind::new(Constraint::is_entity_type_in_slot(entity_type))
             }
 
             /// Replaces the slot by this uid. A constraint without the slot is returned unchanged.

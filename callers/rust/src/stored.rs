@@ -1,14 +1,14 @@
 //! Stores of entities.
-use crate::apart::EntitiesDeepCopy;
+use crate::deep_copy::EntitiesDeepCopy;
 use crate::entity::Entity;
+use crate::error::Error;
 use crate::errors::EntitiesError;
 use crate::expr::Expr;
-use crate::ffi::{DeepCopyHandle, Change, Held, Stores};
+use crate::ffi::{Change, DeepCopyHandle, OwnedHandle, Stores};
 use crate::key::Key;
 use crate::lists::{Content, Lists};
 use crate::nodes;
 use crate::numbers::StoreId;
-use crate::refusal::Refusal;
 use crate::slots::{StaticallyTyped, Unknown};
 use crate::stored_entity::{Dereference, IntoIter, Iter, StoredEntity, MEMORY};
 use crate::uid::EntityUID;
@@ -18,7 +18,7 @@ use std::collections::HashSet;
 use std::fmt;
 
 // The maximum number of entities for which the text of the whole store is requested in one call of the library.
-const FEW: usize = 100;
+const MAX_ONE_CALL: usize = 100;
 
 /// The mode of a call: how it ensures that ancestors are complete.
 ///
@@ -47,8 +47,8 @@ pub enum TCComputation {
 /// `NotAUid`.
 ///
 /// `==` compares only the uids and whether the stores are partial. [`Entities::deep_eq`] also compares the attributes,
-/// tags and ancestors of the entities, but not which ancestors are parents. Iteration, `==`, `clone` and the methods of [`StoredEntity`] panic if an allocation fails, as the collections of the
-/// standard library abort.
+/// tags and ancestors of the entities, but not which ancestors are parents. Iteration, `==`, `clone` and the methods of
+/// [`StoredEntity`] panic if an allocation fails, as the collections of the standard library abort.
 ///
 /// ```
 /// use cedar_store_proved::ast::{Entity, EntityUID};
@@ -77,26 +77,26 @@ pub enum TCComputation {
 /// shares(cedar_store_proved::entities::Entities::new());
 /// ```
 pub struct Entities {
-    pub(crate) held: Held<Stores>,
+    pub(crate) handle: OwnedHandle<Stores>,
     pub(crate) id: StoreId,
 }
 
 impl Entities {
-    fn of(held: Result<Held<Stores>, u32>) -> Result<Entities, Refusal> {
-        match held {
-            Ok(held) => Ok(Entities::of_held(held)),
-            Err(status) => Err(Refusal::new(status, Vec::new)),
+    fn of(handle: Result<OwnedHandle<Stores>, u32>) -> Result<Entities, Error> {
+        match handle {
+            Ok(handle) => Ok(Entities::from_handle(handle)),
+            Err(status) => Err(Error::new(status, Vec::new)),
         }
     }
 
     // Creates a store from a handle. Its numbers of uids belong to no other store.
-    pub(crate) fn of_held(held: Held<Stores>) -> Entities {
+    pub(crate) fn from_handle(handle: OwnedHandle<Stores>) -> Entities {
         let id = StoreId::fresh();
-        Entities { held, id }
+        Entities { handle, id }
     }
 
-    pub(crate) fn judged(&self, status: u32) -> Result<(), Refusal> {
-        Refusal::judged(status, || self.held.words())
+    pub(crate) fn check_status(&self, status: u32) -> Result<(), Error> {
+        Error::check_status(status, || self.handle.error_text())
     }
 
     /// Creates an empty store, with a random key.
@@ -105,7 +105,7 @@ impl Entities {
     ///
     /// Panics if the allocation of a few bytes fails. [`Entities::with_key`] returns an error instead.
     pub fn new() -> Entities {
-        Entities::with_key(Key::drawn()).expect("cannot allocate an empty store")
+        Entities::with_key(Key::random()).expect("cannot allocate an empty store")
     }
 
     /// Creates an empty store. The hash maps of the store, of its copies and of its slices use this key.
@@ -119,8 +119,8 @@ impl Entities {
     /// let store = Entities::with_key(Key { seed: 17, key: 4 }).unwrap();
     /// assert!(store.is_empty());
     /// ```
-    pub fn with_key(key: Key) -> Result<Entities, Refusal> {
-        Entities::of(Held::new(key))
+    pub fn with_key(key: Key) -> Result<Entities, Error> {
+        Entities::of(OwnedHandle::new(key))
     }
 
     /// Creates a store of these entities, with a random key. Entities with the same uid must be deeply equal.
@@ -130,7 +130,7 @@ impl Entities {
     /// - `Duplicate`: two entities of the list have the same uid, but are not deeply equal.
     /// - `TransitiveClosureError`: an entity reaches itself, or in `EnforceAlreadyComputed` an ancestor of an ancestor
     ///   is missing.
-    /// - `Refused`: a value or an expression has more than 1,000 levels, or an allocation failed.
+    /// - `Other`: a value or an expression has more than 1,000 levels, or an allocation failed.
     ///
     /// ```
     /// use cedar_store_proved::ast::{Entity, EntityUID};
@@ -138,34 +138,34 @@ impl Entities {
     /// let uid = |text| EntityUID::from_normalized_str(text).unwrap();
     /// let a = Entity::with_uid(uid(r#"A::"a""#));
     /// let other = a.clone().with_parent(uid(r#"A::"b""#));
-    /// let given = Entities::from_entities([a, other], TCComputation::ComputeNow);
-    /// assert_eq!(given.unwrap_err(), EntitiesError::Duplicate(uid(r#"A::"a""#)));
+    /// let result = Entities::from_entities([a, other], TCComputation::ComputeNow);
+    /// assert_eq!(result.unwrap_err(), EntitiesError::Duplicate(uid(r#"A::"a""#)));
     /// ```
     pub fn from_entities(
         entities: impl IntoIterator<Item = impl Borrow<Entity>>,
         mode: TCComputation,
     ) -> Result<Entities, EntitiesError> {
-        let mut store = Entities::with_key(Key::drawn())?;
-        store.changed(Change::Build, entities, mode)?;
+        let mut store = Entities::with_key(Key::random())?;
+        store.edit(Change::Build, entities, mode)?;
         Ok(store)
     }
 
     // Changes the store. If the entities have only parents, uses the shorter format of the library.
-    fn changed(
+    fn edit(
         &mut self,
         change: Change,
         entities: impl IntoIterator<Item = impl Borrow<Entity>>,
         mode: TCComputation,
-    ) -> Result<(), Refusal> {
+    ) -> Result<(), Error> {
         let entities: Vec<_> = entities.into_iter().collect();
         let status = if entities.iter().any(|entity| entity.borrow().has_content()) {
             let content = Content::of_entities(&entities);
-            self.held.change_with(change, &content, mode as u32)
+            self.handle.change_with(change, &content, mode as u32)
         } else {
             let lists = Lists::of_entities(&entities);
-            self.held.change(change, &lists, mode as u32)
+            self.handle.change(change, &lists, mode as u32)
         };
-        self.judged(status)
+        self.check_status(status)
     }
 
     /// Adds entities to the store. An entity whose uid is in the store must be deeply equal to the stored entity, which
@@ -176,7 +176,7 @@ impl Entities {
     /// - `Duplicate`: an entity differs from a stored one or an earlier one with the same uid.
     /// - `TransitiveClosureError`: an entity reaches itself, or in `EnforceAlreadyComputed` an ancestor of an ancestor
     ///   is missing.
-    /// - `Refused`: a value or an expression has more than 1,000 levels, or an allocation failed.
+    /// - `Other`: a value or an expression has more than 1,000 levels, or an allocation failed.
     ///
     /// After an error the store is dropped. To keep it, copy it before with [`Entities::try_clone`], or use
     /// [`Entities::add`].
@@ -188,8 +188,8 @@ impl Entities {
     /// let (a, b) = (uid(r#"A::"a""#), uid(r#"A::"b""#));
     /// let child = Entity::with_uid(a.clone()).with_parent(b.clone());
     /// let store = Entities::from_entities([child], TCComputation::ComputeNow).unwrap();
-    /// let above = Entity::with_uid(b).with_parent(a);
-    /// assert!(store.add_entities([above], TCComputation::ComputeNow).is_err());
+    /// let parent = Entity::with_uid(b).with_parent(a);
+    /// assert!(store.add_entities([parent], TCComputation::ComputeNow).is_err());
     /// ```
     pub fn add_entities(
         mut self,
@@ -207,7 +207,7 @@ impl Entities {
     ///
     /// - `TransitiveClosureError`: an entity reaches itself, or in `EnforceAlreadyComputed` an ancestor of an ancestor
     ///   is missing.
-    /// - `Refused`: a value or an expression has more than 1,000 levels, or an allocation failed.
+    /// - `Other`: a value or an expression has more than 1,000 levels, or an allocation failed.
     ///
     /// After an error the store is dropped.
     pub fn upsert_entities(
@@ -225,7 +225,7 @@ impl Entities {
     ///
     /// - `TransitiveClosureError`: an entity reaches itself, or in `EnforceAlreadyComputed` an ancestor of an ancestor
     ///   is missing. This never happens in a store that was built only with `ComputeNow`.
-    /// - `Refused`: an allocation failed.
+    /// - `Other`: an allocation failed.
     ///
     /// After an error the store is dropped.
     pub fn remove_entities(
@@ -263,8 +263,8 @@ impl Entities {
         &mut self,
         entities: impl IntoIterator<Item = impl Borrow<Entity>>,
         mode: TCComputation,
-    ) -> Result<(), Refusal> {
-        self.changed(Change::Add, entities, mode)
+    ) -> Result<(), Error> {
+        self.edit(Change::Add, entities, mode)
     }
 
     /// Overwrites entities in place, as [`Entities::upsert_entities`] does.
@@ -281,8 +281,8 @@ impl Entities {
         &mut self,
         entities: impl IntoIterator<Item = impl Borrow<Entity>>,
         mode: TCComputation,
-    ) -> Result<(), Refusal> {
-        self.changed(Change::Upsert, entities, mode)
+    ) -> Result<(), Error> {
+        self.edit(Change::Upsert, entities, mode)
     }
 
     /// Removes entities in place, as [`Entities::remove_entities`] does.
@@ -299,14 +299,14 @@ impl Entities {
         &mut self,
         uids: impl IntoIterator<Item = U>,
         mode: TCComputation,
-    ) -> Result<(), Refusal> {
-        let status = self.held.remove(&Lists::of_texts(uids), mode as u32);
-        self.judged(status)
+    ) -> Result<(), Error> {
+        let status = self.handle.remove(&Lists::of_texts(uids), mode as u32);
+        self.check_status(status)
     }
 
     /// Returns the number of entities.
     pub fn len(&self) -> usize {
-        self.held.len()
+        self.handle.len()
     }
 
     /// Returns whether the store has no entities.
@@ -320,10 +320,10 @@ impl Entities {
     ///
     /// - `NotAUid`: the text is not a uid.
     /// - `Memory`: an allocation failed.
-    pub fn contains(&self, uid: impl AsRef<str>) -> Result<bool, Refusal> {
-        let (status, answer) = self.held.has(uid.as_ref());
-        self.judged(status)?;
-        Ok(answer)
+    pub fn contains(&self, uid: impl AsRef<str>) -> Result<bool, Error> {
+        let (status, value) = self.handle.has(uid.as_ref());
+        self.check_status(status)?;
+        Ok(value)
     }
 
     /// Looks up the entity with this uid. Calls the library once.
@@ -343,9 +343,9 @@ impl Entities {
     /// assert!(matches!(store.partial().entity(&b), Dereference::Residual(_)));
     /// ```
     pub fn entity(&self, uid: &EntityUID) -> Dereference<StoredEntity<'_>> {
-        let (status, found) = self.held.entity(uid.as_str());
-        self.judged(status).expect(MEMORY);
-        match found {
+        let (status, kind) = self.handle.entity(uid.as_str());
+        self.check_status(status).expect(MEMORY);
+        match kind {
             0 => Dereference::NoSuchEntity,
             1 => Dereference::Residual(unknown_of(uid)),
             _ => Dereference::Data(StoredEntity::of(self, uid.clone())),
@@ -364,13 +364,13 @@ impl Entities {
     /// Returns the store as a partial one, in which an entity that is absent is unknown. A copy of a partial store is
     /// partial; a slice is not.
     pub fn partial(mut self) -> Entities {
-        self.held.partial();
+        self.handle.partial();
         self
     }
 
     /// Returns whether the store is partial.
     pub fn is_partial(&self) -> bool {
-        self.held.is_partial()
+        self.handle.is_partial()
     }
 
     /// Returns whether an entity is a descendant of a uid: whether it reaches the uid over any number of parents. Calls
@@ -385,9 +385,9 @@ impl Entities {
         &self,
         child: impl AsRef<str>,
         ancestor: impl AsRef<str>,
-    ) -> Result<bool, Refusal> {
-        self.answered(
-            self.held
+    ) -> Result<bool, Error> {
+        self.value_if_ok(
+            self.handle
                 .is_descendant_of(child.as_ref(), ancestor.as_ref()),
         )
     }
@@ -401,8 +401,8 @@ impl Entities {
         &self,
         child: impl AsRef<str>,
         parent: impl AsRef<str>,
-    ) -> Result<bool, Refusal> {
-        self.answered(self.held.is_child_of(child.as_ref(), parent.as_ref()))
+    ) -> Result<bool, Error> {
+        self.value_if_ok(self.handle.is_child_of(child.as_ref(), parent.as_ref()))
     }
 
     /// Returns whether a uid is an indirect ancestor of an entity. In a store that was built only with `ComputeNow`,
@@ -415,29 +415,29 @@ impl Entities {
         &self,
         child: impl AsRef<str>,
         ancestor: impl AsRef<str>,
-    ) -> Result<bool, Refusal> {
-        self.answered(
-            self.held
+    ) -> Result<bool, Error> {
+        self.value_if_ok(
+            self.handle
                 .is_indirect_descendant_of(child.as_ref(), ancestor.as_ref()),
         )
     }
 
     // Returns the output of a call, if its status is 0.
-    pub(crate) fn answered<T>(&self, (status, answer): (u32, T)) -> Result<T, Refusal> {
-        self.judged(status)?;
-        Ok(answer)
+    pub(crate) fn value_if_ok<T>(&self, (status, value): (u32, T)) -> Result<T, Error> {
+        self.check_status(status)?;
+        Ok(value)
     }
 
-    // Returns the texts of the last answer, as uids.
-    fn named(&self, status: u32) -> Result<Vec<EntityUID>, Refusal> {
-        self.judged(status)?;
-        Ok(self.held.answer(EntityUID::written))
+    // Returns the texts of the last result, as uids.
+    fn result_uids(&self, status: u32) -> Result<Vec<EntityUID>, Error> {
+        self.check_status(status)?;
+        Ok(self.handle.map_results(EntityUID::from_valid_text))
     }
 
-    // Returns the texts of the last answer.
-    fn told(&self, status: u32) -> Result<Vec<String>, Refusal> {
-        self.judged(status)?;
-        Ok(self.held.answer(str::to_owned))
+    // Returns the texts of the last result.
+    fn result_texts(&self, status: u32) -> Result<Vec<String>, Error> {
+        self.check_status(status)?;
+        Ok(self.handle.map_results(str::to_owned))
     }
 
     /// Returns the ancestors of an entity, in ascending order of uid.
@@ -445,8 +445,8 @@ impl Entities {
     /// # Errors
     ///
     /// The errors of [`Entities::is_descendant_of`].
-    pub fn ancestors(&self, uid: impl AsRef<str>) -> Result<Vec<EntityUID>, Refusal> {
-        self.named(self.held.ancestors(uid.as_ref()))
+    pub fn ancestors(&self, uid: impl AsRef<str>) -> Result<Vec<EntityUID>, Error> {
+        self.result_uids(self.handle.ancestors(uid.as_ref()))
     }
 
     /// Returns the parents of an entity, in ascending order of uid.
@@ -454,8 +454,8 @@ impl Entities {
     /// # Errors
     ///
     /// The errors of [`Entities::is_descendant_of`].
-    pub fn parents(&self, uid: impl AsRef<str>) -> Result<Vec<EntityUID>, Refusal> {
-        self.named(self.held.parents(uid.as_ref()))
+    pub fn parents(&self, uid: impl AsRef<str>) -> Result<Vec<EntityUID>, Error> {
+        self.result_uids(self.handle.parents(uid.as_ref()))
     }
 
     /// Returns the indirect ancestors of an entity, in ascending order of uid. In a store that was built only with
@@ -464,8 +464,8 @@ impl Entities {
     /// # Errors
     ///
     /// The errors of [`Entities::is_descendant_of`].
-    pub fn indirect_ancestors(&self, uid: impl AsRef<str>) -> Result<Vec<EntityUID>, Refusal> {
-        self.named(self.held.indirect_ancestors(uid.as_ref()))
+    pub fn indirect_ancestors(&self, uid: impl AsRef<str>) -> Result<Vec<EntityUID>, Error> {
+        self.result_uids(self.handle.indirect_ancestors(uid.as_ref()))
     }
 
     /// Returns the uids of all entities, each once. Their order depends on the key of the store.
@@ -473,8 +473,8 @@ impl Entities {
     /// # Errors
     ///
     /// - `Memory`: an allocation failed.
-    pub fn uids(&self) -> Result<Vec<EntityUID>, Refusal> {
-        self.named(self.held.uids())
+    pub fn uids(&self) -> Result<Vec<EntityUID>, Error> {
+        self.result_uids(self.handle.uids())
     }
 
     /// Iterates over the entities, each once. Their order depends on the key of the store.
@@ -491,8 +491,8 @@ impl Entities {
     /// # Errors
     ///
     /// The errors of [`Entities::is_descendant_of`].
-    pub fn keys(&self, uid: impl AsRef<str>) -> Result<Vec<String>, Refusal> {
-        self.told(self.held.keys(uid.as_ref()))
+    pub fn keys(&self, uid: impl AsRef<str>) -> Result<Vec<String>, Error> {
+        self.result_texts(self.handle.keys(uid.as_ref()))
     }
 
     /// Returns the keys of the tags of an entity, in byte order.
@@ -500,8 +500,8 @@ impl Entities {
     /// # Errors
     ///
     /// The errors of [`Entities::is_descendant_of`].
-    pub fn tag_keys(&self, uid: impl AsRef<str>) -> Result<Vec<String>, Refusal> {
-        self.told(self.held.tag_keys(uid.as_ref()))
+    pub fn tag_keys(&self, uid: impl AsRef<str>) -> Result<Vec<String>, Error> {
+        self.result_texts(self.handle.tag_keys(uid.as_ref()))
     }
 
     /// Returns the number of attributes of an entity.
@@ -509,8 +509,8 @@ impl Entities {
     /// # Errors
     ///
     /// The errors of [`Entities::is_descendant_of`].
-    pub fn attrs_len(&self, uid: impl AsRef<str>) -> Result<usize, Refusal> {
-        self.answered(self.held.attrs_len(uid.as_ref()))
+    pub fn attrs_len(&self, uid: impl AsRef<str>) -> Result<usize, Error> {
+        self.value_if_ok(self.handle.attrs_len(uid.as_ref()))
     }
 
     /// Returns the number of tags of an entity.
@@ -518,16 +518,16 @@ impl Entities {
     /// # Errors
     ///
     /// The errors of [`Entities::is_descendant_of`].
-    pub fn tags_len(&self, uid: impl AsRef<str>) -> Result<usize, Refusal> {
-        self.answered(self.held.tags_len(uid.as_ref()))
+    pub fn tags_len(&self, uid: impl AsRef<str>) -> Result<usize, Error> {
+        self.value_if_ok(self.handle.tags_len(uid.as_ref()))
     }
 
     // Returns the last value of the library, if the call found one.
-    fn valued(&self, given: (u32, bool)) -> Result<Option<PartialValue>, Refusal> {
-        if !self.answered(given)? {
+    fn result_value(&self, call_result: (u32, bool)) -> Result<Option<PartialValue>, Error> {
+        if !self.value_if_ok(call_result)? {
             return Ok(None);
         }
-        let value = nodes::read(&self.held.answer_text(), &self.held.nodes());
+        let value = nodes::read(&self.handle.result_text(), &self.handle.nodes());
         Ok(Some(value.expect("the library returns a value")))
     }
 
@@ -547,8 +547,8 @@ impl Entities {
     /// assert_eq!(store.get(&a, "k").unwrap().unwrap().to_string(), r#"["x"]"#);
     /// assert!(store.get(&a, "j").unwrap().is_none());
     /// ```
-    pub fn get(&self, uid: impl AsRef<str>, key: &str) -> Result<Option<PartialValue>, Refusal> {
-        self.valued(self.held.get(uid.as_ref(), key))
+    pub fn get(&self, uid: impl AsRef<str>, key: &str) -> Result<Option<PartialValue>, Error> {
+        self.result_value(self.handle.get(uid.as_ref(), key))
     }
 
     /// Returns the tag of an entity with this key, if it has one. Otherwise works like [`Entities::get`].
@@ -556,16 +556,12 @@ impl Entities {
     /// # Errors
     ///
     /// The errors of [`Entities::is_descendant_of`].
-    pub fn get_tag(
-        &self,
-        uid: impl AsRef<str>,
-        key: &str,
-    ) -> Result<Option<PartialValue>, Refusal> {
-        self.valued(self.held.get_tag(uid.as_ref(), key))
+    pub fn get_tag(&self, uid: impl AsRef<str>, key: &str) -> Result<Option<PartialValue>, Error> {
+        self.result_value(self.handle.get_tag(uid.as_ref(), key))
     }
 
     // Reads a whole entity. Each listed key has a value.
-    pub(crate) fn whole(&self, uid: EntityUID) -> Result<Entity, Refusal> {
+    pub(crate) fn read_entity(&self, uid: EntityUID) -> Result<Entity, Error> {
         let (mut attrs, mut tags) = (Vec::new(), Vec::new());
         for key in self.keys(&uid)? {
             let value = self.get(&uid, &key)?;
@@ -576,10 +572,10 @@ impl Entities {
             tags.extend(value.map(|value| (key, value)));
         }
         let all = |uids: Vec<EntityUID>| HashSet::from_iter(uids);
-        let above = all(self.indirect_ancestors(&uid)?);
+        let indirect = all(self.indirect_ancestors(&uid)?);
         let parents = all(self.parents(&uid)?);
         Ok(Entity::new_with_attr_partial_value(
-            uid, attrs, above, parents, tags,
+            uid, attrs, indirect, parents, tags,
         ))
     }
 
@@ -591,15 +587,15 @@ impl Entities {
     /// - `NotAUid`: the text is not a uid.
     /// - `NoEntity`: one of the stores has no entity with this uid.
     /// - `Memory`: an allocation failed.
-    pub fn entity_equal(&self, uid: impl AsRef<str>, other: &Entities) -> Result<bool, Refusal> {
-        self.answered(self.held.has_equal(uid.as_ref(), &other.held))
+    pub fn entity_equal(&self, uid: impl AsRef<str>, other: &Entities) -> Result<bool, Error> {
+        self.value_if_ok(self.handle.has_equal(uid.as_ref(), &other.handle))
     }
 
     // Returns the text of the store, in parts. The call for the text of the whole store scans all entities for each
     // entity, so it is used only for small stores.
-    fn texts(&self) -> Result<Vec<String>, Refusal> {
-        if self.len() <= FEW {
-            return self.told(self.held.text());
+    fn texts(&self) -> Result<Vec<String>, Error> {
+        if self.len() <= MAX_ONE_CALL {
+            return self.result_texts(self.handle.text());
         }
         let mut uids = self.uids()?;
         uids.sort();
@@ -609,9 +605,9 @@ impl Entities {
     }
 
     // Returns the text of the entity with this uid.
-    pub(crate) fn text_of(&self, uid: &EntityUID) -> Result<String, Refusal> {
-        self.judged(self.held.entity_text(uid.as_str()))?;
-        Ok(self.held.answer_text())
+    pub(crate) fn text_of(&self, uid: &EntityUID) -> Result<String, Error> {
+        self.check_status(self.handle.entity_text(uid.as_str()))?;
+        Ok(self.handle.result_text())
     }
 
     /// Checks whether the store is valid. Does not change the store.
@@ -627,8 +623,8 @@ impl Entities {
     /// `SelfAncestor`, `DuplicateAncestor`, `ActionParentIsNotAction` or `ReservedKey`; see [`Entity::validate`].
     ///
     /// The call returns `Memory` if an allocation failed.
-    pub fn validate(&self) -> Result<(), Refusal> {
-        self.judged(self.held.validate())
+    pub fn validate(&self) -> Result<(), Error> {
+        self.check_status(self.handle.validate())
     }
 
     /// Returns the store itself if it is valid.
@@ -638,7 +634,7 @@ impl Entities {
     /// The fault that [`Entities::validate`] reports. A fault of the ancestors is a `TransitiveClosureError`. After an
     /// error the store is dropped.
     ///
-    /// - `Refused`: an allocation failed.
+    /// - `Other`: an allocation failed.
     ///
     /// ```
     /// use cedar_store_proved::ast::{Entity, EntityUID};
@@ -663,8 +659,8 @@ impl Entities {
     pub fn slice<U: AsRef<str>>(
         &self,
         uids: impl IntoIterator<Item = U>,
-    ) -> Result<Entities, Refusal> {
-        Entities::of(self.held.slice(&Lists::of_texts(uids)))
+    ) -> Result<Entities, Error> {
+        Entities::of(self.handle.slice(&Lists::of_texts(uids)))
     }
 
     /// Returns a slice of the store at these uids, as [`Entities::slice`] does. The slice shares nothing with the
@@ -677,8 +673,8 @@ impl Entities {
     pub fn slice_deep_copy<U: AsRef<str>>(
         &self,
         uids: impl IntoIterator<Item = U>,
-    ) -> Result<EntitiesDeepCopy, Refusal> {
-        Entities::apart(self.held.slice_deep_copy(&Lists::of_texts(uids)))
+    ) -> Result<EntitiesDeepCopy, Error> {
+        Entities::from_deep_copy(self.handle.slice_deep_copy(&Lists::of_texts(uids)))
     }
 
     /// Returns a deep copy of the store, which can be sent to another thread. Copies the whole content of the store.
@@ -686,14 +682,16 @@ impl Entities {
     /// # Errors
     ///
     /// - `Memory`: an allocation failed.
-    pub fn deep_copy(&self) -> Result<EntitiesDeepCopy, Refusal> {
-        Entities::apart(self.held.deep_copy())
+    pub fn deep_copy(&self) -> Result<EntitiesDeepCopy, Error> {
+        Entities::from_deep_copy(self.handle.deep_copy())
     }
 
-    fn apart(held: Result<DeepCopyHandle<Stores>, u32>) -> Result<EntitiesDeepCopy, Refusal> {
-        match held {
-            Ok(held) => Ok(EntitiesDeepCopy::of(held)),
-            Err(status) => Err(Refusal::new(status, Vec::new)),
+    fn from_deep_copy(
+        handle: Result<DeepCopyHandle<Stores>, u32>,
+    ) -> Result<EntitiesDeepCopy, Error> {
+        match handle {
+            Ok(handle) => Ok(EntitiesDeepCopy::of(handle)),
+            Err(status) => Err(Error::new(status, Vec::new)),
         }
     }
 
@@ -702,14 +700,14 @@ impl Entities {
     /// # Errors
     ///
     /// - `Memory`: an allocation failed.
-    pub fn try_clone(&self) -> Result<Entities, Refusal> {
-        Entities::of(self.held.copy())
+    pub fn try_clone(&self) -> Result<Entities, Error> {
+        Entities::of(self.handle.copy())
     }
 
     /// Returns whether both stores are partial or neither is, and both have the same uids with entities that have the
     /// same attributes, tags and ancestors. It does not matter which ancestors are parents. Does not allocate.
     pub fn deep_eq(&self, other: &Entities) -> bool {
-        self.held.is_equal(&other.held)
+        self.handle.is_equal(&other.handle)
     }
 }
 

@@ -1,7 +1,7 @@
 //! Results of lookups, and the entities of a store.
 use crate::entity::Entity;
+use crate::error::Error;
 use crate::expr::Expr;
-use crate::refusal::Refusal;
 use crate::stored::Entities;
 use crate::uid::EntityUID;
 use std::cell::OnceCell;
@@ -29,7 +29,7 @@ impl<T> Dereference<T> {
     /// Returns the item that was found, if there is one.
     pub fn data(self) -> Option<T> {
         match self {
-            Dereference::Data(found) => Some(found),
+            Dereference::Data(data) => Some(data),
             _ => None,
         }
     }
@@ -42,7 +42,7 @@ impl<T> Dereference<T> {
     #[track_caller]
     pub fn unwrap(self) -> T {
         match self {
-            Dereference::Data(found) => found,
+            Dereference::Data(data) => data,
             Dereference::NoSuchEntity => panic!("unwrap() called on NoSuchEntity"),
             Dereference::Residual(expr) => panic!("unwrap() called on Residual({expr:?})"),
         }
@@ -56,7 +56,7 @@ impl<T> Dereference<T> {
     #[track_caller]
     pub fn expect(self, msg: &str) -> T {
         match self {
-            Dereference::Data(found) => found,
+            Dereference::Data(data) => data,
             Dereference::NoSuchEntity => panic!("expect() called on NoSuchEntity, msg: {msg}"),
             Dereference::Residual(expr) => {
                 panic!("expect() called on Residual({expr:?}), msg: {msg}")
@@ -88,18 +88,18 @@ impl<T> Dereference<T> {
 pub struct StoredEntity<'a> {
     store: &'a Entities,
     uid: EntityUID,
-    whole: OnceCell<Entity>,
+    entity: OnceCell<Entity>,
 }
 
-fn answered<T>(given: Result<T, Refusal>) -> T {
-    given.expect(MEMORY)
+fn expect_allocated<T>(result: Result<T, Error>) -> T {
+    result.expect(MEMORY)
 }
 
 impl<'a> StoredEntity<'a> {
     /// Creates a reference to the entity of a store with this uid.
     pub(crate) fn of(store: &'a Entities, uid: EntityUID) -> StoredEntity<'a> {
-        let whole = OnceCell::new();
-        StoredEntity { store, uid, whole }
+        let entity = OnceCell::new();
+        StoredEntity { store, uid, entity }
     }
 
     /// Returns the uid. Does not call the library.
@@ -110,35 +110,35 @@ impl<'a> StoredEntity<'a> {
     /// Returns whether the entity is a descendant of a uid: whether it reaches the uid over any number of parents.
     /// Calls the library once.
     pub fn is_descendant_of(&self, other: &EntityUID) -> bool {
-        answered(self.store.is_descendant_of(&self.uid, other))
+        expect_allocated(self.store.is_descendant_of(&self.uid, other))
     }
 
     /// Returns whether a uid is a parent of the entity. Calls the library once.
     pub fn is_child_of(&self, other: &EntityUID) -> bool {
-        answered(self.store.is_child_of(&self.uid, other))
+        expect_allocated(self.store.is_child_of(&self.uid, other))
     }
 
     /// Returns whether a uid is an indirect ancestor of the entity. In a store that was built only with `ComputeNow`,
     /// these are the ancestors that are not parents. Calls the library once.
     pub fn is_indirect_descendant_of(&self, other: &EntityUID) -> bool {
-        answered(self.store.is_indirect_descendant_of(&self.uid, other))
+        expect_allocated(self.store.is_indirect_descendant_of(&self.uid, other))
     }
 
     /// Returns the number of attributes. Calls the library once.
     pub fn attrs_len(&self) -> usize {
-        answered(self.store.attrs_len(&self.uid))
+        expect_allocated(self.store.attrs_len(&self.uid))
     }
 
     /// Returns the number of tags. Calls the library once.
     pub fn tags_len(&self) -> usize {
-        answered(self.store.tags_len(&self.uid))
+        expect_allocated(self.store.tags_len(&self.uid))
     }
 
     /// Returns a copy of the whole entity, which can be added to a store.
     pub fn into_entity(self) -> Entity {
-        match self.whole.into_inner() {
+        match self.entity.into_inner() {
             Some(entity) => entity,
-            None => answered(self.store.whole(self.uid)),
+            None => expect_allocated(self.store.read_entity(self.uid)),
         }
     }
 }
@@ -148,8 +148,8 @@ impl Deref for StoredEntity<'_> {
 
     /// Returns the whole entity. Reads it on the first call.
     fn deref(&self) -> &Entity {
-        self.whole
-            .get_or_init(|| answered(self.store.whole(self.uid.clone())))
+        self.entity
+            .get_or_init(|| expect_allocated(self.store.read_entity(self.uid.clone())))
     }
 }
 
@@ -197,7 +197,7 @@ pub struct Iter<'a> {
 
 impl<'a> Iter<'a> {
     pub(crate) fn of(store: &'a Entities) -> Iter<'a> {
-        let uids = answered(store.uids()).into_iter();
+        let uids = expect_allocated(store.uids()).into_iter();
         Iter { store, uids }
     }
 }
@@ -226,7 +226,7 @@ pub struct IntoIter {
 
 impl IntoIter {
     pub(crate) fn of(store: Entities) -> IntoIter {
-        let uids = answered(store.uids()).into_iter();
+        let uids = expect_allocated(store.uids()).into_iter();
         IntoIter { store, uids }
     }
 }
@@ -236,7 +236,7 @@ impl Iterator for IntoIter {
 
     fn next(&mut self) -> Option<Entity> {
         let uid = self.uids.next()?;
-        Some(answered(self.store.whole(uid)))
+        Some(expect_allocated(self.store.read_entity(uid)))
     }
 
     fn size_hint(&self) -> (usize, Option<usize>) {

@@ -15,7 +15,7 @@ use std::slice;
 use std::sync::Arc;
 
 // Defines the methods of templates and static policies that forward to the body.
-macro_rules! tells_of_its_body {
+macro_rules! delegate_to_body {
     ($kind:ident) => {
         impl $kind {
             /// Returns the id.
@@ -123,7 +123,7 @@ pub struct Template {
     slots: Vec<Slot>,
 }
 
-tells_of_its_body!(Template);
+delegate_to_body!(Template);
 
 impl Template {
     /// Creates a template from its parts.
@@ -283,9 +283,9 @@ impl Template {
     ///
     /// - `ArityError`: the template has slots. The error contains each occurrence of a slot.
     pub fn try_as_policy(template: Arc<Template>) -> Result<Policy, LinkingError> {
-        let nothing = SlotEnv::new();
-        Template::check_binding(&template, &nothing)?;
-        Ok(Policy::of(template, None, nothing))
+        let no_bindings = SlotEnv::new();
+        Template::check_binding(&template, &no_bindings)?;
+        Ok(Policy::of(template, None, no_bindings))
     }
 
     /// Returns the template of a static policy, and the policy of this template. Both have the id of the static policy.
@@ -389,15 +389,15 @@ impl<'a> Iterator for Slots<'a> {
 ///     )
 /// };
 /// assert_eq!(any(None).unwrap().to_string(), "forbid(\n  principal,\n  action,\n  resource\n);");
-/// let refusal = any(Some(Expr::slot(SlotId::resource()))).unwrap_err();
-/// assert_eq!(refusal.to_string(), "found slot `?resource` where slots are not allowed");
+/// let error = any(Some(Expr::slot(SlotId::resource()))).unwrap_err();
+/// assert_eq!(error.to_string(), "found slot `?resource` where slots are not allowed");
 /// ```
 #[derive(Clone, Debug)]
 pub struct StaticPolicy {
     body: TemplateBody,
 }
 
-tells_of_its_body!(StaticPolicy);
+delegate_to_body!(StaticPolicy);
 
 impl StaticPolicy {
     /// Creates a static policy from its parts.

@@ -1,8 +1,8 @@
 //! Uids of entities, their types and their ids.
+use crate::error::Error;
 use crate::errors::ParseErrors;
 use crate::ffi;
 use crate::name::{compare_names, escaped, Loc, Name};
-use crate::refusal::Refusal;
 use std::borrow::Borrow;
 use std::cmp::Ordering;
 use std::fmt;
@@ -33,7 +33,7 @@ impl EntityType {
     /// # Errors
     ///
     /// - `InvalidName`: the text is not a name.
-    /// - `Refused`: an allocation failed.
+    /// - `Other`: an allocation failed.
     pub fn from_normalized_str(text: &str) -> Result<EntityType, ParseErrors> {
         Name::from_normalized_str(text).map(EntityType::EntityType)
     }
@@ -96,23 +96,26 @@ impl Eid {
 
 // The data of a uid other than its text. It is behind a trait because its lazy parse does not affect the uid. Otherwise
 // lints would report a uid as a map key with interior mutability.
-trait Known: Send + Sync {
+trait UidData: Send + Sync {
     // Returns the type and the id of the text. The first call parses the text with one call of the library.
     fn parts(&self, text: &str) -> &(EntityType, Eid);
     fn loc(&self) -> Option<&Loc>;
 }
 
 #[derive(Default)]
-struct Parts {
+struct ParsedUid {
     parts: OnceLock<(EntityType, Eid)>,
     loc: Option<Box<Loc>>,
 }
 
-impl Known for Parts {
+impl UidData for ParsedUid {
     fn parts(&self, text: &str) -> &(EntityType, Eid) {
         self.parts.get_or_init(|| {
             let (ty, id) = ffi::uid_parts(text).expect("cannot allocate an id");
-            (EntityType::EntityType(Name::written(&ty)), Eid::Eid(id))
+            (
+                EntityType::EntityType(Name::from_valid_text(&ty)),
+                Eid::Eid(id),
+            )
         })
     }
 
@@ -139,19 +142,19 @@ impl Known for Parts {
 #[derive(Clone)]
 pub struct EntityUID {
     text: Arc<str>,
-    known: Arc<dyn Known>,
+    data: Arc<dyn UidData>,
 }
 
 impl EntityUID {
     /// Creates a uid from a text that the library wrote or accepted as a uid.
-    pub(crate) fn written(text: &str) -> EntityUID {
-        EntityUID::of(text, Parts::default())
+    pub(crate) fn from_valid_text(text: &str) -> EntityUID {
+        EntityUID::of(text, ParsedUid::default())
     }
 
-    fn of(text: &str, known: Parts) -> EntityUID {
+    fn of(text: &str, data: ParsedUid) -> EntityUID {
         EntityUID {
             text: text.into(),
-            known: Arc::new(known),
+            data: Arc::new(data),
         }
     }
 
@@ -161,12 +164,12 @@ impl EntityUID {
     ///
     /// - `InvalidName`: the part before the first `::"` is not a name.
     /// - `NotNormalized`: the text is not a uid for another reason.
-    /// - `Refused`: an allocation failed.
+    /// - `Other`: an allocation failed.
     pub fn from_normalized_str(text: &str) -> Result<EntityUID, ParseErrors> {
         match ffi::check_uid(text) {
-            0 => Ok(EntityUID::written(text)),
+            0 => Ok(EntityUID::from_valid_text(text)),
             4 => Err(ParseErrors::of_uid(text)),
-            status => Err(ParseErrors::Refused(Refusal::new(status, Vec::new))),
+            status => Err(ParseErrors::Other(Error::new(status, Vec::new))),
         }
     }
 
@@ -177,11 +180,11 @@ impl EntityUID {
     /// Panics if an allocation fails.
     pub fn from_components(ty: EntityType, eid: Eid, loc: Option<Loc>) -> EntityUID {
         let text = ffi::make_uid(ty.name().as_str(), eid.as_ref()).expect("cannot allocate a uid");
-        let known = Parts {
+        let data = ParsedUid {
             parts: OnceLock::from((ty, eid)),
             loc: loc.map(Box::new),
         };
-        EntityUID::of(&text, known)
+        EntityUID::of(&text, data)
     }
 
     /// Creates a uid from a type and an id. The id can be any text, and is not escaped. Calls the library once.
@@ -189,12 +192,12 @@ impl EntityUID {
     /// # Errors
     ///
     /// - `InvalidName`: the type is not a name.
-    /// - `Refused`: an allocation failed.
+    /// - `Other`: an allocation failed.
     pub fn with_eid_and_type(typename: &str, eid: &str) -> Result<EntityUID, ParseErrors> {
         match ffi::make_uid(typename, eid) {
-            Ok(text) => Ok(EntityUID::written(&text)),
+            Ok(text) => Ok(EntityUID::from_valid_text(&text)),
             Err(27) => Err(ParseErrors::InvalidName),
-            Err(status) => Err(ParseErrors::Refused(Refusal::new(status, Vec::new))),
+            Err(status) => Err(ParseErrors::Other(Error::new(status, Vec::new))),
         }
     }
 
@@ -204,7 +207,7 @@ impl EntityUID {
     ///
     /// Panics if an allocation fails.
     pub fn entity_type(&self) -> &EntityType {
-        &self.known.parts(&self.text).0
+        &self.data.parts(&self.text).0
     }
 
     /// Returns the id. The first call of this function or of [`EntityUID::entity_type`] calls the library once.
@@ -213,7 +216,7 @@ impl EntityUID {
     ///
     /// Panics if an allocation fails.
     pub fn eid(&self) -> &Eid {
-        &self.known.parts(&self.text).1
+        &self.data.parts(&self.text).1
     }
 
     /// Returns the type and the id.
@@ -222,12 +225,12 @@ impl EntityUID {
     ///
     /// Panics if an allocation fails.
     pub fn components(self) -> (EntityType, Eid) {
-        self.known.parts(&self.text).clone()
+        self.data.parts(&self.text).clone()
     }
 
     /// Returns the location in a source text, if it is known.
     pub fn loc(&self) -> Option<&Loc> {
-        self.known.loc()
+        self.data.loc()
     }
 
     // Returns the text of the type, and the text between the quotes.

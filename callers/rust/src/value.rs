@@ -2,7 +2,7 @@
 use crate::expr::Expr;
 use crate::name::{escaped, Loc, Name};
 use crate::uid::EntityUID;
-use crate::value_walk::{compare, feed, show};
+use crate::value_walk::{compare, feed, write_value};
 use std::cmp::Ordering;
 use std::collections::BTreeMap;
 use std::fmt;
@@ -161,7 +161,7 @@ impl Hash for Value {
 
 impl fmt::Display for Value {
     fn fmt(&self, f: &mut fmt::Formatter<'_>) -> fmt::Result {
-        show(&self.value, f)
+        write_value(&self.value, f)
     }
 }
 

@@ -81,8 +81,8 @@ pub(crate) fn compare(one: &ValueKind, other: &ValueKind) -> Ordering {
     while let (Ordering::Equal, Some(pair)) = (decided, pending.last_mut()) {
         match pair.next() {
             Step::Values(one, other) => decided = begin(&one.value, &other.value, &mut pending),
-            Step::Decided(as_told) => {
-                decided = as_told;
+            Step::Decided(ordering) => {
+                decided = ordering;
                 pending.pop();
             }
         }
@@ -143,7 +143,7 @@ fn push_elements<'a>(kind: &'a ValueKind, pending: &mut Vec<Piece<'a>>) {
 }
 
 /// Writes a value.
-pub(crate) fn show(kind: &ValueKind, f: &mut fmt::Formatter<'_>) -> fmt::Result {
+pub(crate) fn write_value(kind: &ValueKind, f: &mut fmt::Formatter<'_>) -> fmt::Result {
     let mut pending = vec![Piece::Kind(kind)];
     while let Some(piece) = pending.pop() {
         match piece {

@@ -1,23 +1,23 @@
 //! Tests of bodies of policies: each kind of constraint, annotations and clauses are passed to the library, read back
 //! and written. Also tests of the errors. The cases are chosen by hand or at random.
-mod drawn;
+mod random;
 mod short;
 use cedar_store_proved::ast::*;
 use cedar_store_proved::{Bound, Reason, Slots};
-use short::{id, read, refused};
+use short::{assert_error, id, parse_uid};
 use std::collections::hash_map::DefaultHasher;
 use std::collections::HashSet;
 use std::hash::{Hash, Hasher};
 use std::sync::Arc;
 
-type Asked = PrincipalOrResourceConstraint;
+type Constraint = PrincipalOrResourceConstraint;
 
 // Returns a template with these constraints.
-fn asking(
+fn template_with(
     name: &str,
-    principal: Asked,
+    principal: Constraint,
     action: ActionConstraint,
-    resource: Asked,
+    resource: Constraint,
     clause: Option<Expr>,
 ) -> Template {
     Template::new(
@@ -33,35 +33,38 @@ fn asking(
 }
 
 fn with_clause(name: &str, clause: Option<Expr>) -> Template {
-    asking(
+    template_with(
         name,
-        Asked::any(),
+        Constraint::any(),
         ActionConstraint::any(),
-        Asked::any(),
+        Constraint::any(),
         clause,
     )
 }
 
-fn all_asked() -> [(Asked, &'static str); 8] {
-    let uid = || Arc::new(read("A::\"it\\'s\""));
+fn all_constraints() -> [(Constraint, &'static str); 8] {
+    let uid = || Arc::new(parse_uid("A::\"it\\'s\""));
     let ty = || Arc::new(EntityType::from_normalized_str("B::C").unwrap());
     [
-        (Asked::any(), ""),
-        (Asked::is_eq(uid()), " == A::\"it\\'s\""),
-        (Asked::is_eq_slot(), " == ?"),
-        (Asked::is_in(uid()), " in A::\"it\\'s\""),
-        (Asked::is_in_slot(), " in ?"),
-        (Asked::is_entity_type(ty()), " is B::C"),
+        (Constraint::any(), ""),
+        (Constraint::is_eq(uid()), " == A::\"it\\'s\""),
+        (Constraint::is_eq_slot(), " == ?"),
+        (Constraint::is_in(uid()), " in A::\"it\\'s\""),
+        (Constraint::is_in_slot(), " in ?"),
+        (Constraint::is_entity_type(ty()), " is B::C"),
         (
-            Asked::is_entity_type_in(ty(), uid()),
+            Constraint::is_entity_type_in(ty(), uid()),
             " is B::C in A::\"it\\'s\"",
         ),
-        (Asked::is_entity_type_in_slot(ty()), " is B::C in ?"),
+        (Constraint::is_entity_type_in_slot(ty()), " is B::C in ?"),
     ]
 }
 
-fn all_asked_of_actions() -> [(ActionConstraint, &'static str); 7] {
-    let (go, stop) = (read("Action::\"go\""), read("N::Action::\"stop\""));
+fn all_action_constraints() -> [(ActionConstraint, &'static str); 7] {
+    let (go, stop) = (
+        parse_uid("Action::\"go\""),
+        parse_uid("N::Action::\"stop\""),
+    );
     [
         (ActionConstraint::any(), ""),
         (ActionConstraint::is_eq(go.clone()), " == Action::\"go\""),
@@ -86,11 +89,11 @@ fn set_of(body: &Template) -> PolicySet {
 }
 
 // Asserts that the set returns this body under its id, as a whole and in each of its parts.
-fn is_held(set: &PolicySet, body: &Template) {
-    let held = set.get_template(body.id()).expect("a body");
-    assert_eq!(held, body);
-    assert_eq!(held.to_string(), body.to_string());
-    assert_eq!(format!("{held:?}"), format!("{body:?}"));
+fn assert_stored(set: &PolicySet, body: &Template) {
+    let stored = set.get_template(body.id()).expect("a body");
+    assert_eq!(stored, body);
+    assert_eq!(stored.to_string(), body.to_string());
+    assert_eq!(format!("{stored:?}"), format!("{body:?}"));
     let name = body.id();
     assert_eq!(set.template_text(name).unwrap(), body.to_string());
     assert_eq!(
@@ -114,42 +117,42 @@ fn is_held(set: &PolicySet, body: &Template) {
     let annotations = set.annotations(name).unwrap().into_iter();
     assert!(annotations.eq(body
         .annotations()
-        .map(|(key, one)| (key.to_string(), one.val.clone()))));
+        .map(|(key, annotation)| (key.to_string(), annotation.val.clone()))));
     for (key, annotation) in body.annotations() {
-        let told = set.annotation(name, key.as_ref()).unwrap();
-        assert_eq!(told.as_ref(), Some(&annotation.val));
+        let value = set.annotation(name, key.as_ref()).unwrap();
+        assert_eq!(value.as_ref(), Some(&annotation.val));
     }
-    let has = |slot| body.slots().any(|one| one.id == slot);
+    let has = |slot| body.slots().any(|used| used.id == slot);
     let slots = Slots {
         principal: has(SlotId::principal()),
         action: has(SlotId::action()),
         resource: has(SlotId::resource()),
     };
     assert_eq!(set.slots(name).unwrap(), slots);
-    assert!(held.slots().eq(body.slots()));
-    assert!(held.slots().eq(&body.condition().slots()));
+    assert!(stored.slots().eq(body.slots()));
+    assert!(stored.slots().eq(&body.condition().slots()));
 }
 
 #[test]
-fn each_kind_of_a_constraint_crosses() {
-    for (principal, of_principal) in all_asked() {
-        for (action, of_action) in all_asked_of_actions() {
-            for (resource, of_resource) in all_asked() {
-                let body = asking("t", principal.clone(), action.clone(), resource, None);
-                let own = |text: &str, slot| text.replace('?', slot);
+fn each_kind_of_constraint_is_returned_unchanged() {
+    for (principal, principal_text) in all_constraints() {
+        for (action, action_text) in all_action_constraints() {
+            for (resource, resource_text) in all_constraints() {
+                let body = template_with("t", principal.clone(), action.clone(), resource, None);
+                let with_slot = |text: &str, slot| text.replace('?', slot);
                 let text = format!(
-                    "permit(\n  principal{},\n  action{of_action},\n  resource{}\n);",
-                    own(of_principal, "?principal"),
-                    own(of_resource, "?resource")
+                    "permit(\n  principal{},\n  action{action_text},\n  resource{}\n);",
+                    with_slot(principal_text, "?principal"),
+                    with_slot(resource_text, "?resource")
                 );
                 assert_eq!(body.to_string(), text);
                 let mut set = set_of(&body);
-                is_held(&set, &body);
+                assert_stored(&set, &body);
                 let policy = StaticPolicy::try_from(body.new_id(id("s")));
                 assert_eq!(policy.is_ok(), !text.contains('?'));
                 if let Ok(policy) = policy {
                     set.add_static(policy.clone()).unwrap();
-                    is_held(&set, &template_of(policy.clone()));
+                    assert_stored(&set, &template_of(policy.clone()));
                     assert_eq!(set.get(&id("s")), Some(&Policy::from(policy)));
                 }
             }
@@ -163,19 +166,19 @@ fn template_of(policy: StaticPolicy) -> Template {
 }
 
 // Asserts that a link of a set is equal to a link that is made without a set. Returns whether the body was linked.
-fn is_linked(set: &mut PolicySet, body: &Template, values: SlotEnv) -> bool {
+fn link_and_compare(set: &mut PolicySet, body: &Template, values: SlotEnv) -> bool {
     let name = id("l");
-    let due = Template::link(Arc::new(body.clone()), name.clone(), values.clone());
-    match (set.link(body.id(), &name, values), due) {
-        (Ok(link), Ok(due)) => {
-            assert_eq!(link, &due);
-            assert_eq!(link.to_string(), due.to_string());
+    let expected = Template::link(Arc::new(body.clone()), name.clone(), values.clone());
+    match (set.link(body.id(), &name, values), expected) {
+        (Ok(link), Ok(expected)) => {
+            assert_eq!(link, &expected);
+            assert_eq!(link.to_string(), expected.to_string());
         }
-        (Err(refusal), Err(due)) => {
-            assert_eq!(refusal, due);
+        (Err(error), Err(expected)) => {
+            assert_eq!(error, expected);
             return false;
         }
-        (told, due) => panic!("{told:?} and {due:?}"),
+        (actual, expected) => panic!("{actual:?} and {expected:?}"),
     }
     // read again, without a cache
     let set = set.clone();
@@ -200,96 +203,103 @@ fn is_linked(set: &mut PolicySet, body: &Template, values: SlotEnv) -> bool {
 }
 
 // Asserts that the text of a set consists of the texts of its bodies and its policies.
-fn is_written(set: &PolicySet) {
+fn assert_text(set: &PolicySet) {
     let lines = |texts: Vec<String>| texts.join("\n");
     let bodies = lines(set.all_templates().map(Template::to_string).collect());
     let policies = lines(set.policies().map(Policy::to_string).collect());
-    let due = format!("Templates:\n{bodies}, Template Linked Policies:\n{policies}");
-    assert_eq!(set.to_string(), due);
+    let expected = format!("Templates:\n{bodies}, Template Linked Policies:\n{policies}");
+    assert_eq!(set.to_string(), expected);
 }
 
 #[test]
-fn drawn_bodies_cross() {
-    let dice = &mut drawn::Dice::new(9);
-    let (mut linked, mut refused, mut statics) = (0, 0, 0);
+fn random_bodies_are_returned_unchanged() {
+    let dice = &mut random::Dice::new(9);
+    let (mut linked, mut failed, mut statics) = (0, 0, 0);
     for _ in 0..3000 {
-        let body = drawn::template(dice, &id("t"));
+        let body = random::template(dice, &id("t"));
         let mut set = set_of(&body);
-        is_held(&set, &body);
-        let values = drawn::bindings(dice, &body);
-        match is_linked(&mut set, &body, values) {
+        assert_stored(&set, &body);
+        let values = random::bindings(dice, &body);
+        match link_and_compare(&mut set, &body, values) {
             true => linked += 1,
-            false => refused += 1,
+            false => failed += 1,
         }
         // the slots without a binding are reported in a fixed order
         let unbound = &mut set_of(&body);
-        assert_eq!(is_linked(unbound, &body, SlotEnv::new()), body.is_static());
+        assert_eq!(
+            link_and_compare(unbound, &body, SlotEnv::new()),
+            body.is_static()
+        );
         if let Ok(policy) = StaticPolicy::try_from(body.new_id(id("s"))) {
             set.add(policy.clone().into()).unwrap();
             assert_eq!(set.bound("s").unwrap(), Some(Bound::Static));
             assert_eq!(set.policy_text("s").unwrap(), policy.to_string());
-            is_held(&set, &template_of(policy));
+            assert_stored(&set, &template_of(policy));
             statics += 1;
         }
         let mut other = PolicySet::new();
         other.bind_static("t", Effect::Permit).unwrap();
         let renaming = other.merge_policyset(&set, true).unwrap();
         assert_eq!(renaming.get(&id("t")), Some(&id("policy0")));
-        is_held(&other, &body.new_id(id("policy0")));
-        is_written(&set);
-        is_written(&other);
+        assert_stored(&other, &body.new_id(id("policy0")));
+        assert_text(&set);
+        assert_text(&other);
     }
     assert!(
-        linked > 800 && refused > 800 && statics > 50,
-        "{linked} {refused} {statics}"
+        linked > 800 && failed > 800 && statics > 50,
+        "{linked} {failed} {statics}"
     );
 }
 
 // Two bodies are equal exactly if the library reports sets of them as equal.
 #[test]
-fn bodies_are_equal_where_sets_of_them_are() {
-    let dice = &mut drawn::Dice::new(10);
+fn bodies_are_equal_if_sets_of_them_are() {
+    let dice = &mut random::Dice::new(10);
     let mut parts = Vec::new();
     for _ in 0..200 {
-        let asked = Asked::Eq(EntityReference::from_uid(drawn::uid(dice)));
-        let action = drawn::asked_of_action(dice);
-        let body = asking("t", drawn::asked(dice), action, asked, None);
+        let constraint = Constraint::Eq(EntityReference::from_uid(random::uid(dice)));
+        let action = random::action_constraint(dice);
+        let body = template_with("t", random::constraint(dice), action, constraint, None);
         let set = set_of(&body);
         parts.push((body, set));
     }
     let mut equal = 0;
-    for (one, set) in &parts {
-        for (other, others) in &parts {
-            assert_eq!(one == other, set == others, "{one} and {other}");
-            equal += usize::from(one == other);
+    for (first, first_set) in &parts {
+        for (second, second_set) in &parts {
+            assert_eq!(
+                first == second,
+                first_set == second_set,
+                "{first} and {second}"
+            );
+            equal += usize::from(first == second);
         }
     }
     assert!(equal > 200, "{equal}");
     let hashed: HashSet<&Template> = parts.iter().map(|(body, _)| body).collect();
-    let told_apart: HashSet<String> = parts.iter().map(|(body, _)| body.to_string()).collect();
-    assert_eq!(hashed.len(), told_apart.len());
+    let distinct_texts: HashSet<String> = parts.iter().map(|(body, _)| body.to_string()).collect();
+    assert_eq!(hashed.len(), distinct_texts.len());
 }
 
 // Returns an expression with this number of levels.
 fn levels(count: usize) -> Expr {
-    (1..count).fold(Expr::val(true), |below, _| Expr::not(below))
+    (1..count).fold(Expr::val(true), |operand, _| Expr::not(operand))
 }
 
 #[test]
-fn a_clause_of_too_many_levels_is_refused() {
+fn a_clause_with_too_many_levels_is_an_error() {
     let body = with_clause("t", Some(levels(1000)));
     let mut set = set_of(&body);
     let before = set.clone();
     let body = with_clause("u", Some(levels(1001)));
     let policy = StaticPolicy::try_from(body.clone()).unwrap();
-    refused(set.add_template(body.clone()), Reason::TooDeep, "too deep");
-    refused(set.add_static(policy.clone()), Reason::TooDeep, "too deep");
-    refused(set.add(policy.into()), Reason::TooDeep, "too deep");
+    assert_error(set.add_template(body.clone()), Reason::TooDeep, "too deep");
+    assert_error(set.add_static(policy.clone()), Reason::TooDeep, "too deep");
+    assert_error(set.add(policy.into()), Reason::TooDeep, "too deep");
     let link = Template::link(Arc::new(body), id("l"), SlotEnv::new()).unwrap();
-    refused(set.add(link), Reason::TooDeep, "too deep");
+    assert_error(set.add(link), Reason::TooDeep, "too deep");
     assert_eq!(set, before);
     assert!(set.get_template(&id("u")).is_none());
-    is_held(&set, &with_clause("t", Some(levels(1000))));
+    assert_stored(&set, &with_clause("t", Some(levels(1000))));
 }
 
 fn hash_of(body: &Template) -> u64 {
@@ -300,18 +310,18 @@ fn hash_of(body: &Template) -> u64 {
 
 // Runs on a thread with a small stack, which recursion of this depth would overflow.
 #[test]
-fn a_clause_of_any_depth_is_carried() {
+fn a_clause_of_any_depth_is_possible_outside_a_set() {
     const HOSTILE: usize = 200_000;
     let test = || {
         let body = || with_clause("t", Some(levels(HOSTILE)));
         let other = with_clause("t", Some(levels(HOSTILE + 1)));
         assert!(body() == body() && body() != other);
         assert_eq!(hash_of(&body()), hash_of(&body()));
-        let written = body().to_string().len();
-        assert!(written > HOSTILE && format!("{:?}", body()).len() > HOSTILE);
+        let text_len = body().to_string().len();
+        assert!(text_len > HOSTILE && format!("{:?}", body()).len() > HOSTILE);
         assert!(body().condition().slots().is_empty());
         let policy = StaticPolicy::try_from(body().try_validate().unwrap()).unwrap();
-        refused(
+        assert_error(
             PolicySet::new().add_static(policy),
             Reason::TooDeep,
             "too deep",
@@ -322,32 +332,32 @@ fn a_clause_of_any_depth_is_carried() {
 }
 
 #[test]
-fn a_link_that_is_refused_leaves_no_template() {
+fn a_failed_link_adds_no_template() {
     let mut set = short::set(&["permit s", "template t p"]);
     let before = set.clone();
-    let body = Arc::new(asking(
+    let body = Arc::new(template_with(
         "u",
-        Asked::is_eq_slot(),
+        Constraint::is_eq_slot(),
         ActionConstraint::any(),
-        Asked::any(),
+        Constraint::any(),
         None,
     ));
     for name in ["s", "t", "u"] {
         let link = Template::link(body.clone(), id(name), short::bindings_of("p")).unwrap();
-        let refusal = set.add(link).unwrap_err();
-        assert_eq!(refusal, PolicySetError::Occupied { id: id(name) });
+        let error = set.add(link).unwrap_err();
+        assert_eq!(error, PolicySetError::Occupied { id: id(name) });
         assert!(set == before && set.get_template(body.id()).is_none());
     }
     let link = Template::link(body.clone(), id("l"), short::bindings_of("p")).unwrap();
     set.add(link.clone()).unwrap();
-    is_held(&set, &body);
+    assert_stored(&set, &body);
     assert_eq!(set.get(&id("l")), Some(&link));
     assert_eq!(set.clone().get(&id("l")), Some(&link));
     assert_eq!(set.linked("u").unwrap(), ["l"]);
 }
 
 #[test]
-fn locations_do_not_cross() {
+fn sets_return_no_locations() {
     let loc = Some(cedar_store_proved::parser::Loc::new(1, 2, "a text".into()));
     let clause = Expr::slot(SlotId::principal()).with_maybe_source_loc(loc.clone());
     let reference = EntityReference::Slot(loc.clone());
@@ -356,7 +366,7 @@ fn locations_do_not_cross() {
         loc.clone(),
         Annotations::new(),
         Effect::Forbid,
-        PrincipalConstraint::new(Asked::In(reference)),
+        PrincipalConstraint::new(Constraint::In(reference)),
         ActionConstraint::EqSlot(loc.clone()),
         ResourceConstraint::any(),
         Some(clause),
@@ -372,22 +382,22 @@ fn locations_do_not_cross() {
         (loc.as_ref(), loc.as_ref())
     );
     let mut set = set_of(&body);
-    let held = set.get_template(&id("t")).unwrap();
-    assert!(held == &body && held.loc().is_none());
-    assert!(held.slots().eq(body.slots()) && held.slots().all(|slot| slot.loc.is_none()));
-    let (ty, eid) = read("Action::\"x\"").components();
-    let at = EntityUID::from_components(ty, eid, loc);
+    let stored = set.get_template(&id("t")).unwrap();
+    assert!(stored == &body && stored.loc().is_none());
+    assert!(stored.slots().eq(body.slots()) && stored.slots().all(|slot| slot.loc.is_none()));
+    let (ty, eid) = parse_uid("Action::\"x\"").components();
+    let located_uid = EntityUID::from_components(ty, eid, loc);
     let mut bound = short::bindings_of("p");
-    bound.insert(SlotId::action(), at);
+    bound.insert(SlotId::action(), located_uid);
     assert!(bound[&SlotId::action()].loc().is_some());
     let link = set.link("t", "l", bound).unwrap();
     assert!(link.env().values().all(|uid| uid.loc().is_none()));
 }
 
 #[test]
-fn what_a_policy_tells_without_a_set() {
+fn policies_have_the_same_queries_without_a_set() {
     let (a, ty) = (
-        read("A::\"a\""),
+        parse_uid("A::\"a\""),
         EntityType::from_normalized_str("A").unwrap(),
     );
     let unknown = |name: &str, ty: Option<&EntityType>| {
@@ -407,26 +417,35 @@ fn what_a_policy_tells_without_a_set() {
     assert_eq!(set.unknown_entities("p").unwrap(), [a.clone()]);
     set.bind_template("t", Effect::Permit, Slots::none())
         .unwrap();
-    let refusal = set.unknown_entities("t").unwrap_err();
-    assert_eq!(refusal.reason(), Reason::NoBody);
-    let again = policy.new_id(id("q"));
-    assert_eq!((again.id(), again.template().id()), (&id("q"), &id("q")));
-    assert!(again.clone().new_template_id(id("t")).is_none());
-    let body = asking(
+    let error = set.unknown_entities("t").unwrap_err();
+    assert_eq!(error.reason(), Reason::NoBody);
+    let renamed = policy.new_id(id("q"));
+    assert_eq!(
+        (renamed.id(), renamed.template().id()),
+        (&id("q"), &id("q"))
+    );
+    assert!(renamed.clone().new_template_id(id("t")).is_none());
+    let body = template_with(
         "t",
-        Asked::is_eq_slot(),
+        Constraint::is_eq_slot(),
         ActionConstraint::any(),
-        Asked::any(),
+        Constraint::any(),
         None,
     );
     let link = Template::link(Arc::new(body), id("l"), short::bindings_of("p")).unwrap();
-    let again = link.new_id(id("m"));
-    assert_eq!((again.id(), again.template().id()), (&id("m"), &id("t")));
-    assert!(Arc::ptr_eq(again.template_arc(), link.template_arc()));
-    let moved = again.new_template_id(id("u")).unwrap();
-    assert_eq!((moved.id(), moved.template().id()), (&id("m"), &id("u")));
-    assert_eq!(moved.env(), link.env());
-    let typed = Asked::is_entity_type_in(Arc::new(ty), Arc::new(read("G::\"g\"")));
+    let renamed = link.new_id(id("m"));
+    assert_eq!(
+        (renamed.id(), renamed.template().id()),
+        (&id("m"), &id("t"))
+    );
+    assert!(Arc::ptr_eq(renamed.template_arc(), link.template_arc()));
+    let relinked = renamed.new_template_id(id("u")).unwrap();
+    assert_eq!(
+        (relinked.id(), relinked.template().id()),
+        (&id("m"), &id("u"))
+    );
+    assert_eq!(relinked.env(), link.env());
+    let typed = Constraint::is_entity_type_in(Arc::new(ty), Arc::new(parse_uid("G::\"g\"")));
     let names: Vec<String> = typed
         .iter_entity_type_names()
         .map(ToString::to_string)
@@ -439,40 +458,40 @@ fn what_a_policy_tells_without_a_set() {
 }
 
 // Asserts that the items are in ascending order.
-fn are_in_order<T: Ord + std::fmt::Debug>(all: &[T]) {
-    for (place, one) in all.iter().enumerate() {
-        for (other_place, other) in all.iter().enumerate() {
+fn assert_ascending<T: Ord + std::fmt::Debug>(items: &[T]) {
+    for (place, item) in items.iter().enumerate() {
+        for (other_place, other) in items.iter().enumerate() {
             assert_eq!(
-                one.cmp(other),
+                item.cmp(other),
                 place.cmp(&other_place),
-                "{one:?} and {other:?}"
+                "{item:?} and {other:?}"
             );
-            assert_eq!(one == other, place == other_place);
+            assert_eq!(item == other, place == other_place);
         }
     }
 }
 
 #[test]
-fn constraints_stand_in_one_order() {
-    let uid = |text: &str| EntityReference::from_uid(read(text));
+fn constraints_have_a_total_order() {
+    let uid = |text: &str| EntityReference::from_uid(parse_uid(text));
     let slot = || EntityReference::Slot(None);
     let ty = |text: &str| Arc::new(EntityType::from_normalized_str(text).unwrap());
-    are_in_order(&[
-        Asked::Any,
-        Asked::In(uid("A::\"a\"")),
-        Asked::In(uid("A::\"b\"")),
-        Asked::In(uid("B::\"a\"")),
-        Asked::In(slot()),
-        Asked::Eq(uid("A::\"a\"")),
-        Asked::Eq(slot()),
-        Asked::Is(ty("A")),
-        Asked::Is(ty("B")),
-        Asked::IsIn(ty("A"), uid("B::\"b\"")),
-        Asked::IsIn(ty("A"), slot()),
-        Asked::IsIn(ty("B"), uid("A::\"a\"")),
+    assert_ascending(&[
+        Constraint::Any,
+        Constraint::In(uid("A::\"a\"")),
+        Constraint::In(uid("A::\"b\"")),
+        Constraint::In(uid("B::\"a\"")),
+        Constraint::In(slot()),
+        Constraint::Eq(uid("A::\"a\"")),
+        Constraint::Eq(slot()),
+        Constraint::Is(ty("A")),
+        Constraint::Is(ty("B")),
+        Constraint::IsIn(ty("A"), uid("B::\"b\"")),
+        Constraint::IsIn(ty("A"), slot()),
+        Constraint::IsIn(ty("B"), uid("A::\"a\"")),
     ]);
-    let (go, stop) = (read("Action::\"go\""), read("Action::\"stop\""));
-    are_in_order(&[
+    let (go, stop) = (parse_uid("Action::\"go\""), parse_uid("Action::\"stop\""));
+    assert_ascending(&[
         ActionConstraint::any(),
         ActionConstraint::is_in([]),
         ActionConstraint::is_in([go.clone()]),
@@ -492,55 +511,67 @@ fn constraints_stand_in_one_order() {
 }
 
 #[test]
-fn what_is_not_valid_is_told() {
+fn validation_reports_each_fault() {
     let call = |name: &str| Expr::call(Name::from_normalized_str(name).unwrap(), vec![]);
-    let told = |clause| {
+    let error_text = |clause| {
         with_clause("t", Some(clause))
             .try_validate()
             .unwrap_err()
             .to_string()
     };
     assert_eq!(
-        told(Expr::and(call("f"), call("g"))),
+        error_text(Expr::and(call("f"), call("g"))),
         "`g` is not a known function"
     );
     let slots = Expr::and(Expr::slot(SlotId::action()), Expr::slot(SlotId::resource()));
-    assert_eq!(told(slots), "found slot `?resource` in a condition clause");
-    let known = ["ip", "decimal", "datetime", "duration"].map(call);
-    assert!(Expr::set(known).try_validate().is_ok());
-    let mixed = ActionConstraint::is_in(["A::\"a\"", "Action::\"b\"", "A::\"c\""].map(read));
-    let words = "the action constraint holds uids that are not actions: A::\"a\",A::\"c\"";
-    let refusal = mixed.clone().contains_only_action_types().unwrap_err();
-    assert_eq!(refusal.to_string(), words);
-    let mut set = set_of(&asking("t", Asked::any(), mixed, Asked::any(), None));
-    let told = |set: &PolicySet| {
-        let refusal = set.validate().unwrap_err();
-        assert!(refusal.uids().is_empty());
-        (refusal.reason(), refusal.to_string())
-    };
-    let due = |reason, text: &str| (reason, text.to_string());
-    assert_eq!(told(&set), due(Reason::NotActions, "uid of no action in t"));
-    let refusal = set.clone().try_validate().unwrap_err();
     assert_eq!(
-        refusal.to_string(),
-        format!("invalid template `t`: {words}")
+        error_text(slots),
+        "found slot `?resource` in a condition clause"
+    );
+    let known_calls = ["ip", "decimal", "datetime", "duration"].map(call);
+    assert!(Expr::set(known_calls).try_validate().is_ok());
+    let mixed = ActionConstraint::is_in(["A::\"a\"", "Action::\"b\"", "A::\"c\""].map(parse_uid));
+    let message = "the action constraint holds uids that are not actions: A::\"a\",A::\"c\"";
+    let error = mixed.clone().contains_only_action_types().unwrap_err();
+    assert_eq!(error.to_string(), message);
+    let mut set = set_of(&template_with(
+        "t",
+        Constraint::any(),
+        mixed,
+        Constraint::any(),
+        None,
+    ));
+    let error_of = |set: &PolicySet| {
+        let error = set.validate().unwrap_err();
+        assert!(error.uids().is_empty());
+        (error.reason(), error.to_string())
+    };
+    let expected = |reason, text: &str| (reason, text.to_string());
+    assert_eq!(
+        error_of(&set),
+        expected(Reason::NotActions, "uid of no action in t")
+    );
+    let error = set.clone().try_validate().unwrap_err();
+    assert_eq!(
+        error.to_string(),
+        format!("invalid template `t`: {message}")
     );
     set.bind_template("u", Effect::Permit, Slots::none())
         .unwrap();
     set.link("u", "l", SlotEnv::new()).unwrap();
     let text = "link without slots l";
-    assert_eq!(told(&set), due(Reason::SlotlessLink, text));
-    let refusal = set.try_validate().unwrap_err();
+    assert_eq!(error_of(&set), expected(Reason::SlotlessLink, text));
+    let error = set.try_validate().unwrap_err();
     assert_eq!(
-        refusal.to_string(),
+        error.to_string(),
         "link `l` references template `u` which has no slots"
     );
     let set = set_of(&with_clause("s", Some(Expr::slot(SlotId::resource()))));
     let text = "slot in the clause of s";
-    assert_eq!(told(&set), due(Reason::SlotInClause, text));
+    assert_eq!(error_of(&set), expected(Reason::SlotInClause, text));
     let set = set_of(&with_clause("f", Some(call("f"))));
     let text = "unknown function in f";
-    assert_eq!(told(&set), due(Reason::UnknownFunction, text));
+    assert_eq!(error_of(&set), expected(Reason::UnknownFunction, text));
     assert!(set_of(&with_clause("g", Some(call("ip"))))
         .validate()
         .is_ok());

@@ -2,25 +2,25 @@
 //! edit.
 mod short;
 use cedar_store_proved::entities::Entities;
-use cedar_store_proved::{Reason, Refusal};
+use cedar_store_proved::{Error, Reason};
 use short::*;
 
 // A graph: the entities with their parents, and the expected ancestors of each entity that has any.
 struct Graph {
-    given: &'static str,
-    above: &'static [(&'static str, &'static str)],
+    entities: &'static str,
+    ancestors: &'static [(&'static str, &'static str)],
 }
 
 // Graphs without cycles.
 const ACYCLIC: [Graph; 7] = [
     // chains of three and of five
     Graph {
-        given: "a b;b c;c",
-        above: &[("a", "bc"), ("b", "c"), ("c", "")],
+        entities: "a b;b c;c",
+        ancestors: &[("a", "bc"), ("b", "c"), ("c", "")],
     },
     Graph {
-        given: "a b;b c;c d;d e;e",
-        above: &[
+        entities: "a b;b c;c d;d e;e",
+        ancestors: &[
             ("a", "bcde"),
             ("b", "cde"),
             ("c", "de"),
@@ -30,8 +30,8 @@ const ACYCLIC: [Graph; 7] = [
     },
     // a chain whose names are not in ascending order
     Graph {
-        given: "f b;b z;z h;h e;e",
-        above: &[
+        entities: "f b;b z;z h;h e;e",
+        ancestors: &[
             ("f", "behz"),
             ("b", "ehz"),
             ("z", "eh"),
@@ -41,13 +41,13 @@ const ACYCLIC: [Graph; 7] = [
     },
     // two parents, each with a parent
     Graph {
-        given: "a bd;b c;c;d e;e",
-        above: &[("a", "bcde"), ("b", "c"), ("d", "e")],
+        entities: "a bd;b c;c;d e;e",
+        ancestors: &[("a", "bcde"), ("b", "c"), ("d", "e")],
     },
     // two paths that meet
     Graph {
-        given: "a bf;b cd;c;d e;e h;f g;g e;h",
-        above: &[
+        entities: "a bf;b cd;c;d e;e h;f g;g e;h",
+        ancestors: &[
             ("a", "bcdefgh"),
             ("b", "cdeh"),
             ("d", "eh"),
@@ -58,8 +58,8 @@ const ACYCLIC: [Graph; 7] = [
     },
     // some edges of the closure are already present
     Graph {
-        given: "a bcd;b ce;c e;d cf;e;f",
-        above: &[
+        entities: "a bcd;b ce;c e;d cf;e;f",
+        ancestors: &[
             ("a", "bcdef"),
             ("b", "ce"),
             ("c", "e"),
@@ -70,8 +70,8 @@ const ACYCLIC: [Graph; 7] = [
     },
     // three components
     Graph {
-        given: "a f;b c;c;d e;e h;f g;g;h",
-        above: &[("a", "fg"), ("b", "c"), ("d", "eh"), ("e", "h"), ("f", "g")],
+        entities: "a f;b c;c;d e;e h;f g;g;h",
+        ancestors: &[("a", "fg"), ("b", "c"), ("d", "eh"), ("e", "h"), ("f", "g")],
     },
 ];
 
@@ -86,111 +86,125 @@ const CYCLIC: [(&str, &str); 6] = [
 ];
 
 // Reverses the order of the entities in a text.
-fn reversed(given: &str) -> String {
-    given.split(';').rev().collect::<Vec<_>>().join(";")
+fn reversed(spec: &str) -> String {
+    spec.split(';').rev().collect::<Vec<_>>().join(";")
 }
 
 #[test]
-fn acyclic_graphs_are_closed() {
+fn stores_compute_the_closure_of_acyclic_graphs() {
     for graph in ACYCLIC {
-        let closed = store(graph.given);
-        for (name, due) in graph.above {
-            assert_eq!(above(&closed, name), *due, "{name} in {}", graph.given);
+        let closed = store(graph.entities);
+        for (name, expected) in graph.ancestors {
+            assert_eq!(
+                ancestors(&closed, name),
+                *expected,
+                "{name} in {}",
+                graph.entities
+            );
         }
         assert!(closed.validate().is_ok());
     }
 }
 
 #[test]
-fn the_order_of_entities_makes_no_difference() {
+fn the_order_of_entities_does_not_change_the_store() {
     for graph in ACYCLIC {
-        assert!(store(graph.given).deep_eq(&store(&reversed(graph.given))));
+        assert!(store(graph.entities).deep_eq(&store(&reversed(graph.entities))));
     }
 }
 
 #[test]
-fn what_is_not_closed_is_found() {
+fn graphs_that_are_not_closed_are_reported() {
     for graph in ACYCLIC {
-        let given = Entities::from_entities(listed(graph.given), ASSUME).unwrap();
+        let assumed = Entities::from_entities(parse_entities(graph.entities), ASSUME).unwrap();
         assert_eq!(
-            given.validate().unwrap_err().reason(),
+            assumed.validate().unwrap_err().reason(),
             Reason::NotClosed,
             "{}",
-            graph.given
+            graph.entities
         );
-        let enforced = Entities::from_entities(listed(graph.given), ENFORCE);
-        let refusal = Refusal::from(enforced.unwrap_err());
-        assert_eq!(refusal.reason(), Reason::NotClosed);
+        let enforced = Entities::from_entities(parse_entities(graph.entities), ENFORCE);
+        let error = Error::from(enforced.unwrap_err());
+        assert_eq!(error.reason(), Reason::NotClosed);
     }
 }
 
 #[test]
-fn what_is_closed_stays_as_it_is() {
+fn closed_graphs_stay_unchanged_in_each_mode() {
     for graph in ACYCLIC {
-        let closed = store(graph.given);
-        let rows = graph
-            .given
+        let closed = store(graph.entities);
+        let specs = graph
+            .entities
             .split(';')
-            .map(|one| format!("{} {}", &one[..1], above(&closed, &one[..1])));
-        let spec = rows.collect::<Vec<_>>().join(";");
+            .map(|spec| format!("{} {}", &spec[..1], ancestors(&closed, &spec[..1])));
+        let spec = specs.collect::<Vec<_>>().join(";");
         for mode in [NOW, ENFORCE, ASSUME] {
-            let again = Entities::from_entities(listed(&spec), mode).unwrap();
-            assert!(again.deep_eq(&closed) && again.validate().is_ok(), "{spec}");
+            let rebuilt = Entities::from_entities(parse_entities(&spec), mode).unwrap();
+            assert!(
+                rebuilt.deep_eq(&closed) && rebuilt.validate().is_ok(),
+                "{spec}"
+            );
         }
     }
 }
 
 #[test]
-fn cycles_are_found_in_each_mode() {
-    for (given, on) in CYCLIC {
-        refused_for_cycle(Entities::from_entities(listed(given), NOW), on);
-        refused_for_cycle(Entities::from_entities(listed(&reversed(given)), NOW), on);
-        let assumed = Entities::from_entities(listed(given), ASSUME).unwrap();
+fn cycles_are_reported_in_each_mode() {
+    for (spec, on_cycle) in CYCLIC {
+        assert_cycle(Entities::from_entities(parse_entities(spec), NOW), on_cycle);
+        assert_cycle(
+            Entities::from_entities(parse_entities(&reversed(spec)), NOW),
+            on_cycle,
+        );
+        let assumed = Entities::from_entities(parse_entities(spec), ASSUME).unwrap();
         assert!(assumed.validate().is_err());
-        assert!(Entities::from_entities(listed(given), ENFORCE).is_err());
+        assert!(Entities::from_entities(parse_entities(spec), ENFORCE).is_err());
     }
 }
 
 #[test]
-fn a_closed_graph_with_a_cycle_is_refused_for_it() {
-    let given = "a abc;b abc;c abc;d abc";
-    refused_for_cycle(Entities::from_entities(listed(given), ENFORCE), "abc");
-    let assumed = Entities::from_entities(listed(given), ASSUME).unwrap();
-    refused_for_cycle(assumed.validate(), "abc");
-    refused(
-        Entities::from_entities(listed("a b;b b"), ENFORCE),
+fn enforcing_reports_the_cycle_of_a_closed_graph() {
+    let spec = "a abc;b abc;c abc;d abc";
+    assert_cycle(
+        Entities::from_entities(parse_entities(spec), ENFORCE),
+        "abc",
+    );
+    let assumed = Entities::from_entities(parse_entities(spec), ASSUME).unwrap();
+    assert_cycle(assumed.validate(), "abc");
+    assert_error(
+        Entities::from_entities(parse_entities("a b;b b"), ENFORCE),
         Reason::Cycle,
         "cycle at A::\"b\"",
     );
 }
 
 #[test]
-fn an_update_takes_the_old_way_and_brings_the_new() {
+fn upsert_replaces_the_ancestors_of_descendants() {
     let before = store("a b;b c;c");
     assert_eq!(
-        (above(&before, "a"), above(&before, "b")),
+        (ancestors(&before, "a"), ancestors(&before, "b")),
         ("bc".into(), "c".into())
     );
-    let after = upserted(before, "b d;d", NOW).unwrap();
+    let after = upsert(before, "b d;d", NOW).unwrap();
     assert_eq!(
-        (above(&after, "a"), above(&after, "b")),
+        (ancestors(&after, "a"), ancestors(&after, "b")),
         ("bd".into(), "d".into())
     );
     assert_eq!(
-        (above(&after, "c"), above(&after, "d")),
+        (ancestors(&after, "c"), ancestors(&after, "d")),
         ("".into(), "".into())
     );
     assert!(after.validate().is_ok());
 }
 
 #[test]
-fn an_entity_that_is_its_own_parent_is_refused() {
-    refused(
-        Entities::from_entities(listed("s s"), NOW),
+fn an_entity_that_is_its_own_parent_is_a_cycle() {
+    assert_error(
+        Entities::from_entities(parse_entities("s s"), NOW),
         Reason::Cycle,
         "cycle at A::\"s\"",
     );
-    let assumed = Entities::from_entities(listed("s s"), ASSUME).unwrap();
-    refused(assumed.validate(), Reason::Cycle, "cycle at A::\"s\"");
+    let assumed = Entities::from_entities(parse_entities("s s"), ASSUME).unwrap();
+    assert_error(assumed.validate(), Reason::Cycle, "cycle at A::\"s\"");
     assert!(store("o").validate().is_ok());
 }

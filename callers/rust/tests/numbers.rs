@@ -10,85 +10,92 @@ fn numbered(store: &Entities, name: &str) -> UidNumber {
 }
 
 #[test]
-fn a_uid_has_one_number() {
-    let held = store("a b;b c");
-    let (a, q) = (numbered(&held, "a"), numbered(&held, "q"));
-    assert!(a != q && a == numbered(&held, "a") && q == numbered(&held, "q"));
+fn a_uid_always_has_the_same_number() {
+    let entities = store("a b;b c");
+    let (a, q) = (numbered(&entities, "a"), numbered(&entities, "q"));
+    assert!(a != q && a == numbered(&entities, "a") && q == numbered(&entities, "q"));
     assert_eq!(
-        held.uid_of_number(held.number("A::\"é\"").unwrap())
+        entities
+            .uid_of_number(entities.number("A::\"é\"").unwrap())
             .unwrap(),
         "A::\"é\""
     );
-    refused(held.number("a"), Reason::NotAUid, "not a uid");
+    assert_error(entities.number("a"), Reason::NotAUid, "not a uid");
 }
 
 #[test]
-fn numbers_ask_what_uids_ask() {
-    let held = store("a b;b c;c de;x");
+fn queries_by_number_equal_queries_by_uid() {
+    let entities = store("a b;b c;c de;x");
     for child in "abcx".chars().map(String::from) {
         for other in "abcdex".chars().map(String::from) {
-            let by_numbers =
-                held.is_descendant_of_numbers(numbered(&held, &child), numbered(&held, &other));
-            assert_eq!(by_numbers, held.is_descendant_of(uid(&child), uid(&other)));
+            let by_numbers = entities
+                .is_descendant_of_numbers(numbered(&entities, &child), numbered(&entities, &other));
+            assert_eq!(
+                by_numbers,
+                entities.is_descendant_of(uid(&child), uid(&other))
+            );
         }
     }
-    let (a, d) = (numbered(&held, "a"), numbered(&held, "d"));
-    assert!(held.contains_number(a).unwrap() && !held.contains_number(d).unwrap());
-    refused(
-        held.is_descendant_of_numbers(d, a),
+    let (a, d) = (numbered(&entities, "a"), numbered(&entities, "d"));
+    assert!(entities.contains_number(a).unwrap() && !entities.contains_number(d).unwrap());
+    assert_error(
+        entities.is_descendant_of_numbers(d, a),
         Reason::NoEntity,
         "no entity",
     );
 }
 
 #[test]
-fn numbers_stay_whatever_becomes_of_the_store() {
-    let mut held = store("a b;b c");
-    let (a, z) = (numbered(&held, "a"), numbered(&held, "z"));
-    assert!(!held.is_descendant_of_numbers(a, z).unwrap());
-    held.upsert(listed("b z"), NOW).unwrap();
-    assert!(held.is_descendant_of_numbers(a, z).unwrap());
-    refused_for(held.add(listed("z a"), NOW), Reason::Cycle);
-    assert_eq!((numbered(&held, "a"), numbered(&held, "z")), (a, z));
-    held.remove(uids("a"), NOW).unwrap();
-    assert!(!held.contains_number(a).unwrap());
-    let held = held.partial().add_entities(listed("a z"), NOW).unwrap();
-    assert!(held.is_descendant_of_numbers(a, z).unwrap());
+fn numbers_stay_valid_after_edits() {
+    let mut entities = store("a b;b c");
+    let (a, z) = (numbered(&entities, "a"), numbered(&entities, "z"));
+    assert!(!entities.is_descendant_of_numbers(a, z).unwrap());
+    entities.upsert(parse_entities("b z"), NOW).unwrap();
+    assert!(entities.is_descendant_of_numbers(a, z).unwrap());
+    assert_reason(entities.add(parse_entities("z a"), NOW), Reason::Cycle);
+    assert_eq!((numbered(&entities, "a"), numbered(&entities, "z")), (a, z));
+    entities.remove(uids("a"), NOW).unwrap();
+    assert!(!entities.contains_number(a).unwrap());
+    let entities = entities
+        .partial()
+        .add_entities(parse_entities("a z"), NOW)
+        .unwrap();
+    assert!(entities.is_descendant_of_numbers(a, z).unwrap());
 }
 
 // Asserts that a call returned an error with this reason.
-fn refused_for<T>(given: Result<T, cedar_store_proved::Refusal>, reason: Reason) {
-    assert_eq!(given.err().map(|refusal| refusal.reason()), Some(reason));
+fn assert_reason<T>(result: Result<T, cedar_store_proved::Error>, reason: Reason) {
+    assert_eq!(result.err().map(|error| error.reason()), Some(reason));
 }
 
 #[test]
-fn numbers_are_of_one_store() {
-    let held = store("a b;b c");
-    let (a, b) = (numbered(&held, "a"), numbered(&held, "b"));
+fn a_number_of_another_store_is_an_error() {
+    let entities = store("a b;b c");
+    let (a, b) = (numbered(&entities, "a"), numbered(&entities, "b"));
     for other in [
-        held.try_clone().unwrap(),
-        held.slice(uids("a")).unwrap(),
+        entities.try_clone().unwrap(),
+        entities.slice(uids("a")).unwrap(),
         store("a b"),
     ] {
         numbered(&other, "b");
-        refused(
+        assert_error(
             other.contains_number(a),
             Reason::BadArgument,
             "bad argument",
         );
-        refused(
+        assert_error(
             other.is_descendant_of_numbers(a, b),
             Reason::BadArgument,
             "bad argument",
         );
-        refused(
+        assert_error(
             other.is_descendant_of_numbers(numbered(&other, "a"), b),
             Reason::BadArgument,
             "bad argument",
         );
-        refused(other.uid_of_number(b), Reason::BadArgument, "bad argument");
+        assert_error(other.uid_of_number(b), Reason::BadArgument, "bad argument");
         let (a, b) = (numbered(&other, "a"), numbered(&other, "b"));
         assert!(other.is_descendant_of_numbers(a, b).unwrap());
     }
-    assert!(held.is_descendant_of_numbers(a, b).unwrap());
+    assert!(entities.is_descendant_of_numbers(a, b).unwrap());
 }

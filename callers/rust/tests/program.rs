@@ -2,55 +2,59 @@
 use cedar_store_proved::{run, run_with_key, Key};
 
 // Asserts the output and the exit status for lines, in which `~` stands for a tab.
-fn writes(lines: &[&str], due: &[&str], status: u32) {
+fn check_run(lines: &[&str], expected: &[&str], status: u32) {
     let text = |lines: &[&str]| {
         lines
             .iter()
             .map(|line| line.replace('~', "\t") + "\n")
             .collect::<String>()
     };
-    let (out, ended) = run(text(lines).as_bytes()).unwrap();
+    let (out, actual_status) = run(text(lines).as_bytes()).unwrap();
     assert_eq!(
-        (String::from_utf8(out).unwrap(), ended),
-        (text(due), status),
+        (String::from_utf8(out).unwrap(), actual_status),
+        (text(expected), status),
         "{lines:?}"
     );
 }
 
 #[test]
-fn stores_are_built_and_asked() {
-    let two = [
+fn stores_are_built_and_queried() {
+    let two_entities = [
         "ent~A::\"a\"~A::\"b\"",
         "ent~A::\"b\"~A::\"c\"",
         "build",
         "anc~A::\"a\"",
         "anc~A::\"c\"",
     ];
-    writes(&two, &["ok 2", "anc~A::\"b\"~A::\"c\"", "no entity"], 0);
-    writes(
+    check_run(
+        &two_entities,
+        &["ok 2", "anc~A::\"b\"~A::\"c\"", "no entity"],
+        0,
+    );
+    check_run(
         &["build", "ent~A::\"a\"", "build", "anc~A::\"a\""],
         &["ok 0", "ok 1", "anc"],
         0,
     );
     let same = "ent~A::\"a\"~A::\"b\"";
-    writes(
+    check_run(
         &[same, same, "build", "anc~A::\"a\""],
         &["ok 1", "anc~A::\"b\""],
         0,
     );
-    writes(&[], &[], 0);
+    check_run(&[], &[], 0);
 }
 
 #[test]
-fn stores_are_refused() {
+fn errors_of_stores_are_reported() {
     let differing = [
         "ent~A::\"a\"~A::\"b\"",
         "ent~A::\"a\"~A::\"c\"",
         "build",
         "anc~A::\"a\"",
     ];
-    writes(&differing, &["refused: duplicate A::\"a\"", "no entity"], 0);
-    writes(&["ent~A::\"a\"~A::\"a\"", "build"], &["refused: cycle"], 0);
+    check_run(&differing, &["refused: duplicate A::\"a\"", "no entity"], 0);
+    check_run(&["ent~A::\"a\"~A::\"a\"", "build"], &["refused: cycle"], 0);
     let cyclic = [
         "ent~A::\"a\"~A::\"b\"",
         "build",
@@ -59,7 +63,7 @@ fn stores_are_refused() {
         "anc~A::\"a\"",
         "ent~A::a",
     ];
-    writes(
+    check_run(
         &cyclic,
         &[
             "ok 1",
@@ -83,7 +87,7 @@ fn stores_are_sliced() {
         "anc~A::\"d\"",
         "slice~A::\"z\"",
     ];
-    writes(
+    check_run(
         &lines,
         &["ok 3", "ok 2", "anc~A::\"b\"~A::\"c\"", "no entity", "ok 0"],
         0,
@@ -103,7 +107,7 @@ fn sets_are_merged() {
         "merge~rename",
         "ids",
     ];
-    let due = [
+    let expected = [
         "ok",
         "ok",
         "ok",
@@ -115,7 +119,7 @@ fn sets_are_merged() {
         "bodies~policy0~policy1~policy3~policy2",
         "policies~policy0~policy1~policy3~policy2",
     ];
-    writes(&lines, &due, 0);
+    check_run(&lines, &expected, 0);
 }
 
 #[test]
@@ -129,7 +133,7 @@ fn templates_are_linked() {
         "unlink~l",
         "ids",
     ];
-    let due = [
+    let expected = [
         "ok",
         "refused: arity",
         "ok",
@@ -139,7 +143,7 @@ fn templates_are_linked() {
         "bodies~t",
         "policies",
     ];
-    writes(&lines, &due, 0);
+    check_run(&lines, &expected, 0);
     let lines = [
         "template~t~all",
         "link~t~l~action=A::\"x\"",
@@ -148,7 +152,7 @@ fn templates_are_linked() {
         "link~u~l~action=N::Action::\"v\"",
         "ids",
     ];
-    let due = [
+    let expected = [
         "ok",
         "refused: arity",
         "ok",
@@ -157,11 +161,11 @@ fn templates_are_linked() {
         "bodies~t~u",
         "policies~l",
     ];
-    writes(&lines, &due, 0);
+    check_run(&lines, &expected, 0);
 }
 
 #[test]
-fn ids_collide_in_each_way() {
+fn conflicting_ids_are_renamed_by_kind() {
     let lines = [
         "static~a~permit",
         "template~t~principal",
@@ -178,16 +182,16 @@ fn ids_collide_in_each_way() {
         "merge~rename",
         "ids",
     ];
-    let mut due = vec!["ok"; 11];
-    due.push("refused: occupied a");
-    due.push("ok~a~policy0~c~policy1~b~policy2~t~policy3");
-    due.push("bodies~a~t~u~policy2~policy1~policy0");
-    due.push("policies~a~b~c~policy3~policy1~policy0");
-    writes(&lines, &due, 0);
+    let mut expected = vec!["ok"; 11];
+    expected.push("refused: occupied a");
+    expected.push("ok~a~policy0~c~policy1~b~policy2~t~policy3");
+    expected.push("bodies~a~t~u~policy2~policy1~policy0");
+    expected.push("policies~a~b~c~policy3~policy1~policy0");
+    check_run(&lines, &expected, 0);
 }
 
 #[test]
-fn what_is_no_command_ends_the_run() {
+fn an_invalid_line_ends_the_run() {
     let link = "link~t~l~principal=A::\"x\"~principal=A::\"x\"";
     for line in [
         "frob",
@@ -199,9 +203,9 @@ fn what_is_no_command_ends_the_run() {
         "anc~A::\"\u{80}\"",
         link,
     ] {
-        writes(&[line], &["line 1: not a command"], 2);
+        check_run(&[line], &["line 1: not a command"], 2);
     }
-    writes(&["", "frob"], &["line 2: not a command"], 2);
+    check_run(&["", "frob"], &["line 2: not a command"], 2);
     assert_eq!(
         run(b"frob").unwrap(),
         (b"line 1: not a command\n".to_vec(), 2)
@@ -213,12 +217,12 @@ fn what_is_no_command_ends_the_run() {
 }
 
 #[test]
-fn what_is_longer_than_its_input_comes_whole() {
+fn an_output_longer_than_its_input_is_complete() {
     let mut input = String::from("ent\tA::\"a\"");
     (0..100).for_each(|k| input += &format!("\tA::\"parent{k:03}\""));
     input += "\nbuild\n";
     (0..100).for_each(|_| input += "anc\tA::\"a\"\n");
-    for key in [Key::drawn(), Key { seed: 0, key: 0 }] {
+    for key in [Key::random(), Key { seed: 0, key: 0 }] {
         let (out, status) = run_with_key(input.as_bytes(), key).unwrap();
         let line = out.split(|byte| *byte == b'\n').nth(100).unwrap();
         assert_eq!((out.len(), line.len(), status), (5 + 100 * 1504, 1503, 0));

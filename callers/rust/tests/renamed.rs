@@ -17,27 +17,23 @@ mod administration;
 #[path = "../../../rust/examples/authorizer.rs"]
 mod authorizer;
 #[rustfmt::skip]
-#[path = "../../../rust/tests/drawn_modes.rs"]
-mod drawn_modes;
+#[path = "../../../rust/tests/random_modes.rs"]
+mod random_modes;
 #[rustfmt::skip]
-#[path = "../../../rust/tests/drawn_sets.rs"]
-mod drawn_sets;
+#[path = "../../../rust/tests/random_sets.rs"]
+mod random_sets;
 #[rustfmt::skip]
-#[path = "../../../rust/tests/drawn_stores.rs"]
-mod drawn_stores;
+#[path = "../../../rust/tests/random_stores.rs"]
+mod random_stores;
 #[rustfmt::skip]
-#[path = "../../../rust/tests/edges.rs"]
-mod edges;
+#[path = "../../../rust/tests/edge_cases.rs"]
+mod edge_cases;
 #[rustfmt::skip]
-#[path = "../../../rust/tests/edges_of_stores.rs"]
-mod edges_of_stores;
+#[path = "../../../rust/tests/store_edge_cases.rs"]
+mod store_edge_cases;
 #[rustfmt::skip]
 #[path = "../../../rust/tests/entity.rs"]
 mod entity;
-#[allow(dead_code)]
-#[rustfmt::skip]
-#[path = "../../../rust/examples/graphviz.rs"]
-mod graphviz;
 #[rustfmt::skip]
 #[path = "../../../rust/tests/policy.rs"]
 mod policy;

@@ -12,8 +12,8 @@ const THREADS: u64 = 4;
 type Kinds = BTreeMap<String, usize>;
 
 // Returns the words of an output that determine its kind.
-fn kind(written: &str) -> &str {
-    const REFUSED: [&str; 9] = [
+fn kind(output: &str) -> &str {
+    const ERRORS: [&str; 9] = [
         "refused: duplicate",
         "refused: cycle",
         "refused: occupied",
@@ -24,58 +24,58 @@ fn kind(written: &str) -> &str {
         "refused: not a link",
         "no entity",
     ];
-    let named = REFUSED.into_iter().find(|words| written.starts_with(words));
-    named.unwrap_or_else(|| written.split([' ', '\t']).next().unwrap_or(""))
+    let error = ERRORS.into_iter().find(|prefix| output.starts_with(prefix));
+    error.unwrap_or_else(|| output.split([' ', '\t']).next().unwrap_or(""))
 }
 
 // Returns the output of the crate for each line, up to the first line that is not a command.
-fn taken(lines: &[Line]) -> (Vec<String>, u32) {
+fn run_lines(lines: &[Line]) -> (Vec<String>, u32) {
     let mut session = Session::default();
-    let mut written = Vec::new();
+    let mut outputs = Vec::new();
     for (number, line) in lines.iter().enumerate() {
-        match session.taken(line) {
-            Some(text) => written.push(text),
+        match session.run_line(line) {
+            Some(text) => outputs.push(text),
             None => {
-                written.push(format!("line {}: not a command\n", number + 1));
-                return (written, 2);
+                outputs.push(format!("line {}: not a command\n", number + 1));
+                return (outputs, 2);
             }
         }
     }
-    (written, 0)
+    (outputs, 0)
 }
 
 // Compares the outputs line by line.
-fn compare(input: &str, written: &[String], out: &str, kinds: &mut Kinds) {
+fn compare(input: &str, outputs: &[String], out: &str, kinds: &mut Kinds) {
     let mut rest = out;
-    for (number, due) in written.iter().enumerate() {
-        let Some(left) = rest.strip_prefix(due.as_str()) else {
+    for (number, expected) in outputs.iter().enumerate() {
+        let Some(after) = rest.strip_prefix(expected.as_str()) else {
             panic!(
-                "line {} of\n{input}: the crate writes {due:?}, and the program {rest:?}",
+                "line {} of\n{input}: the crate writes {expected:?}, and the program {rest:?}",
                 number + 1
             );
         };
-        rest = left;
-        for line in due.lines() {
+        rest = after;
+        for line in expected.lines() {
             *kinds.entry(kind(line).into()).or_default() += 1;
         }
     }
-    assert_eq!(rest, "", "the program writes more for\n{input}");
+    assert_eq!(rest, "", "the program writes further output for\n{input}");
 }
 
 fn session(seed: u64, kinds: &mut Kinds) {
     let mut dice = Dice::new(seed);
-    let count = 1 + dice.below(60);
-    let lines: Vec<Line> = (0..count).map(|_| Line::drawn(&mut dice)).collect();
+    let count = 1 + dice.number(60);
+    let lines: Vec<Line> = (0..count).map(|_| Line::random(&mut dice)).collect();
     let input: String = lines.iter().map(|line| format!("{line}\n")).collect();
-    let (written, ended) = taken(&lines);
+    let (outputs, expected_status) = run_lines(&lines);
     let (out, status) = run(input.as_bytes()).unwrap();
     compare(
         &input,
-        &written,
+        &outputs,
         &String::from_utf8(out.clone()).unwrap(),
         kinds,
     );
-    assert_eq!(status, ended);
+    assert_eq!(status, expected_status);
     let zeros = Key { seed: 0, key: 0 };
     assert_eq!(
         run_with_key(input.as_bytes(), zeros).unwrap(),
@@ -92,7 +92,7 @@ fn sessions(from: u64) -> Kinds {
 }
 
 #[test]
-fn ten_thousand_sessions_write_the_same() {
+fn program_and_crate_write_the_same_in_random_sessions() {
     let mut kinds = Kinds::new();
     std::thread::scope(|scope| {
         let parts: Vec<_> = (0..THREADS)

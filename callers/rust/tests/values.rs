@@ -1,6 +1,6 @@
 //! Tests of values and expressions: their content and their texts, and that they do not change when they are passed to
 //! the library and read back.
-mod drawn;
+mod random;
 mod short;
 use cedar_store_proved::ast::{
     Entity, EntityType, Expr, ExprNode, ExtensionValue, Literal, Name, PartialValue, SlotId,
@@ -8,7 +8,7 @@ use cedar_store_proved::ast::{
 };
 use cedar_store_proved::entities::{Entities, EntitiesError};
 use cedar_store_proved::Reason;
-use drawn::Dice;
+use random::Dice;
 use short::*;
 use std::collections::HashSet;
 use std::hash::{DefaultHasher, Hash, Hasher};
@@ -31,16 +31,19 @@ fn record<const N: usize>(pairs: [(&str, Value); N]) -> Value {
 
 // Returns the value of an attribute after it was passed to the library and read back. Asserts that a tag gives the same
 // value.
-fn crossed(term: impl Into<PartialValue>) -> PartialValue {
+fn round_trip(term: impl Into<PartialValue>) -> PartialValue {
     let term = term.into();
     let entity = Entity::with_uid(uid("a")).with_attr("k", term.clone());
     let store = Entities::from_entities([entity.with_tag("t", term)], NOW).unwrap();
-    let told = store.get(uid("a"), "k").unwrap().unwrap();
-    assert_eq!(store.get_tag(uid("a"), "t").unwrap(), Some(told.clone()));
+    let returned = store.get(uid("a"), "k").unwrap().unwrap();
+    assert_eq!(
+        store.get_tag(uid("a"), "t").unwrap(),
+        Some(returned.clone())
+    );
     let stored = store.entity(&uid("a")).unwrap();
-    assert_eq!((stored.get("k"), stored.get("t")), (Some(&told), None));
-    assert_eq!(stored.get_tag("t"), Some(&told));
-    told
+    assert_eq!((stored.get("k"), stored.get("t")), (Some(&returned), None));
+    assert_eq!(stored.get_tag("t"), Some(&returned));
+    returned
 }
 
 #[test]
@@ -78,7 +81,7 @@ fn values_of_each_kind() {
         ),
     ] {
         assert_eq!(value.to_string(), text);
-        assert_eq!(crossed(value.clone()), PartialValue::from(value));
+        assert_eq!(round_trip(value.clone()), PartialValue::from(value));
     }
     assert_eq!(uid("a").type_of(), Entity::with_uid(uid("b")).type_of());
     let ty = StaticType::Entity { ty: user };
@@ -129,25 +132,25 @@ fn expressions_of_each_kind() {
         (Expr::is_entity_type(principal(), ty), "principal is A::B"),
     ] {
         assert_eq!(expr.to_string(), text);
-        assert_eq!(crossed(expr.clone()), PartialValue::Residual(expr));
+        assert_eq!(round_trip(expr.clone()), PartialValue::Residual(expr));
     }
     // a residual expression is not equal to a value, even if it has the same content
-    assert_ne!(crossed(Expr::val(1)), crossed(Value::from(1)));
+    assert_ne!(round_trip(Expr::val(1)), round_trip(Value::from(1)));
 }
 
 #[test]
-fn expressions_are_walked() {
+fn subexpressions_slots_and_unknowns_are_listed() {
     let (slot, unknown) = (SlotId::resource(), Unknown::new_untyped("u"));
     let expr = Expr::and(
         Expr::set([Expr::slot(slot), Expr::unknown(unknown.clone())]),
         Expr::not(Expr::slot(slot)),
     );
-    let all: Vec<String> = expr
+    let texts: Vec<String> = expr
         .subexpressions()
         .iter()
         .map(|e| e.to_string())
         .collect();
-    let due = [
+    let expected = [
         "[?resource, unknown(\"u\")] && (!?resource)",
         "!?resource",
         "?resource",
@@ -155,7 +158,7 @@ fn expressions_are_walked() {
         "unknown(\"u\")",
         "?resource",
     ];
-    assert_eq!(all, due);
+    assert_eq!(texts, expected);
     assert_eq!(
         expr.slots().iter().map(|s| s.id).collect::<Vec<_>>(),
         [slot, slot]
@@ -167,7 +170,7 @@ fn expressions_are_walked() {
 }
 
 #[test]
-fn what_differs_is_told_apart() {
+fn different_values_are_not_equal() {
     let values = [
         Value::from(true),
         Value::from(1),
@@ -190,35 +193,39 @@ fn what_differs_is_told_apart() {
         values.iter().cloned().collect::<HashSet<_>>().len(),
         values.len()
     );
-    for (place, one) in values.iter().enumerate() {
+    for (place, value) in values.iter().enumerate() {
         for (other_place, other) in values.iter().enumerate() {
-            assert_eq!(one == other, place == other_place, "{one} {other}");
-            assert_eq!(one.cmp(other), other.cmp(one).reverse(), "{one} {other}");
+            assert_eq!(value == other, place == other_place, "{value} {other}");
+            assert_eq!(
+                value.cmp(other),
+                other.cmp(value).reverse(),
+                "{value} {other}"
+            );
         }
     }
     assert!(
-        matches!(&values[3].value, ValueKind::Lit(Literal::EntityUID(own)) if **own == uid("a"))
+        matches!(&values[3].value, ValueKind::Lit(Literal::EntityUID(entity_uid)) if **entity_uid == uid("a"))
     );
 }
 
-fn hash_of(thing: &impl Hash) -> u64 {
+fn hash_of(item: &impl Hash) -> u64 {
     let mut hasher = DefaultHasher::new();
-    thing.hash(&mut hasher);
+    item.hash(&mut hasher);
     hasher.finish()
 }
 
 #[test]
-fn drawn_values_cross() {
+fn random_values_are_returned_unchanged() {
     let dice = &mut Dice::new(1);
     let (mut equal, mut before) = (0, Value::from(1));
     for _ in 0..3000 {
-        let value = drawn::value(dice, 4);
-        let PartialValue::Value(told) = crossed(value.clone()) else {
+        let value = random::value(dice, 4);
+        let PartialValue::Value(returned) = round_trip(value.clone()) else {
             panic!("the library returns a value");
         };
-        assert_eq!((&told, hash_of(&told)), (&value, hash_of(&value)));
+        assert_eq!((&returned, hash_of(&returned)), (&value, hash_of(&value)));
         assert_eq!(
-            (told.to_string(), told.cmp(&before)),
+            (returned.to_string(), returned.cmp(&before)),
             (value.to_string(), value.cmp(&before))
         );
         equal += usize::from(value == before);
@@ -229,16 +236,16 @@ fn drawn_values_cross() {
 }
 
 #[test]
-fn drawn_expressions_cross() {
+fn random_expressions_are_returned_unchanged() {
     let dice = &mut Dice::new(2);
     for _ in 0..3000 {
-        let (expr, other) = (drawn::expr(dice, 4), drawn::expr(dice, 4));
-        let PartialValue::Residual(told) = crossed(expr.clone()) else {
+        let (expr, other) = (random::expr(dice, 4), random::expr(dice, 4));
+        let PartialValue::Residual(returned) = round_trip(expr.clone()) else {
             panic!("the library returns an expression");
         };
-        assert_eq!((&told, hash_of(&told)), (&expr, hash_of(&expr)));
+        assert_eq!((&returned, hash_of(&returned)), (&expr, hash_of(&expr)));
         assert_eq!(
-            (told.to_string(), told == other),
+            (returned.to_string(), returned == other),
             (expr.to_string(), expr == other)
         );
     }
@@ -262,39 +269,39 @@ fn deep_expr(levels: usize) -> Expr {
 }
 
 #[test]
-fn a_thousand_levels_cross_and_no_more() {
-    let at = |levels| WRAPS.map(|wrap| PartialValue::from(deep(levels, wrap)));
-    for term in at(1000)
+fn at_most_a_thousand_levels_are_accepted() {
+    let terms = |levels| WRAPS.map(|wrap| PartialValue::from(deep(levels, wrap)));
+    for term in terms(1000)
         .into_iter()
         .chain([PartialValue::from(deep_expr(1000))])
     {
-        assert_eq!(crossed(term.clone()), term);
+        assert_eq!(round_trip(term.clone()), term);
     }
-    let mut held = store("q");
-    for term in at(1001)
+    let mut entities = store("q");
+    for term in terms(1001)
         .into_iter()
         .chain([PartialValue::from(deep_expr(1001))])
     {
         let entity = Entity::with_uid(uid("a")).with_tag("k", term);
-        refused(held.add([&entity], NOW), Reason::TooDeep, "too deep");
-        refused(held.upsert([&entity], NOW), Reason::TooDeep, "too deep");
-        refused(
-            held.clone().add_entities([&entity], NOW),
+        assert_error(entities.add([&entity], NOW), Reason::TooDeep, "too deep");
+        assert_error(entities.upsert([&entity], NOW), Reason::TooDeep, "too deep");
+        assert_error(
+            entities.clone().add_entities([&entity], NOW),
             Reason::TooDeep,
             "too deep",
         );
-        refused(entity.validate(), Reason::TooDeep, "too deep");
+        assert_error(entity.validate(), Reason::TooDeep, "too deep");
         match Entities::from_entities([entity], NOW) {
-            Err(EntitiesError::Refused(refusal)) => assert_eq!(refusal.reason(), Reason::TooDeep),
+            Err(EntitiesError::Other(error)) => assert_eq!(error.reason(), Reason::TooDeep),
             other => panic!("{other:?}"),
         }
         // an error leaves the store unchanged
-        assert_eq!(short::held(&held, "aq"), "q");
+        assert_eq!(short::entity_names(&entities, "aq"), "q");
     }
 }
 
 // Runs a test on a thread with a small stack, which deep recursion would overflow.
-fn with_little_room(test: fn()) {
+fn with_small_stack(test: fn()) {
     let thread = std::thread::Builder::new().stack_size(128 * 1024);
     thread.spawn(test).unwrap().join().unwrap();
 }
@@ -302,48 +309,48 @@ fn with_little_room(test: fn()) {
 const HOSTILE: usize = 200_000;
 
 #[test]
-fn values_of_any_depth_are_carried() {
-    with_little_room(|| {
+fn values_of_any_depth_are_possible_outside_a_store() {
+    with_small_stack(|| {
         for wrap in WRAPS {
-            let (value, again) = (deep(HOSTILE, wrap), deep(HOSTILE, wrap));
+            let (value, equal) = (deep(HOSTILE, wrap), deep(HOSTILE, wrap));
             let other = wrap(value.clone());
-            assert!(value == again && value != other && value < other);
-            assert_eq!(hash_of(&value), hash_of(&again));
+            assert!(value == equal && value != other && value < other);
+            assert_eq!(hash_of(&value), hash_of(&equal));
             assert!(
                 value.to_string().len() >= 2 * HOSTILE - 1 && format!("{value:?}").len() > HOSTILE
             );
-            let pair = set([value.clone(), again, other.clone()]);
+            let pair = set([value.clone(), equal, other.clone()]);
             assert!(matches!(&pair.value, ValueKind::Set(elements) if elements.len() == 2));
             let entity = Entity::with_uid(uid("a")).with_attr("k", pair);
-            refused(entity.validate(), Reason::TooDeep, "too deep");
+            assert_error(entity.validate(), Reason::TooDeep, "too deep");
             drop((value, other));
         }
     });
 }
 
 #[test]
-fn expressions_of_any_depth_are_carried() {
-    with_little_room(|| {
-        let (expr, again) = (deep_expr(HOSTILE), deep_expr(HOSTILE));
-        assert!(expr == again && expr != Expr::not(expr.clone()));
-        assert_eq!(hash_of(&expr), hash_of(&again));
+fn expressions_of_any_depth_are_possible_outside_a_store() {
+    with_small_stack(|| {
+        let (expr, equal) = (deep_expr(HOSTILE), deep_expr(HOSTILE));
+        assert!(expr == equal && expr != Expr::not(expr.clone()));
+        assert_eq!(hash_of(&expr), hash_of(&equal));
         assert!(expr.to_string().len() > HOSTILE && expr.subexpressions().len() > HOSTILE);
         let entity = Entity::with_uid(uid("a")).with_attr("k", expr);
-        refused(entity.validate(), Reason::TooDeep, "too deep");
+        assert_error(entity.validate(), Reason::TooDeep, "too deep");
     });
 }
 
 #[test]
-fn what_is_shared_is_let_go_of_once() {
-    with_little_room(|| {
+fn shared_values_are_freed_once() {
+    with_small_stack(|| {
         let inner = deep(HOSTILE, WRAPS[0]);
         let outer = (0..1000).fold(inner.clone(), |value, _| {
             set([value.clone(), record([("k", value)])])
         });
-        let again = outer.clone();
+        let shared = outer.clone();
         drop(outer);
-        assert!(again == again.clone());
-        drop(again);
+        assert!(shared == shared.clone());
+        drop(shared);
         assert_eq!(inner, deep(HOSTILE, WRAPS[0]));
     });
 }

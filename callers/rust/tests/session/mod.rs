@@ -5,7 +5,7 @@ use cedar_store_proved::ast::{
     Template, Value, Var,
 };
 use cedar_store_proved::entities::{Dereference, Entities, StoredEntity, TCComputation};
-use cedar_store_proved::{Reason, Refusal, Slots};
+use cedar_store_proved::{Error, Reason, Slots};
 use std::fmt;
 
 /// A generator of pseudorandom numbers. The same seed always gives the same numbers.
@@ -24,17 +24,17 @@ impl Dice {
     }
 
     /// Returns a number below `end`.
-    pub fn below(&mut self, end: usize) -> usize {
+    pub fn number(&mut self, end: usize) -> usize {
         (self.next() % end as u64) as usize
     }
 
-    fn one<T: Copy>(&mut self, of: &[T]) -> T {
-        of[self.below(of.len())]
+    fn pick<T: Copy>(&mut self, items: &[T]) -> T {
+        items[self.number(items.len())]
     }
 
-    fn some<T: Copy>(&mut self, of: &[T], least: usize, most: usize) -> Vec<T> {
-        let count = least + self.below(most + 1 - least);
-        (0..count).map(|_| self.one(of)).collect()
+    fn pick_many<T: Copy>(&mut self, items: &[T], least: usize, most: usize) -> Vec<T> {
+        let count = least + self.number(most + 1 - least);
+        (0..count).map(|_| self.pick(items)).collect()
     }
 }
 
@@ -107,58 +107,58 @@ const NO_LINES: [&str; 6] = [
 ];
 
 fn bindings(dice: &mut Dice) -> [Option<Uid>; 3] {
-    let bound = dice.one(&[0, 1, 2, 4, 5, 7]);
-    let mut slot = |bit: usize| (bound & bit != 0).then(|| dice.one(&UIDS));
+    let bound = dice.pick(&[0, 1, 2, 4, 5, 7]);
+    let mut slot = |bit: usize| (bound & bit != 0).then(|| dice.pick(&UIDS));
     [slot(1), slot(2), slot(4)]
 }
 
 // Returns an entity. Most of its parents are later in the list, so cycles are rare.
 fn entity(dice: &mut Dice) -> Line {
-    let at = dice.below(UIDS.len());
-    let above = match dice.below(12) {
+    let at = dice.number(UIDS.len());
+    let parents = match dice.number(12) {
         0 => &UIDS[..],
         _ if at + 1 < UIDS.len() => &UIDS[at + 1..],
         _ => return Line::Ent(UIDS[at], Vec::new()),
     };
-    Line::Ent(UIDS[at], dice.some(above, 0, 2))
+    Line::Ent(UIDS[at], dice.pick_many(parents, 0, 2))
 }
 
 impl Line {
     /// Returns a line on a store.
     fn of_store(dice: &mut Dice) -> Line {
-        match dice.below(24) {
+        match dice.number(24) {
             0..=11 => entity(dice),
             12 => Line::Build,
             13..=14 => Line::Add,
             15..=17 => Line::Upsert,
-            18 => Line::Remove(dice.some(&UIDS, 1, 3), dice.one(&MODES)),
-            19 => Line::Slice(dice.some(&UIDS, 2, 4)),
-            _ => Line::Anc(dice.one(&UIDS)),
+            18 => Line::Remove(dice.pick_many(&UIDS, 1, 3), dice.pick(&MODES)),
+            19 => Line::Slice(dice.pick_many(&UIDS, 2, 4)),
+            _ => Line::Anc(dice.pick(&UIDS)),
         }
     }
 
     /// Returns a line on policy sets.
     fn of_sets(dice: &mut Dice) -> Line {
-        let id = dice.one(&IDS);
-        match dice.below(14) {
-            0..=1 => Line::Static(id, dice.below(2) == 0, dice.below(2) == 0),
+        let id = dice.pick(&IDS);
+        match dice.number(14) {
+            0..=1 => Line::Static(id, dice.number(2) == 0, dice.number(2) == 0),
             2..=4 => {
-                let (word, slots) = dice.one(&TEMPLATES);
-                Line::Template(dice.one(&IDS[1..5]), word, slots, dice.below(2) == 0)
+                let (word, slots) = dice.pick(&TEMPLATES);
+                Line::Template(dice.pick(&IDS[1..5]), word, slots, dice.number(2) == 0)
             }
-            5..=8 => Line::Link(dice.one(&IDS[1..5]), id, bindings(dice)),
+            5..=8 => Line::Link(dice.pick(&IDS[1..5]), id, bindings(dice)),
             9 => Line::Unlink(id),
             10 => Line::Other,
-            11..=12 => Line::Merge(dice.below(2) == 0),
+            11..=12 => Line::Merge(dice.number(2) == 0),
             _ => Line::Ids,
         }
     }
 
     /// Returns any line. Empty lines are rare, and lines that are not a command are even rarer.
-    pub fn drawn(dice: &mut Dice) -> Line {
-        match dice.below(400) {
+    pub fn random(dice: &mut Dice) -> Line {
+        match dice.number(400) {
             0..=7 => Line::Empty,
-            8 => Line::None(dice.one(&NO_LINES)),
+            8 => Line::None(dice.pick(&NO_LINES)),
             9..=220 => Line::of_store(dice),
             _ => Line::of_sets(dice),
         }
@@ -185,9 +185,9 @@ impl fmt::Display for Line {
             Line::Template(id, word, ..) => write!(f, "template\t{id}\t{word}"),
             Line::Link(template, id, values) => {
                 write!(f, "link\t{template}\t{id}")?;
-                let named = ["principal", "action", "resource"].into_iter().zip(values);
+                let slots = ["principal", "action", "resource"].into_iter().zip(values);
                 let bound =
-                    named.filter_map(|(slot, uid)| uid.map(|uid| format!("\t{slot}={uid}")));
+                    slots.filter_map(|(slot, uid)| uid.map(|uid| format!("\t{slot}={uid}")));
                 f.write_str(&bound.collect::<String>())
             }
             Line::Unlink(id) => write!(f, "unlink\t{id}"),
@@ -222,77 +222,82 @@ fn uid(text: Uid) -> EntityUID {
 // Adds attributes and tags to every second uid. They depend only on the uid, so the output of a session does not depend
 // on them.
 fn with_content(entity: Entity) -> Entity {
-    let own = entity.uid().clone();
-    let text = own.to_string();
+    let uid = entity.uid().clone();
+    let text = uid.to_string();
     if text.len() % 2 == 0 {
         return entity;
     }
     let number = text.len() as i64;
-    let some = [
+    let values = [
         Value::from(number),
         Value::from(text.as_str()),
-        Value::from(own.clone()),
+        Value::from(uid.clone()),
     ];
     let record = [
-        ("own", Value::from(own)),
-        ("", Value::set(some.clone(), None)),
+        ("uid", Value::from(uid)),
+        ("", Value::set(values.clone(), None)),
     ];
-    let left_over = Expr::is_eq(Expr::var(Var::Context), Expr::val(number));
+    let residual = Expr::is_eq(Expr::var(Var::Context), Expr::val(number));
     entity
         .with_attr("it's", Value::from(true))
         .with_attr("record", Value::record(record, None))
-        .with_tag("set", Value::set(some, None))
-        .with_tag("left over", left_over)
+        .with_tag("set", Value::set(values, None))
+        .with_tag("residual", residual)
 }
 
 // Asserts that the entity in the store has the attributes and tags that were passed to the library.
 fn check_content(stored: &StoredEntity<'_>) {
-    let due = with_content(Entity::with_uid(stored.uid().clone()));
+    let expected = with_content(Entity::with_uid(stored.uid().clone()));
     assert_eq!(
         (stored.attrs_len(), stored.tags_len()),
-        (due.attrs_len(), due.tags_len())
+        (expected.attrs_len(), expected.tags_len())
     );
-    for (key, value) in due.attrs() {
+    for (key, value) in expected.attrs() {
         assert_eq!(stored.get(key), Some(value));
     }
-    for (key, value) in due.tags() {
+    for (key, value) in expected.tags() {
         assert_eq!(stored.get_tag(key), Some(value));
     }
 }
 
 // Returns the text of an error as the program writes it.
-fn told(refusal: impl Into<Refusal>) -> String {
-    let refusal = refusal.into();
-    let text = refusal.to_string();
-    let named = |words: &str| {
-        text.strip_prefix(words)
-            .expect("the words of a reason")
+fn error_line(error: impl Into<Error>) -> String {
+    let error = error.into();
+    let text = error.to_string();
+    let names_after = |prefix: &str| {
+        text.strip_prefix(prefix)
+            .expect("the text begins with the reason")
             .to_string()
     };
-    match refusal.reason() {
-        Reason::Duplicate => format!("refused: duplicate {}\n", named("duplicate entity ")),
+    match error.reason() {
+        Reason::Duplicate => format!("refused: duplicate {}\n", names_after("duplicate entity ")),
         Reason::Cycle => String::from("refused: cycle\n"),
         Reason::Occupied | Reason::IdConflict => {
-            format!("refused: occupied {}\n", escaped(&named("occupied ")))
+            format!("refused: occupied {}\n", escaped(&names_after("occupied ")))
         }
         Reason::NoSuchTemplate => format!(
             "refused: no template {}\n",
-            escaped(&named("no template to link "))
+            escaped(&names_after("no template to link "))
         ),
         Reason::Arity => String::from("refused: arity\n"),
-        Reason::NotAnAction => format!("refused: not an action {}\n", named("not an action ")),
-        Reason::NoLink => format!("refused: no link {}\n", escaped(&named("no link "))),
-        Reason::NotALink => format!("refused: not a link {}\n", escaped(&named("not a link "))),
-        _ => panic!("{refusal:?}"),
+        Reason::NotAnAction => {
+            format!("refused: not an action {}\n", names_after("not an action "))
+        }
+        Reason::NoLink => format!("refused: no link {}\n", escaped(&names_after("no link "))),
+        Reason::NotALink => format!(
+            "refused: not a link {}\n",
+            escaped(&names_after("not a link "))
+        ),
+        _ => panic!("{error:?}"),
     }
 }
 
-fn well<T, E: Into<Refusal>>(given: Result<T, E>) -> String {
-    given.map_or_else(told, |_| String::from("ok\n"))
+fn status_line<T, E: Into<Error>>(result: Result<T, E>) -> String {
+    result.map_or_else(error_line, |_| String::from("ok\n"))
 }
 
 // Returns a template as the program creates it. Each variable with a slot must be equal to the bound uid.
-fn whole(id: &str, effect: Effect, slots: Slots) -> Template {
+fn body(id: &str, effect: Effect, slots: Slots) -> Template {
     let principal = match slots.principal {
         true => PrincipalConstraint::is_eq_slot(),
         false => PrincipalConstraint::any(),
@@ -317,22 +322,22 @@ fn tabbed(word: &str, fields: impl IntoIterator<Item = impl fmt::Display>) -> St
 impl Session {
     // Returns the output of a call on the store. After a success, asserts that the other modes build the same store
     // from all of its ancestors.
-    fn counted(&mut self, given: Result<(), Refusal>) -> String {
-        match given {
+    fn count_line(&mut self, result: Result<(), Error>) -> String {
+        match result {
             Ok(()) => {
                 self.check_modes();
                 format!("ok {}\n", self.store.len())
             }
-            Err(refusal) => {
+            Err(error) => {
                 // After an error, the store of the program is empty, but the store of the crate is unchanged.
                 self.store = Entities::new();
-                told(refusal)
+                error_line(error)
             }
         }
     }
 
     fn check_modes(&self) {
-        let rows: Vec<Entity> = self
+        let entities: Vec<Entity> = self
             .store
             .iter()
             .map(|entity| {
@@ -340,14 +345,14 @@ impl Session {
                 with_content(Entity::with_uid(entity.uid().clone()).with_parents(parents))
             })
             .collect();
-        assert_eq!(rows.len(), self.store.len());
+        assert_eq!(entities.len(), self.store.len());
         for mode in MODES {
-            let again = Entities::from_entities(&rows, mode).unwrap();
-            assert!(again.deep_eq(&self.store) && self.store.deep_eq(&again));
+            let rebuilt = Entities::from_entities(&entities, mode).unwrap();
+            assert!(rebuilt.deep_eq(&self.store) && self.store.deep_eq(&rebuilt));
         }
     }
 
-    fn built(&mut self) -> Result<(), Refusal> {
+    fn build(&mut self) -> Result<(), Error> {
         let waiting = std::mem::take(&mut self.waiting);
         self.store = Entities::new();
         self.store = Entities::from_entities(&waiting, TCComputation::ComputeNow)?;
@@ -355,10 +360,10 @@ impl Session {
     }
 
     // Removes entities. Asserts that the result is the same in each mode.
-    fn removed(&mut self, uids: &[Uid], mode: TCComputation) -> Result<(), Refusal> {
+    fn remove(&mut self, uids: &[Uid], mode: TCComputation) -> Result<(), Error> {
         let computed = self.store.try_clone()?;
-        let gone = uids.iter().map(|text| uid(text));
-        let computed = computed.remove_entities(gone, TCComputation::ComputeNow)?;
+        let removed = uids.iter().map(|text| uid(text));
+        let computed = computed.remove_entities(removed, TCComputation::ComputeNow)?;
         self.store.remove(uids, mode)?;
         assert!(computed.deep_eq(&self.store));
         Ok(())
@@ -366,10 +371,10 @@ impl Session {
 
     // Returns the output of a query of ancestors. Asserts that the entity is a descendant of exactly its ancestors, and
     // that its parents are among them.
-    fn asked(&self, uid: Uid) -> String {
+    fn ancestors_line(&self, uid: Uid) -> String {
         let Dereference::Data(entity) = self.store.entity(&self::uid(uid)) else {
-            let refusal = self.store.ancestors(uid).unwrap_err();
-            assert_eq!(refusal.reason(), Reason::NoEntity);
+            let error = self.store.ancestors(uid).unwrap_err();
+            assert_eq!(error.reason(), Reason::NoEntity);
             return String::from("no entity\n");
         };
         check_content(&entity);
@@ -381,41 +386,41 @@ impl Session {
             .iter()
             .eq(ancestors.iter().copied()));
         for other in UIDS.map(self::uid) {
-            let above = ancestors.contains(&&other);
-            assert_eq!(entity.is_descendant_of(&other), above);
+            let is_descendant = ancestors.contains(&&other);
+            assert_eq!(entity.is_descendant_of(&other), is_descendant);
             let is_child = entity.is_child_of(&other);
-            assert_eq!(is_child, entity.parents().any(|one| *one == other));
-            let is_far_below = entity.is_indirect_descendant_of(&other);
+            assert_eq!(is_child, entity.parents().any(|uid| *uid == other));
+            let is_indirect = entity.is_indirect_descendant_of(&other);
             assert_eq!(
-                is_far_below,
-                entity.indirect_ancestors().any(|one| *one == other)
+                is_indirect,
+                entity.indirect_ancestors().any(|uid| *uid == other)
             );
-            assert_eq!(above, is_child || is_far_below);
+            assert_eq!(is_descendant, is_child || is_indirect);
         }
         tabbed("anc", ancestors)
     }
 
     fn entities(&mut self, line: &Line) -> Option<String> {
         let now = TCComputation::ComputeNow;
-        let given = match line {
-            Line::Ent(own, parents) => {
+        let result = match line {
+            Line::Ent(name, parents) => {
                 let parents = parents.iter().map(|text| uid(text));
-                let entity = Entity::with_uid(uid(own)).with_parents(parents);
+                let entity = Entity::with_uid(uid(name)).with_parents(parents);
                 self.waiting.push(with_content(entity));
                 return Some(String::new());
             }
-            Line::Anc(uid) => return Some(self.asked(uid)),
-            Line::Build => self.built(),
+            Line::Anc(uid) => return Some(self.ancestors_line(uid)),
+            Line::Build => self.build(),
             Line::Add => self.store.add(std::mem::take(&mut self.waiting), now),
             Line::Upsert => self.store.upsert(std::mem::take(&mut self.waiting), now),
-            Line::Remove(uids, mode) => self.removed(uids, *mode),
+            Line::Remove(uids, mode) => self.remove(uids, *mode),
             Line::Slice(uids) => self.store.slice(uids).map(|slice| self.store = slice),
             _ => return None,
         };
-        Some(self.counted(given))
+        Some(self.count_line(result))
     }
 
-    fn merged(&mut self, rename: bool) -> String {
+    fn merge(&mut self, rename: bool) -> String {
         let before = self.set.try_clone().unwrap();
         match self.set.merge_policyset(&self.aside, rename) {
             Ok(renaming) => {
@@ -424,9 +429,9 @@ impl Session {
                     .flat_map(|(old, new)| [old.to_string(), new.to_string()]);
                 tabbed("ok", ids)
             }
-            Err(refusal) => {
+            Err(error) => {
                 assert!(self.set == before);
-                told(refusal)
+                error_line(error)
             }
         }
     }
@@ -435,16 +440,16 @@ impl Session {
         &mut self,
         id: &str,
         permits: bool,
-        is_whole: bool,
+        has_body: bool,
     ) -> Result<(), PolicySetError> {
         let effect = match permits {
             true => Effect::Permit,
             false => Effect::Forbid,
         };
-        if !is_whole {
+        if !has_body {
             return self.set.bind_static(id, effect);
         }
-        let policy = StaticPolicy::try_from(whole(id, effect, Slots::none()));
+        let policy = StaticPolicy::try_from(body(id, effect, Slots::none()));
         let policy = policy.expect("the policy has no slots");
         match id.len() % 2 {
             0 => self.set.add_static(policy),
@@ -454,26 +459,28 @@ impl Session {
 
     fn policies(&mut self, line: &Line) -> Option<String> {
         Some(match line {
-            Line::Static(id, permits, is_whole) => well(self.add_static(id, *permits, *is_whole)),
+            Line::Static(id, permits, has_body) => {
+                status_line(self.add_static(id, *permits, *has_body))
+            }
             Line::Template(id, _, slots, false) => {
-                well(self.set.bind_template(id, Effect::Permit, *slots))
+                status_line(self.set.bind_template(id, Effect::Permit, *slots))
             }
             Line::Template(id, _, slots, true) => {
-                well(self.set.add_template(whole(id, Effect::Permit, *slots)))
+                status_line(self.set.add_template(body(id, Effect::Permit, *slots)))
             }
             Line::Link(template, id, [principal, action, resource]) => {
                 let bound = SlotId::ALL.into_iter().zip([principal, action, resource]);
                 let values: SlotEnv = bound
                     .filter_map(|(slot, text)| text.map(|text| (slot, uid(text))))
                     .collect();
-                well(self.set.link(template, id, values))
+                status_line(self.set.link(template, id, values))
             }
-            Line::Unlink(id) => well(self.set.unlink(&PolicyID::from_string(id))),
+            Line::Unlink(id) => status_line(self.set.unlink(&PolicyID::from_string(id))),
             Line::Other => {
                 std::mem::swap(&mut self.set, &mut self.aside);
                 String::from("ok\n")
             }
-            Line::Merge(rename) => self.merged(*rename),
+            Line::Merge(rename) => self.merge(*rename),
             Line::Ids => {
                 let bodies = tabbed("bodies", self.set.all_templates().map(|body| body.id()));
                 bodies + &tabbed("policies", self.set.policies().map(|policy| policy.id()))
@@ -484,9 +491,9 @@ impl Session {
     }
 
     /// Returns the output of a line. Returns `None` if the line is not a command.
-    pub fn taken(&mut self, line: &Line) -> Option<String> {
+    pub fn run_line(&mut self, line: &Line) -> Option<String> {
         match self.entities(line) {
-            Some(written) => Some(written),
+            Some(output) => Some(output),
             None => self.policies(line),
         }
     }

@@ -2,20 +2,20 @@
 #![allow(dead_code)]
 use cedar_store_proved::ast::{Effect, Entity, EntityUID, PolicyID, PolicySet, SlotEnv, SlotId};
 use cedar_store_proved::entities::{Entities, TCComputation};
-use cedar_store_proved::{Reason, Refusal, Renaming, Slots};
+use cedar_store_proved::{Error, Reason, Renaming, Slots};
 
 pub const NOW: TCComputation = TCComputation::ComputeNow;
 pub const ENFORCE: TCComputation = TCComputation::EnforceAlreadyComputed;
 pub const ASSUME: TCComputation = TCComputation::AssumeAlreadyComputed;
 
 /// Parses a uid.
-pub fn read(text: &str) -> EntityUID {
+pub fn parse_uid(text: &str) -> EntityUID {
     EntityUID::from_normalized_str(text).expect("a uid")
 }
 
 /// Returns the uid with this name.
 pub fn uid(name: impl std::fmt::Display) -> EntityUID {
-    read(&format!("A::\"{name}\""))
+    parse_uid(&format!("A::\"{name}\""))
 }
 
 /// Returns the uids with these names of one letter.
@@ -25,16 +25,16 @@ pub fn uids(names: &str) -> Vec<EntityUID> {
 
 /// Returns entities by their names, each followed by the names of its parents. For example, `a bc;b` is an entity a
 /// with the parents b and c, and an entity b.
-pub fn listed(spec: &str) -> Vec<Entity> {
-    let entities = spec.split(';').filter(|one| !one.is_empty());
+pub fn parse_entities(spec: &str) -> Vec<Entity> {
+    let entities = spec.split(';').filter(|spec| !spec.is_empty());
     entities
-        .map(|one| Entity::with_uid(uid(&one[..1])).with_parents(uids(one[1..].trim())))
+        .map(|spec| Entity::with_uid(uid(&spec[..1])).with_parents(uids(spec[1..].trim())))
         .collect()
 }
 
 /// Returns a store of such entities, with computed ancestors.
 pub fn store(spec: &str) -> Entities {
-    Entities::from_entities(listed(spec), NOW).unwrap()
+    Entities::from_entities(parse_entities(spec), NOW).unwrap()
 }
 
 // Returns the names of uids, concatenated.
@@ -44,17 +44,20 @@ fn names(uids: Vec<EntityUID>) -> String {
 
 /// Returns the names of an entity's ancestors, in order. Asserts that the entity is a descendant of the ancestors and
 /// not of other uids.
-pub fn above(store: &Entities, name: &str) -> String {
+pub fn ancestors(store: &Entities, name: &str) -> String {
     let ancestors = store.ancestors(uid(name)).unwrap();
     let entity = store.entity(&uid(name)).unwrap();
     assert!(entity.ancestors_in_order().eq(&ancestors));
     for other in ancestors.iter().cloned().chain(uids("abcdefghxyz")) {
-        let is_above = ancestors.contains(&other);
-        assert_eq!(store.is_descendant_of(uid(name), &other).unwrap(), is_above);
+        let is_ancestor = ancestors.contains(&other);
+        assert_eq!(
+            store.is_descendant_of(uid(name), &other).unwrap(),
+            is_ancestor
+        );
         assert_eq!(
             entity.is_descendant_of(&other),
-            is_above,
-            "{name} below {other}"
+            is_ancestor,
+            "{name} is a descendant of {other}"
         );
     }
     names(ancestors)
@@ -65,50 +68,48 @@ pub fn parents(store: &Entities, name: &str) -> String {
     names(store.parents(uid(name)).unwrap())
 }
 
-/// Returns the names of the entities that the store contains, in the order of `of`.
-pub fn held(store: &Entities, of: &str) -> String {
-    of.chars()
+/// Returns the names of the entities that the store contains, in the order of `candidates`.
+pub fn entity_names(store: &Entities, candidates: &str) -> String {
+    candidates
+        .chars()
         .filter(|name| store.contains(uid(name)).unwrap())
         .collect()
 }
 
-pub fn added(store: Entities, spec: &str) -> Result<Entities, Refusal> {
-    Ok(store.add_entities(listed(spec), NOW)?)
+pub fn add(store: Entities, spec: &str) -> Result<Entities, Error> {
+    Ok(store.add_entities(parse_entities(spec), NOW)?)
 }
 
-pub fn upserted(store: Entities, spec: &str, mode: TCComputation) -> Result<Entities, Refusal> {
-    Ok(store.upsert_entities(listed(spec), mode)?)
+pub fn upsert(store: Entities, spec: &str, mode: TCComputation) -> Result<Entities, Error> {
+    Ok(store.upsert_entities(parse_entities(spec), mode)?)
 }
 
-pub fn removed(store: Entities, names: &str, mode: TCComputation) -> Result<Entities, Refusal> {
+pub fn remove(store: Entities, names: &str, mode: TCComputation) -> Result<Entities, Error> {
     Ok(store.remove_entities(uids(names), mode)?)
 }
 
 /// Asserts that a call returned an error with this reason and this text.
-pub fn refused<T, E: Into<Refusal>>(given: Result<T, E>, reason: Reason, text: &str) {
-    let refusal: Refusal = given.err().expect("an error").into();
-    assert_eq!(
-        (refusal.reason(), refusal.to_string().as_str()),
-        (reason, text)
-    );
+pub fn assert_error<T, E: Into<Error>>(result: Result<T, E>, reason: Reason, text: &str) {
+    let error: Error = result.err().expect("an error").into();
+    assert_eq!((error.reason(), error.to_string().as_str()), (reason, text));
 }
 
 /// Asserts that a call reported a cycle at one of these names.
-pub fn refused_for_cycle<T, E: Into<Refusal>>(given: Result<T, E>, of: &str) {
-    let refusal: Refusal = given.err().expect("an error").into();
-    assert_eq!(refusal.reason(), Reason::Cycle);
-    let texts: Vec<String> = uids(of)
+pub fn assert_cycle<T, E: Into<Error>>(result: Result<T, E>, names: &str) {
+    let error: Error = result.err().expect("an error").into();
+    assert_eq!(error.reason(), Reason::Cycle);
+    let texts: Vec<String> = uids(names)
         .iter()
         .map(|uid| format!("cycle at {uid}"))
         .collect();
-    assert!(texts.contains(&refusal.to_string()), "{refusal}");
+    assert!(texts.contains(&error.to_string()), "{error}");
 }
 
-/// Returns a set with items that are described as for `join`.
-pub fn set(words: &[&str]) -> PolicySet {
+/// Returns a set with items that are described as for `add_item`.
+pub fn set(specs: &[&str]) -> PolicySet {
     let mut set = PolicySet::new();
-    for word in words {
-        join(&mut set, word).unwrap();
+    for spec in specs {
+        add_item(&mut set, spec).unwrap();
     }
     set
 }
@@ -116,14 +117,14 @@ pub fn set(words: &[&str]) -> PolicySet {
 /// Adds an item to a set. The text is one of `permit ID`, `forbid ID`, `template ID SLOTS` and `link TEMPLATE ID
 /// SLOTS`. Slots are given by the letters p, a and r. The slots of a link are bound to `A::"x"`, `Action::"x"` and
 /// `A::"y"`.
-pub fn join(set: &mut PolicySet, word: &str) -> Result<(), Refusal> {
-    let fields: Vec<&str> = word.split(' ').collect();
+pub fn add_item(set: &mut PolicySet, spec: &str) -> Result<(), Error> {
+    let fields: Vec<&str> = spec.split(' ').collect();
     match fields[..] {
         ["permit", id] => set.bind_static(id, Effect::Permit)?,
         ["forbid", id] => set.bind_static(id, Effect::Forbid)?,
         ["template", id, slots] => set.bind_template(id, Effect::Permit, slots_of(slots))?,
         ["link", template, id, slots] => drop(set.link(template, id, bindings_of(slots))?),
-        _ => panic!("{word}"),
+        _ => panic!("{spec}"),
     }
     Ok(())
 }
@@ -135,7 +136,7 @@ pub fn id(text: &str) -> PolicyID {
 
 /// Returns bindings of one slot to the uid with this text.
 pub fn bound(slot: SlotId, uid: &str) -> SlotEnv {
-    SlotEnv::from([(slot, read(uid))])
+    SlotEnv::from([(slot, parse_uid(uid))])
 }
 
 pub fn slots_of(letters: &str) -> Slots {
@@ -152,10 +153,10 @@ pub fn bindings_of(letters: &str) -> SlotEnv {
         ('a', SlotId::Action, "Action::\"x\""),
         ('r', SlotId::Resource, "A::\"y\""),
     ];
-    let of = slots
+    let bound = slots
         .into_iter()
         .filter(|(letter, ..)| letters.contains(*letter));
-    of.map(|(_, slot, uid)| (slot, read(uid))).collect()
+    bound.map(|(_, slot, uid)| (slot, parse_uid(uid))).collect()
 }
 
 /// Returns the ids of bodies and the ids of policies, separated by spaces.
@@ -173,8 +174,8 @@ pub fn ids(set: &PolicySet) -> (String, String) {
 }
 
 /// Returns a renaming as a text: `a>b c>d`.
-pub fn renamed<E: std::fmt::Debug>(given: Result<Renaming, E>) -> String {
-    let texts: Vec<String> = given
+pub fn renaming_text<E: std::fmt::Debug>(result: Result<Renaming, E>) -> String {
+    let texts: Vec<String> = result
         .unwrap()
         .iter()
         .map(|(old, new)| format!("{old}>{new}"))

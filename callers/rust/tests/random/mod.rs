@@ -17,52 +17,52 @@ impl Dice {
     }
 
     /// Returns a number below `end`.
-    pub fn below(&mut self, end: usize) -> usize {
+    pub fn number(&mut self, end: usize) -> usize {
         self.0 ^= self.0 << 13;
         self.0 ^= self.0 >> 7;
         self.0 ^= self.0 << 17;
         (self.0.wrapping_mul(0x2545_F491_4F6C_DD1D) >> 33) as usize % end
     }
 
-    fn one<T: Clone>(&mut self, of: &[T]) -> T {
-        of[self.below(of.len())].clone()
+    fn pick<T: Clone>(&mut self, items: &[T]) -> T {
+        items[self.number(items.len())].clone()
     }
 }
 
 const TEXTS: [&str; 8] = ["", "a", "b", "it's", "é🦀", "a\0b", "\"\\\n", "\u{200b}"];
 
 fn name(dice: &mut Dice) -> Name {
-    Name::from_normalized_str(dice.one(&["ip", "decimal", "N::f"])).unwrap()
+    Name::from_normalized_str(dice.pick(&["ip", "decimal", "N::f"])).unwrap()
 }
 
 fn entity_type(dice: &mut Dice) -> EntityType {
-    EntityType::from_normalized_str(dice.one(&["User", "A::B"])).unwrap()
+    EntityType::from_normalized_str(dice.pick(&["User", "A::B"])).unwrap()
 }
 
 pub fn uid(dice: &mut Dice) -> EntityUID {
-    let ty = dice.one(&["A", "B", "N::A", "Action"]);
-    EntityUID::with_eid_and_type(ty, dice.one(&TEXTS)).unwrap()
+    let ty = dice.pick(&["A", "B", "N::A", "Action"]);
+    EntityUID::with_eid_and_type(ty, dice.pick(&TEXTS)).unwrap()
 }
 
 fn number(dice: &mut Dice) -> i64 {
-    dice.one(&[0, 1, -1, 7, i64::MIN, i64::MAX])
+    dice.pick(&[0, 1, -1, 7, i64::MIN, i64::MAX])
 }
 
 /// Returns a value with at most `depth` levels below the first one.
 pub fn value(dice: &mut Dice, depth: usize) -> Value {
-    let count = dice.below(4);
-    match dice.below(if depth > 0 { 8 } else { 5 }) {
-        0 => Value::from(dice.below(2) == 0),
+    let count = dice.number(4);
+    match dice.number(if depth > 0 { 8 } else { 5 }) {
+        0 => Value::from(dice.number(2) == 0),
         1 => Value::from(number(dice)),
-        2 => Value::from(dice.one(&TEXTS)),
+        2 => Value::from(dice.pick(&TEXTS)),
         3 => Value::from(uid(dice)),
         4 => Value::from(ExtensionValue {
             func: name(dice),
-            arg: dice.one(&TEXTS).into(),
+            arg: dice.pick(&TEXTS).into(),
         }),
         5 | 6 => Value::set((0..count).map(|_| value(dice, depth - 1)), None),
         _ => {
-            let pair = |_| (dice.one(&TEXTS), value(dice, depth - 1));
+            let pair = |_| (dice.pick(&TEXTS), value(dice, depth - 1));
             Value::record((0..count).map(pair), None)
         }
     }
@@ -70,21 +70,21 @@ pub fn value(dice: &mut Dice, depth: usize) -> Value {
 
 /// Returns an expression with at most `depth` levels below the first one.
 pub fn expr(dice: &mut Dice, depth: usize) -> Expr {
-    if depth == 0 || dice.below(4) == 0 {
-        return match dice.below(7) {
-            0 => Expr::val(dice.below(2) == 0),
+    if depth == 0 || dice.number(4) == 0 {
+        return match dice.number(7) {
+            0 => Expr::val(dice.number(2) == 0),
             1 => Expr::val(number(dice)),
-            2 => Expr::val(dice.one(&TEXTS)),
+            2 => Expr::val(dice.pick(&TEXTS)),
             3 => Expr::val(uid(dice)),
-            4 => Expr::var(dice.one(&[Var::Principal, Var::Action, Var::Resource, Var::Context])),
-            5 => Expr::slot(dice.one(&SlotId::ALL)),
+            4 => Expr::var(dice.pick(&[Var::Principal, Var::Action, Var::Resource, Var::Context])),
+            5 => Expr::slot(dice.pick(&SlotId::ALL)),
             _ => Expr::unknown(unknown(dice)),
         };
     }
-    let count = dice.below(3);
-    let mut below = || expr(dice, depth - 1);
-    let (left, right) = (below(), below());
-    match dice.below(7) {
+    let count = dice.number(3);
+    let mut operand = || expr(dice, depth - 1);
+    let (left, right) = (operand(), operand());
+    match dice.number(7) {
         0 => Expr::set((0..count).map(|_| expr(dice, depth - 1))),
         1 => Expr::call(name(dice), vec![left, right]),
         2 => Expr::not(left),
@@ -96,8 +96,8 @@ pub fn expr(dice: &mut Dice, depth: usize) -> Expr {
 }
 
 fn unknown(dice: &mut Dice) -> Unknown {
-    let name = dice.one(&TEXTS);
-    match dice.below(2) {
+    let name = dice.pick(&TEXTS);
+    match dice.number(2) {
         0 => Unknown::new_untyped(name),
         _ => Unknown::new_with_type(
             name,
@@ -110,7 +110,7 @@ fn unknown(dice: &mut Dice) -> Unknown {
 
 /// Returns a value, or in one of three cases an expression.
 pub fn term(dice: &mut Dice) -> PartialValue {
-    match dice.below(3) {
+    match dice.number(3) {
         0 => PartialValue::from(expr(dice, 3)),
         _ => PartialValue::from(value(dice, 3)),
     }
@@ -119,26 +119,26 @@ pub fn term(dice: &mut Dice) -> PartialValue {
 /// Returns an entity with any content. It is not its own ancestor.
 pub fn entity(dice: &mut Dice) -> Entity {
     let mut entity = Entity::with_uid(uid(dice));
-    for _ in 0..dice.below(4) {
-        entity = entity.with_attr(dice.one(&TEXTS), term(dice));
+    for _ in 0..dice.number(4) {
+        entity = entity.with_attr(dice.pick(&TEXTS), term(dice));
     }
-    for _ in 0..dice.below(3) {
-        entity = entity.with_tag(dice.one(&TEXTS), term(dice));
+    for _ in 0..dice.number(3) {
+        entity = entity.with_tag(dice.pick(&TEXTS), term(dice));
     }
-    for _ in 0..dice.below(3) {
+    for _ in 0..dice.number(3) {
         entity.add_parent(uid(dice));
         entity.add_indirect_ancestor(uid(dice));
     }
-    let own = entity.uid().clone();
-    entity.remove_parent(&own);
-    entity.remove_indirect_ancestor(&own);
+    let uid = entity.uid().clone();
+    entity.remove_parent(&uid);
+    entity.remove_indirect_ancestor(&uid);
     entity
 }
 
 /// Returns a constraint of any kind on a principal or a resource.
-pub fn asked(dice: &mut Dice) -> PrincipalOrResourceConstraint {
+pub fn constraint(dice: &mut Dice) -> PrincipalOrResourceConstraint {
     let (ty, euid) = (Arc::new(entity_type(dice)), Arc::new(uid(dice)));
-    match dice.below(8) {
+    match dice.number(8) {
         0 => PrincipalOrResourceConstraint::any(),
         1 => PrincipalOrResourceConstraint::is_eq(euid),
         2 => PrincipalOrResourceConstraint::is_eq_slot(),
@@ -151,9 +151,9 @@ pub fn asked(dice: &mut Dice) -> PrincipalOrResourceConstraint {
 }
 
 /// Returns a constraint of any kind on an action.
-pub fn asked_of_action(dice: &mut Dice) -> ActionConstraint {
-    let count = dice.below(4);
-    match dice.below(5) {
+pub fn action_constraint(dice: &mut Dice) -> ActionConstraint {
+    let count = dice.number(4);
+    match dice.number(5) {
         0 => ActionConstraint::any(),
         1 => ActionConstraint::is_eq(uid(dice)),
         2 => ActionConstraint::is_eq_slot(),
@@ -164,24 +164,24 @@ pub fn asked_of_action(dice: &mut Dice) -> ActionConstraint {
 
 pub fn annotations(dice: &mut Dice) -> Annotations {
     let pair = |dice: &mut Dice| {
-        let key = AnyId::from_normalized_str(dice.one(&["a", "if", "B", "_c", "owner"])).unwrap();
-        let val = Some(dice.one(&TEXTS).into());
+        let key = AnyId::from_normalized_str(dice.pick(&["a", "if", "B", "_c", "owner"])).unwrap();
+        let val = Some(dice.pick(&TEXTS).into());
         (key, Annotation::with_optional_value(val, None))
     };
-    (0..dice.below(4)).map(|_| pair(dice)).collect()
+    (0..dice.number(4)).map(|_| pair(dice)).collect()
 }
 
 /// Returns a template with any content.
 pub fn template(dice: &mut Dice, id: &PolicyID) -> Template {
-    let clause = (dice.below(3) > 0).then(|| expr(dice, 4));
+    let clause = (dice.number(3) > 0).then(|| expr(dice, 4));
     Template::new(
         id.clone(),
         None,
         annotations(dice),
-        dice.one(&[Effect::Permit, Effect::Forbid]),
-        PrincipalConstraint::new(asked(dice)),
-        asked_of_action(dice),
-        ResourceConstraint::new(asked(dice)),
+        dice.pick(&[Effect::Permit, Effect::Forbid]),
+        PrincipalConstraint::new(constraint(dice)),
+        action_constraint(dice),
+        ResourceConstraint::new(constraint(dice)),
         clause,
     )
 }
@@ -190,11 +190,11 @@ pub fn template(dice: &mut Dice, id: &PolicyID) -> Template {
 pub fn bindings(dice: &mut Dice, template: &Template) -> SlotEnv {
     let mut values = SlotEnv::new();
     for slot in SlotId::ALL {
-        let is_slot = template.slots().any(|one| one.id == slot);
-        if is_slot != (dice.below(10) == 0) {
-            let uid = match (slot, dice.below(5)) {
+        let is_slot = template.slots().any(|used| used.id == slot);
+        if is_slot != (dice.number(10) == 0) {
+            let uid = match (slot, dice.number(5)) {
                 (SlotId::Action, 1..) => {
-                    EntityUID::with_eid_and_type("N::Action", dice.one(&TEXTS)).unwrap()
+                    EntityUID::with_eid_and_type("N::Action", dice.pick(&TEXTS)).unwrap()
                 }
                 _ => uid(dice),
             };

@@ -1,7 +1,7 @@
 //! A cache of what was read from a set, from which references are returned until the set changes: ids in their order,
 //! and the policies and templates that were requested.
+use crate::error::Error;
 use crate::policy::{Policy, PolicyID};
-use crate::refusal::Refusal;
 use crate::template::Template;
 use std::cell::OnceCell;
 use std::collections::HashMap;
@@ -9,25 +9,25 @@ use std::iter::Flatten;
 use std::slice;
 use std::sync::Arc;
 
-/// Returns the value of a cell. Reads it with `told` if the cell is empty.
-pub(crate) fn kept<T>(
+/// Returns the value of a cell. Reads it with `init` if the cell is empty.
+pub(crate) fn get_or_try_init<T>(
     cell: &OnceCell<T>,
-    told: impl FnOnce() -> Result<T, Refusal>,
-) -> Result<&T, Refusal> {
+    init: impl FnOnce() -> Result<T, Error>,
+) -> Result<&T, Error> {
     match cell.get() {
-        Some(thing) => Ok(thing),
+        Some(item) => Ok(item),
         None => {
-            let thing = told()?;
-            Ok(cell.get_or_init(|| thing))
+            let item = init()?;
+            Ok(cell.get_or_init(|| item))
         }
     }
 }
 
 /// Items under ids, in insertion order. Each item is read when it is first requested.
 pub(crate) struct Listed<T> {
-    // `None` is the gap of a removed item. The number of gaps is at most the number of ids and `FEW`.
+    // `None` is the gap of a removed item. The number of gaps is at most the number of ids and `ALLOWED_GAPS`.
     ids: Vec<Option<PolicyID>>,
-    things: Vec<OnceCell<T>>,
+    items: Vec<OnceCell<T>>,
     places: HashMap<PolicyID, usize>,
 }
 
@@ -35,7 +35,7 @@ pub(crate) struct Listed<T> {
 pub(crate) type Ids<'a> = Flatten<slice::Iter<'a, Option<PolicyID>>>;
 
 // The number of gaps that are always accepted.
-const FEW: usize = 32;
+const ALLOWED_GAPS: usize = 32;
 
 impl<T> Listed<T> {
     /// Creates a list with these ids, of which no item was read.
@@ -43,7 +43,7 @@ impl<T> Listed<T> {
         let mut listed = Listed {
             places: HashMap::with_capacity(ids.len()),
             ids: Vec::new(),
-            things: Vec::new(),
+            items: Vec::new(),
         };
         for id in ids {
             listed.push(PolicyID::from_smolstr(id), OnceCell::new());
@@ -52,10 +52,10 @@ impl<T> Listed<T> {
     }
 
     /// Appends an item.
-    pub(crate) fn push(&mut self, id: PolicyID, thing: OnceCell<T>) {
+    pub(crate) fn push(&mut self, id: PolicyID, item: OnceCell<T>) {
         self.places.insert(id.clone(), self.ids.len());
         self.ids.push(Some(id));
-        self.things.push(thing);
+        self.items.push(item);
     }
 
     /// Removes the item with this id, if there is one. Closes the gaps if there are too many of them.
@@ -64,13 +64,13 @@ impl<T> Listed<T> {
             return;
         };
         self.ids[place] = None;
-        self.things[place] = OnceCell::new();
-        if self.ids.len() > 2 * self.places.len() + FEW {
+        self.items[place] = OnceCell::new();
+        if self.ids.len() > 2 * self.places.len() + ALLOWED_GAPS {
             let ids = std::mem::take(&mut self.ids).into_iter();
-            let things = std::mem::take(&mut self.things).into_iter();
-            for (id, thing) in ids.zip(things) {
+            let items = std::mem::take(&mut self.items).into_iter();
+            for (id, item) in ids.zip(items) {
                 if let Some(id) = id {
-                    self.push(id, thing);
+                    self.push(id, item);
                 }
             }
         }
@@ -88,28 +88,28 @@ impl<T> Listed<T> {
 
     /// Returns the cell of the item with this id, if there is one.
     pub(crate) fn at(&self, id: &PolicyID) -> Option<&OnceCell<T>> {
-        self.places.get(id).map(|place| &self.things[*place])
+        self.places.get(id).map(|place| &self.items[*place])
     }
 
     // Clears the cell of the item with this id.
     fn forget(&mut self, id: &PolicyID) {
         if let Some(place) = self.places.get(id) {
-            self.things[*place] = OnceCell::new();
+            self.items[*place] = OnceCell::new();
         }
     }
 }
 
 /// The cache of a set.
-pub(crate) struct Read {
+pub(crate) struct SetCache {
     pub(crate) bodies: Listed<Arc<Template>>,
     pub(crate) policies: Listed<Policy>,
     pub(crate) links: Listed<Vec<PolicyID>>,
 }
 
-impl Read {
+impl SetCache {
     /// Creates a cache with the ids of bodies and the ids of policies, of which no item was read.
-    pub(crate) fn of(bodies: Vec<String>, policies: Vec<String>) -> Read {
-        Read {
+    pub(crate) fn of(bodies: Vec<String>, policies: Vec<String>) -> SetCache {
+        SetCache {
             links: Listed::of(bodies.clone()),
             bodies: Listed::of(bodies),
             policies: Listed::of(policies),
@@ -193,7 +193,7 @@ impl Renaming {
 }
 
 // Returns references to both parts of a pair.
-fn lent(pair: &(PolicyID, PolicyID)) -> (&PolicyID, &PolicyID) {
+fn as_refs(pair: &(PolicyID, PolicyID)) -> (&PolicyID, &PolicyID) {
     (&pair.0, &pair.1)
 }
 
@@ -205,7 +205,7 @@ impl<'a> IntoIterator for &'a Renaming {
     >;
 
     fn into_iter(self) -> Self::IntoIter {
-        self.pairs.iter().map(lent)
+        self.pairs.iter().map(as_refs)
     }
 }
 

@@ -1,44 +1,48 @@
 //! Repeated queries whether an entity is a descendant of another, while the store changes. Each result is compared with
 //! a search over plain lists of parents. A store caches results of queries up to a bound, and no cached result survives
 //! an edit.
-mod drawn;
+mod random;
 mod short;
 use cedar_store_proved::ast::Entity;
 use cedar_store_proved::entities::Entities;
-use cedar_store_proved::{Reason, Refusal};
-use drawn::Dice;
+use cedar_store_proved::{Error, Reason};
+use random::Dice;
 use short::*;
 use std::collections::{BTreeMap, BTreeSet};
 
 // The parents of each entity.
-type Plain = BTreeMap<usize, Vec<usize>>;
+type ParentMap = BTreeMap<usize, Vec<usize>>;
 
 // Returns all ancestors of an entity.
-fn reached(plain: &Plain, from: usize) -> BTreeSet<usize> {
-    let mut all = BTreeSet::new();
-    let mut left = vec![from];
-    while let Some(one) = left.pop() {
-        for parent in plain.get(&one).into_iter().flatten() {
-            if all.insert(*parent) {
-                left.push(*parent);
+fn reached(parent_map: &ParentMap, from: usize) -> BTreeSet<usize> {
+    let mut ancestors = BTreeSet::new();
+    let mut pending = vec![from];
+    while let Some(entity) = pending.pop() {
+        for parent in parent_map.get(&entity).into_iter().flatten() {
+            if ancestors.insert(*parent) {
+                pending.push(*parent);
             }
         }
     }
-    all
+    ancestors
 }
 
 // Queries each pair, including a uid without an entity.
-fn asked(store: &Entities, plain: &Plain, size: usize) {
+fn check_queries(store: &Entities, parent_map: &ParentMap, size: usize) {
     for child in 0..size + 1 {
-        let above = reached(plain, child);
+        let ancestors = reached(parent_map, child);
         for ancestor in 0..size + 1 {
-            let told = store.is_descendant_of(uid(child), uid(ancestor));
-            let due = plain
+            let result = store.is_descendant_of(uid(child), uid(ancestor));
+            let expected = parent_map
                 .contains_key(&child)
-                .then(|| above.contains(&ancestor));
-            assert_eq!(told.as_ref().ok().copied(), due, "{child} below {ancestor}");
-            if due.is_none() {
-                assert_eq!(told.unwrap_err().reason(), Reason::NoEntity);
+                .then(|| ancestors.contains(&ancestor));
+            assert_eq!(
+                result.as_ref().ok().copied(),
+                expected,
+                "{child} is a descendant of {ancestor}"
+            );
+            if expected.is_none() {
+                assert_eq!(result.unwrap_err().reason(), Reason::NoEntity);
             }
         }
     }
@@ -50,8 +54,8 @@ fn entity(place: usize, parents: &[usize]) -> Entity {
 
 // Returns parents with smaller numbers, so that there is no cycle.
 fn parents(dice: &mut Dice, place: usize) -> Vec<usize> {
-    let mut list: Vec<usize> = (0..dice.below(4))
-        .map(|_| dice.below(place.max(1)))
+    let mut list: Vec<usize> = (0..dice.number(4))
+        .map(|_| dice.number(place.max(1)))
         .collect();
     list.retain(|parent| *parent < place);
     list.sort_unstable();
@@ -60,60 +64,60 @@ fn parents(dice: &mut Dice, place: usize) -> Vec<usize> {
 }
 
 // Makes the same edit in both.
-fn edit(store: &mut Entities, plain: &mut Plain, dice: &mut Dice, size: usize) {
-    let place = dice.below(size);
-    let above = parents(dice, place);
-    match dice.below(4) {
+fn edit(store: &mut Entities, parent_map: &mut ParentMap, dice: &mut Dice, size: usize) {
+    let place = dice.number(size);
+    let new_parents = parents(dice, place);
+    match dice.number(4) {
         0 => {
             store.remove(&[uid(place)], NOW).unwrap();
-            if plain.remove(&place).is_some() {
-                for list in plain.values_mut() {
+            if parent_map.remove(&place).is_some() {
+                for list in parent_map.values_mut() {
                     list.retain(|parent| *parent != place);
                 }
             }
         }
         1 => {
-            let refused: Result<(), Refusal> = store.add(&[entity(place, &[place])], NOW);
-            assert!(refused.is_err());
+            let result: Result<(), Error> = store.add(&[entity(place, &[place])], NOW);
+            assert!(result.is_err());
         }
         _ => {
-            store.upsert(&[entity(place, &above)], NOW).unwrap();
-            plain.insert(place, above);
+            store.upsert(&[entity(place, &new_parents)], NOW).unwrap();
+            parent_map.insert(place, new_parents);
         }
     }
 }
 
 #[test]
-fn each_question_is_answered_of_the_store_as_it_is() {
+fn queries_after_each_edit_use_the_current_store() {
     for seed in 0..6 {
         let mut dice = Dice::new(seed);
-        let size = 6 + dice.below(50);
+        let size = 6 + dice.number(50);
         let mut store = Entities::new();
-        let mut plain = Plain::new();
+        let mut parent_map = ParentMap::new();
         for _ in 0..30 {
-            edit(&mut store, &mut plain, &mut dice, size);
-            asked(&store, &plain, size);
-            asked(&store, &plain, size);
+            edit(&mut store, &mut parent_map, &mut dice, size);
+            check_queries(&store, &parent_map, size);
+            check_queries(&store, &parent_map, size);
         }
     }
 }
 
 #[test]
-fn a_long_chain_is_told_as_a_short_one() {
+fn queries_on_a_long_chain() {
     let size = 70;
-    let plain: Plain = (0..size).map(|one| (one, vec![one + 1])).collect();
-    let entities: Vec<Entity> = plain
+    let parent_map: ParentMap = (0..size).map(|child| (child, vec![child + 1])).collect();
+    let entities: Vec<Entity> = parent_map
         .iter()
-        .map(|(one, above)| entity(*one, above))
+        .map(|(child, parents)| entity(*child, parents))
         .collect();
     let store = Entities::from_entities(&entities, NOW).unwrap();
-    asked(&store, &plain, size);
-    asked(&store, &plain, size);
+    check_queries(&store, &parent_map, size);
+    check_queries(&store, &parent_map, size);
 }
 
 // More uids than a store caches, and uids whose texts are too long for its cache.
 #[test]
-fn more_questions_than_are_cached_are_answered() {
+fn more_queries_than_the_cache_can_store() {
     let store = store("a bc;b;c;d");
     let long = "x".repeat(2000);
     for round in 0..70_000 {
@@ -128,7 +132,7 @@ fn more_questions_than_are_cached_are_answered() {
 }
 
 #[test]
-fn a_copy_and_a_slice_answer_of_themselves() {
+fn a_copy_and_a_slice_have_their_own_results() {
     let mut store = store("a b;b c;c;x c");
     assert!(store.is_descendant_of(uid("a"), uid("c")).unwrap());
     let copy = store.try_clone().unwrap();

@@ -106,14 +106,14 @@ const STATUSES: [(u32, Reason); 30] = [
 
 impl Reason {
     fn of(status: u32) -> Reason {
-        let found = STATUSES.iter().find(|(known, _)| *known == status);
-        found.map_or(Reason::BadArgument, |(_, reason)| *reason)
+        let entry = STATUSES.iter().find(|(known, _)| *known == status);
+        entry.map_or(Reason::BadArgument, |(_, reason)| *reason)
     }
 
     // Returns the text with which the message of an error begins.
-    fn words(self) -> String {
-        let found = STATUSES.iter().find(|(_, reason)| *reason == self);
-        found.map_or_else(String::new, |(status, _)| ffi::words_for(*status))
+    fn prefix(self) -> String {
+        let entry = STATUSES.iter().find(|(_, reason)| *reason == self);
+        entry.map_or_else(String::new, |(status, _)| ffi::status_text(*status))
     }
 }
 
@@ -121,36 +121,36 @@ impl Reason {
 /// can be converted into it by `From`.
 ///
 /// ```
-/// use cedar_store_proved::{Effect, PolicySet, Reason, Refusal};
+/// use cedar_store_proved::{Effect, PolicySet, Reason, Error};
 /// let mut set = PolicySet::new();
 /// assert_eq!(set.effect("p").unwrap_err().reason(), Reason::NoBody);
 /// set.bind_static("p", Effect::Permit).unwrap();
-/// let refusal = Refusal::from(set.bind_static("p", Effect::Forbid).unwrap_err());
-/// assert_eq!((refusal.reason(), refusal.to_string().as_str()), (Reason::Occupied, "occupied p"));
+/// let error = Error::from(set.bind_static("p", Effect::Forbid).unwrap_err());
+/// assert_eq!((error.reason(), error.to_string().as_str()), (Reason::Occupied, "occupied p"));
 /// ```
 #[derive(Clone, Debug, PartialEq, Eq)]
-pub struct Refusal {
+pub struct Error {
     reason: Reason,
     text: String,
 }
 
-impl Refusal {
+impl Error {
     /// Converts a status to a result. Requests the message only if the library has one for the status.
-    pub(crate) fn judged(status: u32, text: impl FnOnce() -> Vec<u8>) -> Result<(), Refusal> {
+    pub(crate) fn check_status(status: u32, text: impl FnOnce() -> Vec<u8>) -> Result<(), Error> {
         match status {
             0 => Ok(()),
-            refused => Err(Refusal::new(refused, text)),
+            status => Err(Error::new(status, text)),
         }
     }
 
     /// Creates an error whose message has no uid and no id.
-    pub(crate) fn plain(reason: Reason) -> Refusal {
-        let text = reason.words();
-        Refusal { reason, text }
+    pub(crate) fn of_reason(reason: Reason) -> Error {
+        let text = reason.prefix();
+        Error { reason, text }
     }
 
     /// Creates the error of a status other than 0.
-    pub(crate) fn new(status: u32, text: impl FnOnce() -> Vec<u8>) -> Refusal {
+    pub(crate) fn new(status: u32, text: impl FnOnce() -> Vec<u8>) -> Error {
         let reason = Reason::of(status);
         let text = match reason {
             Reason::Memory => String::from("out of memory"),
@@ -162,16 +162,16 @@ impl Refusal {
             Reason::TooDeep => String::from("too deep"),
             _ => String::from_utf8_lossy(&text()).into_owned(),
         };
-        Refusal { reason, text }
+        Error { reason, text }
     }
 
     /// Creates an error that names items, with the message of the library.
-    pub(crate) fn naming<N: fmt::Display>(reason: Reason, names: &[N]) -> Refusal {
-        let mut text = reason.words();
+    pub(crate) fn with_names<N: fmt::Display>(reason: Reason, names: &[N]) -> Error {
+        let mut text = reason.prefix();
         for name in names {
             text += &format!(" {name}");
         }
-        Refusal { reason, text }
+        Error { reason, text }
     }
 
     /// Returns the reason.
@@ -180,15 +180,15 @@ impl Refusal {
     }
 
     /// Returns the message without the text of the reason: the id of a policy, a key, or slots.
-    pub(crate) fn said(&self) -> &str {
-        let words = self.reason.words();
-        let behind = self.text.get(words.len()..).unwrap_or_default();
-        behind.strip_prefix(' ').unwrap_or(behind)
+    pub(crate) fn details(&self) -> &str {
+        let prefix = self.reason.prefix();
+        let rest = self.text.get(prefix.len()..).unwrap_or_default();
+        rest.strip_prefix(' ').unwrap_or(rest)
     }
 
     /// Returns the id of the policy or template in the message.
     pub(crate) fn id(&self) -> PolicyID {
-        PolicyID::from_string(self.said())
+        PolicyID::from_string(self.details())
     }
 
     /// Returns the uids in the message, in order. For `NotClosed` these are the entity, its ancestor, and the missing
@@ -198,8 +198,8 @@ impl Refusal {
     /// use cedar_store_proved::{Entities, Entity, EntityUID, TCComputation};
     /// let a = EntityUID::from_normalized_str(r#"A::"a""#).unwrap();
     /// let own_parent = Entity::with_uid(a.clone()).with_parent(a.clone());
-    /// let refusal = Entities::new().add([own_parent], TCComputation::ComputeNow).unwrap_err();
-    /// assert_eq!(refusal.uids(), [a]);
+    /// let error = Entities::new().add([own_parent], TCComputation::ComputeNow).unwrap_err();
+    /// assert_eq!(error.uids(), [a]);
     /// ```
     pub fn uids(&self) -> Vec<EntityUID> {
         match self.reason {
@@ -209,14 +209,14 @@ impl Refusal {
             | Reason::SelfAncestor
             | Reason::DuplicateAncestor
             | Reason::ActionParentIsNotAction
-            | Reason::NotAnAction => named(&self.text),
+            | Reason::NotAnAction => parse_uids(&self.text),
             _ => Vec::new(),
         }
     }
 }
 
 // Parses the uids in a message, which are separated by spaces. A space within an id is in quotes.
-fn named(text: &str) -> Vec<EntityUID> {
+fn parse_uids(text: &str) -> Vec<EntityUID> {
     let mut uids = Vec::new();
     let (mut start, mut is_quoted, mut is_escaped) = (0, false, false);
     for (at, c) in text.char_indices() {
@@ -226,7 +226,7 @@ fn named(text: &str) -> Vec<EntityUID> {
             ' ' if !is_quoted => start = at + 1,
             '"' if is_quoted => {
                 is_quoted = false;
-                uids.push(EntityUID::written(&text[start..=at]));
+                uids.push(EntityUID::from_valid_text(&text[start..=at]));
             }
             '"' => is_quoted = true,
             _ => {}
@@ -235,13 +235,13 @@ fn named(text: &str) -> Vec<EntityUID> {
     uids
 }
 
-impl fmt::Display for Refusal {
+impl fmt::Display for Error {
     fn fmt(&self, f: &mut fmt::Formatter<'_>) -> fmt::Result {
         f.write_str(&self.text)
     }
 }
 
-impl std::error::Error for Refusal {}
+impl std::error::Error for Error {}
 
 #[cfg(test)]
 mod tests {
@@ -257,12 +257,9 @@ mod tests {
             (27, Reason::NotAName, "not a name"),
             (28, Reason::TooDeep, "too deep"),
         ] {
-            let refusal = Refusal::new(status, || panic!("no text is asked for"));
-            assert_eq!(
-                (refusal.reason(), refusal.to_string()),
-                (reason, text.into())
-            );
-            assert!(refusal.uids().is_empty());
+            let error = Error::new(status, || panic!("no text is requested"));
+            assert_eq!((error.reason(), error.to_string()), (reason, text.into()));
+            assert!(error.uids().is_empty());
         }
     }
 }

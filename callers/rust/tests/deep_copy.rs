@@ -1,7 +1,7 @@
 //! Tests of deep copies of stores and policy sets in other threads.
 mod short;
 use cedar_store_proved::ast::{Eid, Entity, EntityType, EntityUID, PolicySet, Value};
-use cedar_store_proved::{EntitiesDeepCopy, PolicySetDeepCopy, Entities, Reason, TCComputation};
+use cedar_store_proved::{Entities, EntitiesDeepCopy, PolicySetDeepCopy, Reason, TCComputation};
 use std::sync::mpsc;
 use std::thread;
 
@@ -22,16 +22,16 @@ fn chain(length: usize) -> Entities {
     Entities::from_entities(entities, TCComputation::ComputeNow).unwrap()
 }
 
-fn sends<T: Send>(_: &T) {}
+fn assert_send<T: Send>(_: &T) {}
 
 #[test]
-fn a_copy_goes_to_another_thread() {
+fn a_store_copy_works_in_another_thread() {
     let store = chain(20);
-    let apart = store.deep_copy().unwrap();
-    sends(&apart);
-    let (give, take) = mpsc::channel::<EntitiesDeepCopy>();
+    let copy = store.deep_copy().unwrap();
+    assert_send(&copy);
+    let (sender, receiver) = mpsc::channel::<EntitiesDeepCopy>();
     let other = thread::spawn(move || {
-        let mut store = take.recv().unwrap().into_inner();
+        let mut store = receiver.recv().unwrap().into_inner();
         assert!(store.is_descendant_of(uid("0"), uid("20")).unwrap());
         assert_eq!(
             store.get(uid("3"), "n").unwrap().unwrap().to_string(),
@@ -41,7 +41,7 @@ fn a_copy_goes_to_another_thread() {
         assert!(!store.is_descendant_of(uid("0"), uid("20")).unwrap());
         store.deep_copy().unwrap()
     });
-    give.send(apart).unwrap();
+    sender.send(copy).unwrap();
     let back = other.join().unwrap().into_inner();
     assert_eq!((store.len(), back.len()), (20, 19));
     assert!(store.is_descendant_of(uid("0"), uid("20")).unwrap());
@@ -53,21 +53,23 @@ fn a_copy_goes_to_another_thread() {
 }
 
 #[test]
-fn each_of_many_threads_has_one() {
+fn each_of_many_threads_can_have_a_copy() {
     let store = chain(60).partial();
     thread::scope(|scope| {
         for from in 0..8usize {
             let copy = store.deep_copy().unwrap();
-            let part = store.slice_deep_copy([uid(&(from * 7).to_string())]).unwrap();
+            let part = store
+                .slice_deep_copy([uid(&(from * 7).to_string())])
+                .unwrap();
             scope.spawn(move || {
                 let (copy, part) = (copy.into_inner(), part.into_inner());
                 assert!(copy.is_partial() && !part.is_partial());
                 assert_eq!((copy.len(), part.len()), (60, 60 - from * 7));
                 for _ in 0..10 {
-                    let again = copy.try_clone().unwrap();
+                    let shared = copy.try_clone().unwrap();
                     assert!(
-                        again.deep_eq(&copy)
-                            && again.deep_eq(&copy.deep_copy().unwrap().into_inner())
+                        shared.deep_eq(&copy)
+                            && shared.deep_eq(&copy.deep_copy().unwrap().into_inner())
                     );
                     let parents: Vec<_> = part.uids().unwrap();
                     assert!(parents.iter().all(|uid| copy.contains(uid).unwrap()));
@@ -82,13 +84,13 @@ fn each_of_many_threads_has_one() {
 
 #[test]
 fn each_character_of_an_eid_is_copied() {
-    let all: Vec<char> = (0..=0x10ffff).filter_map(char::from_u32).collect();
-    let entities = all.chunks(4096).map(|some| {
-        let text: String = some.iter().collect();
+    let characters: Vec<char> = (0..=0x10ffff).filter_map(char::from_u32).collect();
+    let entities = characters.chunks(4096).map(|chunk| {
+        let text: String = chunk.iter().collect();
         let value = Value::set([Value::from(uid(&text)), Value::from(text.as_str())], None);
         Entity::with_uid(uid(&text))
             .with_attr(text.as_str(), value)
-            .with_parent(uid(&text[..some[0].len_utf8()]))
+            .with_parent(uid(&text[..chunk[0].len_utf8()]))
     });
     let store = Entities::from_entities(entities, TCComputation::ComputeNow).unwrap();
     let copy = store.deep_copy().unwrap().into_inner();
@@ -99,16 +101,16 @@ fn each_character_of_an_eid_is_copied() {
 }
 
 #[test]
-fn one_that_no_thread_takes_is_freed() {
+fn unused_copies_are_freed() {
     let store = chain(3);
     drop(store.deep_copy().unwrap());
-    let apart = store.deep_copy().unwrap();
-    thread::spawn(move || drop(apart)).join().unwrap();
-    let refused = store.slice_deep_copy(["no uid"]).map(|_| ()).unwrap_err();
-    assert_eq!(refused.reason(), Reason::NotAUid);
+    let copy = store.deep_copy().unwrap();
+    thread::spawn(move || drop(copy)).join().unwrap();
+    let error = store.slice_deep_copy(["no uid"]).map(|_| ()).unwrap_err();
+    assert_eq!(error.reason(), Reason::NotAUid);
 }
 
-fn some_policies() -> PolicySet {
+fn sample_set() -> PolicySet {
     short::set(&[
         "permit s",
         "template t pr",
@@ -122,35 +124,35 @@ fn some_policies() -> PolicySet {
 }
 
 #[test]
-fn a_policy_set_goes_to_another_thread() {
-    let set = some_policies();
-    let mut apart: PolicySetDeepCopy = set.deep_copy().unwrap();
-    sends(&apart);
+fn a_set_copy_works_in_another_thread() {
+    let set = sample_set();
+    let mut copy: PolicySetDeepCopy = set.deep_copy().unwrap();
+    assert_send(&copy);
     let more = short::set(&["forbid s", "template o p", "link o k p"]);
-    assert_eq!(apart.merge_policyset(&more, true).unwrap().len(), 1);
+    assert_eq!(copy.merge_policyset(&more, true).unwrap().len(), 1);
     let text = set.to_string();
     let other = thread::spawn(move || {
-        let mut set = apart.into_inner();
+        let mut set = copy.into_inner();
         let renamed = set.get(&short::id("policy0")).unwrap().effect();
         set.unlink(&short::id("k")).unwrap();
         set.remove_template(&short::id("o")).unwrap();
         set.remove_static(&short::id("policy0")).unwrap();
         (renamed, set.to_string(), set.deep_copy().unwrap())
     });
-    let (renamed, told, back) = other.join().unwrap();
+    let (renamed, sent_text, back) = other.join().unwrap();
     assert_eq!(renamed, cedar_store_proved::ast::Effect::Forbid);
-    assert_eq!(told, text);
+    assert_eq!(sent_text, text);
     assert!(back.into_inner() == set);
 }
 
 #[test]
-fn orders_are_copied() {
-    let mut set = some_policies();
+fn copies_keep_the_order_of_policies() {
+    let mut set = sample_set();
     assert!(set.deep_copy().unwrap().into_inner() == set);
     set.remove_static(&short::id("w")).unwrap();
-    short::join(&mut set, "permit w").unwrap();
+    short::add_item(&mut set, "permit w").unwrap();
     set.unlink(&short::id("l")).unwrap();
-    short::join(&mut set, "link t l pr").unwrap();
+    short::add_item(&mut set, "link t l pr").unwrap();
     assert!(set.deep_copy().unwrap().into_inner() == set);
     // items of both sets keep their positions, and new items are last
     let mut other = short::set(&["template t pr", "forbid v", "link t i pr"]);
@@ -164,46 +166,46 @@ fn orders_are_copied() {
 }
 
 // A generator of pseudorandom numbers.
-struct Drawn(u64);
+struct Random(u64);
 
-impl Drawn {
-    fn below(&mut self, most: u64) -> u64 {
+impl Random {
+    fn number(&mut self, end: u64) -> u64 {
         self.0 ^= self.0 << 13;
         self.0 ^= self.0 >> 7;
         self.0 ^= self.0 << 17;
-        self.0 % most
+        self.0 % end
     }
 
     // Makes a call on a set, with one of a few ids. The call may return an error.
     fn step(&mut self, set: &mut PolicySet, other: &PolicySet) {
-        let (one, two) = (self.below(12), self.below(12));
-        let word = match self.below(10) {
-            0 => format!("permit i{one}"),
-            1 => format!("forbid i{one}"),
-            2 => format!("template i{one} pr"),
-            3..=5 => format!("link i{one} i{two} pr"),
-            6 => return drop(set.unlink(&short::id(&format!("i{one}")))),
-            7 => return drop(set.remove_static(&short::id(&format!("i{one}")))),
-            8 => return drop(set.remove_template(&short::id(&format!("i{one}")))),
-            _ => return drop(set.merge_policyset(other, two > 3)),
+        let (first, second) = (self.number(12), self.number(12));
+        let spec = match self.number(10) {
+            0 => format!("permit i{first}"),
+            1 => format!("forbid i{first}"),
+            2 => format!("template i{first} pr"),
+            3..=5 => format!("link i{first} i{second} pr"),
+            6 => return drop(set.unlink(&short::id(&format!("i{first}")))),
+            7 => return drop(set.remove_static(&short::id(&format!("i{first}")))),
+            8 => return drop(set.remove_template(&short::id(&format!("i{first}")))),
+            _ => return drop(set.merge_policyset(other, second > 3)),
         };
-        drop(short::join(set, &word));
+        drop(short::add_item(set, &spec));
     }
 }
 
 #[test]
-fn drawn_sets_are_copied() {
-    let mut drawn = Drawn(0x5eed);
+fn copies_of_random_sets_are_equal() {
+    let mut random = Random(0x5eed);
     for _ in 0..300 {
-        let (mut one, mut other) = (PolicySet::new(), PolicySet::new());
+        let (mut first, mut second) = (PolicySet::new(), PolicySet::new());
         for _ in 0..40 {
-            drawn.step(&mut one, &other);
-            drawn.step(&mut other, &one);
-            if one.policy_ids().unwrap().len() > 200 {
+            random.step(&mut first, &second);
+            random.step(&mut second, &first);
+            if first.policy_ids().unwrap().len() > 200 {
                 break;
             }
         }
-        for set in [&one, &other] {
+        for set in [&first, &second] {
             assert!(set.deep_copy().unwrap().into_inner() == *set);
         }
     }

@@ -1,10 +1,10 @@
 //! Deep copies of stores and policy sets, which share nothing with their originals and can be sent to other threads.
+use crate::error::Error;
 use crate::errors::PolicySetError;
 use crate::ffi::{DeepCopyHandle, Sets, Stores};
-use crate::policies_read::Renaming;
+use crate::policies_cache::Renaming;
 use crate::policy::PolicyID;
 use crate::policy_set::PolicySet;
-use crate::refusal::Refusal;
 use crate::stored::Entities;
 
 /// A deep copy of a store, which shares nothing with any other store. [`Entities::deep_copy`] and
@@ -18,8 +18,8 @@ use crate::stored::Entities;
 /// let (a, b) = (uid(r#"A::"a""#), uid(r#"A::"b""#));
 /// let child = Entity::with_uid(a.clone()).with_parent(b.clone());
 /// let store = Entities::from_entities([child], TCComputation::ComputeNow).unwrap();
-/// let apart = store.deep_copy().unwrap();
-/// let other = std::thread::spawn(move || apart.into_inner().is_descendant_of(&a, &b).unwrap());
+/// let copy = store.deep_copy().unwrap();
+/// let other = std::thread::spawn(move || copy.into_inner().is_descendant_of(&a, &b).unwrap());
 /// assert!(other.join().unwrap());
 /// ```
 ///
@@ -30,17 +30,17 @@ use crate::stored::Entities;
 /// shares(cedar_store_proved::entities::Entities::new().deep_copy().unwrap());
 /// ```
 pub struct EntitiesDeepCopy {
-    held: DeepCopyHandle<Stores>,
+    handle: DeepCopyHandle<Stores>,
 }
 
 impl EntitiesDeepCopy {
-    pub(crate) fn of(held: DeepCopyHandle<Stores>) -> EntitiesDeepCopy {
-        EntitiesDeepCopy { held }
+    pub(crate) fn of(handle: DeepCopyHandle<Stores>) -> EntitiesDeepCopy {
+        EntitiesDeepCopy { handle }
     }
 
     /// Returns the store, which from now on belongs to the current thread.
     pub fn into_inner(self) -> Entities {
-        Entities::of_held(self.held.into_held())
+        Entities::from_handle(self.handle.into_handle())
     }
 }
 
@@ -51,8 +51,8 @@ impl EntitiesDeepCopy {
 /// use cedar_store_proved::ast::{Effect, PolicySet};
 /// let mut set = PolicySet::new();
 /// set.bind_static("p", Effect::Permit).unwrap();
-/// let apart = set.deep_copy().unwrap();
-/// let other = std::thread::spawn(move || apart.into_inner().to_string());
+/// let copy = set.deep_copy().unwrap();
+/// let other = std::thread::spawn(move || copy.into_inner().to_string());
 /// assert_eq!(other.join().unwrap(), set.to_string());
 /// ```
 ///
@@ -63,12 +63,12 @@ impl EntitiesDeepCopy {
 /// shares(cedar_store_proved::ast::PolicySet::new().deep_copy().unwrap());
 /// ```
 pub struct PolicySetDeepCopy {
-    held: DeepCopyHandle<Sets>,
+    handle: DeepCopyHandle<Sets>,
 }
 
 impl PolicySetDeepCopy {
-    pub(crate) fn of(held: DeepCopyHandle<Sets>) -> PolicySetDeepCopy {
-        PolicySetDeepCopy { held }
+    pub(crate) fn of(handle: DeepCopyHandle<Sets>) -> PolicySetDeepCopy {
+        PolicySetDeepCopy { handle }
     }
 
     /// Merges a deep copy of the policies and templates of another set into this one. Otherwise works like
@@ -78,33 +78,33 @@ impl PolicySetDeepCopy {
     ///
     /// - `Occupied`: `rename` is false, and both sets bind the id to different items. The error names the first such
     ///   id.
-    /// - `Refused`: an allocation failed.
+    /// - `Other`: an allocation failed.
     ///
     /// ```
     /// use cedar_store_proved::ast::{Effect, PolicySet};
     /// let (mut one, mut other) = (PolicySet::new(), PolicySet::new());
     /// one.bind_static("p", Effect::Permit).unwrap();
     /// other.bind_static("p", Effect::Forbid).unwrap();
-    /// let mut apart = one.deep_copy().unwrap();
-    /// assert!(apart.merge_policyset(&other, false).is_err());
-    /// assert_eq!(apart.merge_policyset(&other, true).unwrap().len(), 1);
+    /// let mut copy = one.deep_copy().unwrap();
+    /// assert!(copy.merge_policyset(&other, false).is_err());
+    /// assert_eq!(copy.merge_policyset(&other, true).unwrap().len(), 1);
     /// one.merge_policyset(&other, true).unwrap();
-    /// assert!(apart.into_inner() == one);
+    /// assert!(copy.into_inner() == one);
     /// ```
     pub fn merge_policyset(
         &mut self,
         other: &PolicySet,
         rename: bool,
     ) -> Result<Renaming, PolicySetError> {
-        let status = self.held.merge(&other.held, rename);
-        Refusal::judged(status, || self.held.words())?;
+        let status = self.handle.merge(&other.handle, rename);
+        Error::check_status(status, || self.handle.error_text())?;
         Ok(Renaming::of(
-            self.held.answer(|id| PolicyID::from_string(id)),
+            self.handle.map_results(|id| PolicyID::from_string(id)),
         ))
     }
 
     /// Returns the set, which from now on belongs to the current thread.
     pub fn into_inner(self) -> PolicySet {
-        PolicySet::of_held(self.held.into_held())
+        PolicySet::from_handle(self.handle.into_handle())
     }
 }

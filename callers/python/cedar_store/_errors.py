@@ -21,14 +21,14 @@ REASONS = dict(
 )
 
 # The reasons whose texts name uids. The others name an id, a key or slots, or nothing.
-_NAME_UIDS = frozenset(
+_REASONS_WITH_UIDS = frozenset(
     ("duplicate", "cycle", "not closed", "self ancestor", "duplicate ancestor", "action parent", "not an action")
 )
 _STATUSES = {reason: status for status, reason in REASONS.items()}
 
 NO_MEMORY, CLOSED, BAD_ARGUMENT, NOT_A_UID, NO_ENTITY = 1, 2, 3, 4, 6
 # The statuses whose errors have a text.
-WITH_TEXT = frozenset((*range(7, 26), *range(29, 33)))
+STATUSES_WITH_TEXT = frozenset((*range(7, 26), *range(29, 33)))
 
 
 class Closed(Exception):
@@ -39,19 +39,19 @@ class WrongThread(Exception):
     """The store or the policy set belongs to another thread."""
 
 
-class Refused(Exception):
+class CedarError(Exception):
     """An error that the library returned. `reason` names the status of `cedar.h`; the text names the items concerned.
 
-    If an item of a list of uids is not a uid, `place` is its index in the list. Otherwise `place` is None.
+    If an item of a list of uids is not a uid, `index` is its index in the list. Otherwise `index` is None.
     """
 
     reason: str
-    place: Optional[int]
+    index: Optional[int]
 
-    def __init__(self, reason: str, text: str, place: Optional[int] = None) -> None:
+    def __init__(self, reason: str, text: str, index: Optional[int] = None) -> None:
         super().__init__(text)
         self.reason = reason
-        self.place = place
+        self.index = index
 
     @property
     def names(self) -> Tuple[str, ...]:
@@ -59,9 +59,9 @@ class Refused(Exception):
 
         For `arity` they are slots: first the unbound ones, then the bound ones that the template does not have.
         """
-        from ._library import parts_named
+        from ._library import names_in_error_text
 
-        return tuple(parts_named(_STATUSES.get(self.reason, 0), str(self)))
+        return tuple(names_in_error_text(_STATUSES.get(self.reason, 0), str(self)))
 
     @property
     def uids(self) -> Tuple[EntityUid, ...]:
@@ -69,26 +69,26 @@ class Refused(Exception):
 
         For `not closed` they are the entity, its ancestor and the missing ancestor.
         """
-        from ._uids import named
+        from ._uids import unchecked_uids
 
-        return tuple(named(self.names if self.reason in _NAME_UIDS else ()))
+        return tuple(unchecked_uids(self.names if self.reason in _REASONS_WITH_UIDS else ()))
 
     def __reduce__(self) -> Tuple[Any, ...]:
-        return type(self), (self.reason, str(self), self.place), self.__dict__.copy()
+        return type(self), (self.reason, str(self), self.index), self.__dict__.copy()
 
 
-def refuse(status: int, text: str = "", place: Optional[int] = None) -> NoReturn:
+def raise_error(status: int, text: str = "", index: Optional[int] = None) -> NoReturn:
     """Raises the exception for a status other than 0. The text comes from the library if it has one."""
     if status == NO_MEMORY:
         raise MemoryError("out of memory")
     if status == CLOSED:
-        raise Closed("the store or the set was closed before the call")
+        raise Closed("the store or the policy set was closed before the call")
     reason = REASONS.get(status, f"status {status}")
-    raise Refused(reason, text or reason, place)
+    raise CedarError(reason, text or reason, index)
 
 
-def number_of(value: object, kind: Type[enum.IntEnum]) -> int:
+def enum_number(value: object, enum_type: Type[enum.IntEnum]) -> int:
     """Returns a mode or an effect as its number. Raises `ValueError` for a `bool`, a `float` or any other number."""
-    if type(value) is kind or (type(value) is int and value in list(kind)):
+    if type(value) is enum_type or (type(value) is int and value in list(enum_type)):
         return int(value)
-    raise ValueError(f"{kind.__name__} has no member for this {type(value).__name__}")
+    raise ValueError(f"{value!r} is not a valid {enum_type.__name__}")

@@ -1,0 +1,160 @@
+"""Tests of deep copies that other threads use. `test_cedar_store.py` runs them too."""
+import concurrent.futures
+import os
+import pickle
+import threading
+import unittest
+import warnings
+
+import cedar_store
+from cedar_store import CedarError, Closed, Effect, Entity, EntityUid, Policies, Store, WrongThread
+from cedar_store.values import PRINCIPAL, RESOURCE
+
+
+def uid(name):
+    return f'A::"{name}"'
+
+
+def entities(*pairs):
+    """Returns a mapping from uids to parents, for pairs of a name and the names of the parents."""
+    return {uid(name): list(map(uid, parents)) for name, parents in pairs}
+
+
+def on_thread(call):
+    """Calls a function on another thread. Returns its result, or raises its exception."""
+    with concurrent.futures.ThreadPoolExecutor(1) as pool:
+        return pool.submit(call).result()
+
+
+def resident_bytes():
+    """Returns the resident memory of this process in bytes, or 0 if the system does not report it."""
+    try:
+        with open("/proc/self/statm") as file:
+            return int(file.read().split()[1]) * os.sysconf("SC_PAGE_SIZE")
+    except OSError:
+        return 0
+
+
+@unittest.skipUnless(cedar_store._library.has_function("store_deep_copy"), "an older library")
+class DeepCopies(unittest.TestCase):
+    large = {uid(n): [uid(n // 8)] for n in range(1, 301)}
+
+    def test_eight_threads_use_deep_copies_of_a_store(self):
+        new_entities = [
+            Entity(uid("a"), attrs={"k": frozenset([1, "é"]), "l": {"m": EntityUid(uid("b"))}}, parents=[uid("b")]),
+            Entity(uid("b"), tags={"t": 3}, parents=[uid("c")]),
+        ]
+        store = Store(new_entities)
+        store.partial()
+        copies, slices = [], []
+        for _ in range(8):
+            copies.append(store.deep_copy())
+            slices.append(store.slice_deep_copy([uid("b")]))
+        self.assertEqual(repr(copies[0]), "<Store that no thread has called yet>")
+
+        def query(copy, part):
+            results = [copy.is_partial(), part.is_partial(), len(copy), len(part)]
+            results.append(copy.entity(uid("a")) == new_entities[0])
+            for _ in range(20):
+                edited = copy.copy()
+                edited.upsert({uid("x"): [uid("a")]})
+                results.append(edited.is_descendant_of(uid("x"), uid("c")) and edited != copy)
+                results.append(copy.deep_copy() == copy and part.tags_len(uid("b")) == 1)
+            return results
+
+        with concurrent.futures.ThreadPoolExecutor(8) as pool:
+            futures = [pool.submit(query, copy, part) for copy, part in zip(copies, slices)]
+            expected = query(store, store.slice([uid("b")]))
+            for future in futures:
+                self.assertEqual(future.result()[:4], [True, False, 2, 1])
+                self.assertEqual(future.result()[4:], expected[4:])
+            self.assertTrue(all(expected[5:]))
+            for call in (copies[0].uids, lambda: store == copies[0], slices[0].close, lambda: pickle.dumps(slices[0])):
+                with self.assertRaises(WrongThread):
+                    call()
+
+    def test_a_deep_copy_belongs_to_the_first_thread_that_calls_it(self):
+        store = Store(entities(("a", "b"), ("b", "c")))
+        for call in (
+            lambda other: other == store and store == other,
+            lambda other: uid("a") in other,
+            lambda other: other.is_descendant_of(uid("a"), uid("c")),
+            lambda other: len(other) == 2,
+            lambda other: other.copy() == store,
+            lambda other: store.entity_equal(uid("a"), other),
+            lambda other: other.portable() == store,
+            lambda other: pickle.loads(pickle.dumps(other)) == store,
+            lambda other: other.deep_copy().slice_deep_copy([uid("b")]) == store.slice([uid("b")]),
+            lambda other: other.close() is None,
+        ):
+            other = store.deep_copy()
+            self.assertTrue(call(other))
+            with self.assertRaises(WrongThread):
+                on_thread(other.uids)
+        lengths = []
+        for _ in range(50):
+            other, start = store.deep_copy(), threading.Barrier(4)
+
+            def query(other=other, start=start):
+                start.wait()
+                try:
+                    lengths.append(len(other))
+                except WrongThread:
+                    lengths.append(0)
+
+            threads = [threading.Thread(target=query) for _ in range(4)]
+            for thread in threads:
+                thread.start()
+            for thread in threads:
+                thread.join()
+            self.assertEqual(sorted(lengths), [0, 0, 0, 2])
+            lengths.clear()
+        with self.assertRaises(CedarError):
+            store.slice_deep_copy(["no uid"])
+        store.close()
+        with self.assertRaises(Closed):
+            store.deep_copy()
+
+    def test_any_thread_frees_a_deep_copy_without_an_owner(self):
+        store = Store(self.large)
+        thread = cedar_store._handle.LOCAL.thread
+        open_count = len(thread.open_handles)
+        with warnings.catch_warnings():
+            warnings.simplefilter("error")
+            for _ in range(2):
+                before = resident_bytes()
+                for _ in range(200):
+                    copies = [store.deep_copy()]
+                    copies.clear()
+                    copies = [store.deep_copy()]
+                    on_thread(copies.clear)
+        # Four hundred copies take more than eighty megabytes.
+        self.assertLess(resident_bytes() - before, 8 << 20)
+        self.assertEqual((len(thread.open_handles), thread.dropped), (open_count, []))
+
+    def test_four_threads_use_deep_copies_of_a_policy_set(self):
+        policies = Policies()
+        policies.add_static("s", Effect.FORBID)
+        policies.add_template("t", principal=True, when=PRINCIPAL.eq(RESOURCE), annotations={"if": "é"})
+        policies.link("t", "l", principal=uid("a"))
+        policies.add_static("w")
+        copies = [policies.deep_copy() for _ in range(4)]
+
+        def query(copy):
+            for _ in range(50):
+                edited = copy.copy()
+                edited.unlink("l")
+                edited.merge(copy)
+                results = copy.bodies(), copy.policies(), str(copy), edited.policies(), copy.deep_copy() == copy
+            return results
+
+        with concurrent.futures.ThreadPoolExecutor(4) as pool:
+            futures = [pool.submit(query, copy) for copy in copies]
+            expected = query(policies)
+            self.assertEqual(expected[:2], (["s", "t", "w"], ["s", "l", "w"]))
+            for future in futures:
+                self.assertEqual(future.result(), expected)
+            for call in (copies[0].policies, lambda: policies == copies[0], lambda: policies.merge(copies[0])):
+                with self.assertRaises(WrongThread):
+                    call()
+        self.assertTrue(policies.deep_copy() == policies)
