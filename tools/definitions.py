@@ -6,7 +6,7 @@
     python3 tools/definitions.py CRATE..    prints each public definition of these crates: its name, its file and its
     comment
     python3 tools/definitions.py WORD..     prints the definitions whose names contain one of the words, in any case
-    python3 tools/definitions.py --bare     prints the definitions that have no comment
+    python3 tools/definitions.py --uncommented     prints the definitions that have no comment
 
 The definitions are the public ones in `specs/` of a crate. Those in `specs/laws/` are left out: they are laws with
 their proofs. Words can be combined with crates: then only the definitions of these crates are searched.
@@ -57,21 +57,21 @@ def definitions(path):
     """
     with open(path, encoding='utf-8') as text:
         lines = text.read().split('\n')
-    found, mutual, open_one, of_parts = [], False, None, False
+    found, mutual, current, has_parts = [], False, None, False
     for at, line in enumerate(lines):
         if line and not line.startswith((' ', '-')):
             mutual = bool(MUTUAL.match(line))
         head = HEAD.match(line)
         if head and len(head[1]) == (2 if mutual else 0):
             above = at - 1 if mutual and at and MUTUAL.match(lines[at - 1]) and not comment_above(lines, at) else at
-            open_one, of_parts = Definition(path, at + 1, head[3], comment_above(lines, above)), bool(head[2])
-            found.append(open_one)
-        elif of_parts and line.startswith(' ') and PART.match(line) and comment_above(lines, at):
-            open_one.parts.append((PART.match(line)[1], comment_above(lines, at)))
-        open_one = open_one if line.strip() else None
-        of_parts = of_parts and open_one is not None
-        if open_one and not line.lstrip().startswith('--'):
-            open_one.lines.append(line)
+            current, has_parts = Definition(path, at + 1, head[3], comment_above(lines, above)), bool(head[2])
+            found.append(current)
+        elif has_parts and line.startswith(' ') and PART.match(line) and comment_above(lines, at):
+            current.parts.append((PART.match(line)[1], comment_above(lines, at)))
+        current = current if line.strip() else None
+        has_parts = has_parts and current is not None
+        if current and not line.lstrip().startswith('--'):
+            current.lines.append(line)
     return found
 
 
@@ -79,24 +79,24 @@ def all_of(names):
     return [one for name in names for path in files(name) for one in definitions(path)]
 
 
-def bare():
+def uncommented():
     return [one for one in all_of(crates()) if not one.comment]
 
 
-def told(one):
+def formatted(one):
     """Formats a definition for printing, filled to 120 columns."""
-    rows = [f'{one.name}  ({one.path}:{one.line})']
+    lines = [f'{one.name}  ({one.path}:{one.line})']
     for text in [one.comment] + [f'{name}: {comment}' for name, comment in one.parts]:
-        rows += textwrap.wrap(text, 120, initial_indent='    ', subsequent_indent='    ')
+        lines += textwrap.wrap(text, 120, initial_indent='    ', subsequent_indent='    ')
     if not one.comment:
-        rows += ['    ' + line for line in one.lines]
-    return '\n'.join(rows)
+        lines += ['    ' + line for line in one.lines]
+    return '\n'.join(lines)
 
 
 def main(words):
     names = crates()
-    if words == ['--bare']:
-        print('\n'.join(told(one) for one in bare()))
+    if words == ['--uncommented']:
+        print('\n'.join(formatted(one) for one in uncommented()))
         return 0
     if not words:
         for name in names:
@@ -104,13 +104,13 @@ def main(words):
             if counts:
                 print(f'{name}: ' + ', '.join(f'{file} {count}' for file, count in counts))
         return 0
-    wanted = [word.lower() for word in words if word not in names]
+    name_parts = [word.lower() for word in words if word not in names]
     found = all_of([name for name in names if name in words] or names)
-    found = [one for one in found if not wanted or any(word in one.name.lower() for word in wanted)]
+    found = [one for one in found if not name_parts or any(word in one.name.lower() for word in name_parts)]
     for one in found:
-        print(told(one))
+        print(formatted(one))
     if not found:
-        print(f'no crate or definition matches: {" ".join(words)}', file=sys.stderr)
+        print(f'definitions: no crate and no definition matches {" ".join(words)}', file=sys.stderr)
     return 0 if found else 1
 
 

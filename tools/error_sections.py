@@ -14,21 +14,21 @@ FUNCTION = re.compile(r'(?m)^(?P<indent> *)(?P<public>pub )?(?:const |unsafe |ex
 PASSED, FAILED = [0], []
 
 
-def holds(what, truth):
+def check(fault, is_valid):
     """Counts a check, and prints a fault."""
-    if truth:
+    if is_valid:
         PASSED[0] += 1
     else:
-        FAILED.append(what)
-        print(f'error sections: {what}')
+        FAILED.append(fault)
+        print(f'error sections: FAILED: {fault}')
 
 
 def sources():
     """Returns the files whose public functions are checked."""
     found = [path for path in glob.glob('crates/*/src/**/*.rt', recursive=True)
              if not re.search(r'crates/(\w+_tests|cedar_test_helpers|cedar_alloc_failures)/', path)]
-    by_hand = glob.glob('rust/src/handwritten/*.rs') + glob.glob('callers/rust/src/**/*.rs', recursive=True)
-    return sorted(found + [path for path in by_hand if not path.endswith('_tests.rs')])
+    handwritten = glob.glob('rust/src/handwritten/*.rs') + glob.glob('callers/rust/src/**/*.rs', recursive=True)
+    return sorted(found + [path for path in handwritten if not path.endswith('_tests.rs')])
 
 
 def comment_above(lines, at):
@@ -84,12 +84,12 @@ def main():
             errors = section(comment)
             named |= set(re.findall(r'\b(?:\w+::)?([A-Z]\w*)\b', errors))
             if re.match(r'(?:\w+::)*Result\b', returned):
-                holds(f'{path}:{line}: {name} returns a Result, but its comment has no section `# Errors`', '# Errors' in comment.split('\n'))
+                check(f'{path}:{line}: {name} returns a Result, but its comment has no section `# Errors`', '# Errors' in comment.split('\n'))
         for name, variants in error_types(text):
             types[name] = (path, variants)
     for name, (path, variants) in sorted(types.items()):
         for variant in variants:
-            holds(f'{path}: no section `# Errors` names the variant {variant} of {name}', variant in named)
+            check(f'{path}: no section `# Errors` names the variant {variant} of {name}', variant in named)
     print(f'{PASSED[0]} passed, {len(FAILED)} failed')
     return 1 if FAILED else 0
 

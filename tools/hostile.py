@@ -1,4 +1,4 @@
-"""Inputs of hostile sizes and sessions with changed bytes, with the expected output of the program. `./bench` runs
+"""Inputs of hostile sizes and sessions with changed bytes, with the expected output of the program. `bench/run` runs
 them.
 """
 import collections
@@ -35,25 +35,25 @@ def chains(size):
     rows = [ent(name, names[at:at + 1]) for at, name in enumerate(names, 1)]
     mixed = rows[:]
     random.Random(size).shuffle(mixed)
-    asked = (0, size // 2, size - 1)
-    due = b"ok %d\n" % size + b"".join(anc(map(node, names[at + 1:])) for at in asked)
+    queried = (0, size // 2, size - 1)
+    expected = b"ok %d\n" % size + b"".join(anc(map(node, names[at + 1:])) for at in queried)
     for order in rows, rows[::-1], mixed:
-        yield order + [b"build"] + [b"anc\t" + node(names[at]) for at in asked], due, 0
+        yield order + [b"build"] + [b"anc\t" + node(names[at]) for at in queried], expected, 0
 
 
 def star(size):
     rows = [ent(b"n%d" % i, [b"hub"]) for i in range(size)] + [ent(b"hub", [b"top"])]
     last = [b"build", b"anc\t" + node(b"n0"), b"anc\t" + node(b"n%d" % (size - 1)), b"remove\t" + node(b"hub"), b"anc\t" + node(b"n0")]
-    both = anc([node(b"hub"), node(b"top")])
-    yield rows + last, b"ok %d\n%s%sok %d\nanc\n" % (size + 1, both, both, size), 0
+    ancestors = anc([node(b"hub"), node(b"top")])
+    yield rows + last, b"ok %d\n%s%sok %d\nanc\n" % (size + 1, ancestors, ancestors, size), 0
 
 
 def dense(size):
     """Yields entities whose parents are the next ones. The last parents do not exist."""
     name = b"n%06d"
     rows = [ent(name % i, [name % up for up in range(i + 1, i + PARENTS + 1)]) for i in range(size)]
-    due = b"ok %d\n" % size + b"".join(anc(node(name % up) for up in range(i + 1, size + PARENTS)) for i in range(size))
-    yield rows + [b"build"] + [b"anc\t" + node(name % i) for i in range(size)], due, 0
+    expected = b"ok %d\n" % size + b"".join(anc(node(name % up) for up in range(i + 1, size + PARENTS)) for i in range(size))
+    yield rows + [b"build"] + [b"anc\t" + node(name % i) for i in range(size)], expected, 0
 
 
 def wide(size):
@@ -90,10 +90,10 @@ def on_a_small_stack():
     resource.setrlimit(resource.RLIMIT_STACK, (STACK, resource.getrlimit(resource.RLIMIT_STACK)[1]))
 
 
-def ran(program, given):
+def run_program(program, session_input):
     """Runs the program, and returns its output and its status."""
-    done = subprocess.run([program], input=given, stdout=subprocess.PIPE, stderr=subprocess.DEVNULL, close_fds=False)
-    return done.stdout, done.returncode
+    result = subprocess.run([program], input=session_input, stdout=subprocess.PIPE, stderr=subprocess.DEVNULL, close_fds=False)
+    return result.stdout, result.returncode
 
 
 # ---- sessions
@@ -102,82 +102,82 @@ ENTITIES = [b"ent"] * 6 + [b"build", b"add", b"upsert", b"anc", b"anc"] * 2 + [b
 POLICIES = [b"static", b"template", b"link", b"other", b"merge", b"ids"] * 2 + [b"link", b"unlink"]
 
 
-def drawn_uid(pick):
-    return pick.choice([b'A::"%s"'] * 4 + [b'B::A::"%s"', b'Action::"%s"']) % pick.choice([b"a", b"b", b"c", b"d", b"\\'", b"\\u{1}"])
+def random_uid(rng):
+    return rng.choice([b'A::"%s"'] * 4 + [b'B::A::"%s"', b'Action::"%s"']) % rng.choice([b"a", b"b", b"c", b"d", b"\\'", b"\\u{1}"])
 
 
-def drawn_line(pick, kinds):
-    own = pick.choice([b"p", b"q", b"policy0", b"policy1", b""])
-    word = pick.choice(kinds)
+def random_line(rng, kinds):
+    policy_id = rng.choice([b"p", b"q", b"policy0", b"policy1", b""])
+    word = rng.choice(kinds)
     if word in (b"ent", b"remove", b"slice"):
-        return [word] + [drawn_uid(pick) for _ in range(pick.choice([1, 2, 2, 3]))]
+        return [word] + [random_uid(rng) for _ in range(rng.choice([1, 2, 2, 3]))]
     if word == b"anc":
-        return [word, drawn_uid(pick)]
+        return [word, random_uid(rng)]
     if word == b"static":
-        return [word, own, pick.choice([b"permit", b"forbid"])]
+        return [word, policy_id, rng.choice([b"permit", b"forbid"])]
     if word == b"template":
-        return [word, own, pick.choice([b"none"] + list(session.SLOTS))]
+        return [word, policy_id, rng.choice([b"none"] + list(session.SLOTS))]
     if word == b"link":
-        slots = session.SLOTS[pick.choice(list(session.SLOTS))]
-        return [word, own, pick.choice([b"l", b"m", b"q"])] + [session.MARKS[slot] + drawn_uid(pick) for slot in slots]
+        slots = session.SLOTS[rng.choice(list(session.SLOTS))]
+        return [word, policy_id, rng.choice([b"l", b"m", b"q"])] + [session.MARKS[slot] + random_uid(rng) for slot in slots]
     if word == b"unlink":
-        return [word, pick.choice([b"l", b"m", own])]
+        return [word, rng.choice([b"l", b"m", policy_id])]
     if word == b"merge":
-        return [word, pick.choice([b"rename", b"rename", b"keep"])]
+        return [word, rng.choice([b"rename", b"rename", b"keep"])]
     return [word]
 
 
-def drawn_session(number):
+def random_session(number):
     """Returns a random valid session of up to 200 bytes, and a copy with one to five bytes changed, inserted or
     removed.
     """
-    pick, lines, size = random.Random(number), [], 0
-    kinds = pick.choice([ENTITIES, ENTITIES, POLICIES, POLICIES, ENTITIES + POLICIES])
+    rng, lines, size = random.Random(number), [], 0
+    kinds = rng.choice([ENTITIES, ENTITIES, POLICIES, POLICIES, ENTITIES + POLICIES])
     while True:
-        line = b"\t".join(drawn_line(pick, kinds))
+        line = b"\t".join(random_line(rng, kinds))
         size += len(line) + 1
         if size > LENGTH:
             break
         lines.append(line)
-    good = b"\n".join(lines) + b"\n" * pick.randrange(2)
-    changed = bytearray(good)
-    for _ in range(pick.choice([1, 1, 2, 3, 5])):
-        at = pick.randrange(len(changed) + 1)
-        signs = pick.choice([b"abcdpqlmAB", b"abcdpqlmAB", b"\t\n\r \"'\\:_=01\x00\x7f\x80\xff", bytes(range(256)), bytes(changed) or b"a"])
-        kind = pick.randrange(4)
-        changed[at:at + (kind != 1)] = bytes([pick.choice(signs)] if kind else [])
-    return good, bytes(changed[:LENGTH])
+    valid = b"\n".join(lines) + b"\n" * rng.randrange(2)
+    changed = bytearray(valid)
+    for _ in range(rng.choice([1, 1, 2, 3, 5])):
+        at = rng.randrange(len(changed) + 1)
+        alphabet = rng.choice([b"abcdpqlmAB", b"abcdpqlmAB", b"\t\n\r \"'\\:_=01\x00\x7f\x80\xff", bytes(range(256)), bytes(changed) or b"a"])
+        kind = rng.randrange(4)
+        changed[at:at + (kind != 1)] = bytes([rng.choice(alphabet)] if kind else [])
+    return valid, bytes(changed[:LENGTH])
 
 
-def answers(written):
+def output_kinds(written):
     """Yields the kinds of the output lines: the first word, or the first two words of an error."""
     for line in written.splitlines():
         words = line.split(b"\t")[0].split(b" ")
         yield b" ".join(words[:1 + (words[0] == b"refused:")]).decode()
 
 
-def one(program, number):
+def check_session(program, number):
     """Runs a session. Returns the fault, or None, and counts of the kinds of output.
 
     Every fiftieth session is also run unchanged.
     """
-    told, given = collections.Counter(), drawn_session(number)
-    for kind, given in list(zip(("good", "changed"), given))[number % 50 != 0:]:
-        out, status, commands = session.output(given)
-        got = ran(program, given)
-        if got != (out, status):
-            return f"session {number}: {given!r}\nexpected {out!r}, status {status}\nand got {got[0]!r}, status {got[1]}", told
-        told.update([kind, f"status {status}"] + ["with a command"] * (commands > 0) + list(answers(out)))
-    return None, told
+    counts, session_input = collections.Counter(), random_session(number)
+    for kind, session_input in list(zip(("valid", "changed"), session_input))[number % 50 != 0:]:
+        out, status, commands = session.output(session_input)
+        actual = run_program(program, session_input)
+        if actual != (out, status):
+            return f"hostile: session {number} has the wrong output for the input {session_input!r}\nexpected {out!r}, status {status}\nactual {actual[0]!r}, status {actual[1]}", counts
+        counts.update([kind, f"status {status}"] + ["with a command"] * (commands > 0) + list(output_kinds(out)))
+    return None, counts
 
 
 def sessions(program, size):
     """Runs this number of sessions. Returns the counts of all of them, or exits at the first fault."""
-    all_told = collections.Counter()
+    totals = collections.Counter()
     with concurrent.futures.ThreadPoolExecutor(os.cpu_count()) as pool:
         for first in range(0, size, BATCH):
-            for wrong, told in pool.map(functools.partial(one, program), range(first, min(first + BATCH, size))):
-                if wrong:
-                    raise SystemExit(wrong)
-                all_told += told
-    return ", ".join(f"{word} {count:,}" for word, count in sorted(all_told.items()))
+            for fault, counts in pool.map(functools.partial(check_session, program), range(first, min(first + BATCH, size))):
+                if fault:
+                    raise SystemExit(fault)
+                totals += counts
+    return ", ".join(f"{word} {count:,}" for word, count in sorted(totals.items()))

@@ -23,12 +23,12 @@ import sys
 PASSED, FAILED = [0], []
 
 
-def holds(what, truth):
-    if truth:
+def check(fault, is_valid):
+    if is_valid:
         PASSED[0] += 1
     else:
-        FAILED.append(what)
-        print(f'layout: {what}')
+        FAILED.append(fault)
+        print(f'layout: FAILED: {fault}')
 
 
 def crates():
@@ -37,17 +37,17 @@ def crates():
     return [words[0] for words in heads if words]
 
 
-def check_places(names):
+def check_folders(names):
     folders = sorted(os.path.basename(path) for path in glob.glob('crates/*') if os.path.isdir(path))
-    holds(f'crates.txt and crates/ differ: {sorted(set(names) ^ set(folders))}', sorted(names) == folders)
+    check(f'crates.txt and crates/ list different crates: {sorted(set(names) ^ set(folders))}', sorted(names) == folders)
     tracked = subprocess.run(['git', 'ls-files', '*.rt', '*.antt'], stdout=subprocess.PIPE, text=True, check=False).stdout.split()
-    astray = [path for path in tracked if not re.match(r'crates/\w+/(src/.*\.rt|(specs|proofs)/.*\.antt)$', path)]
-    holds(f'these files are not in a crate: {astray}', not astray)
+    outside = [path for path in tracked if not re.match(r'crates/\w+/(src/.*\.rt|(specs|proofs)/.*\.antt)$', path)]
+    check(f'files outside of the folders of a crate: {outside}', not outside)
     with open('HANDLES', encoding='utf-8') as text:
-        holds('HANDLES must have its one line and no other', text.read().strip() == 'Handles allowed: none.')
+        check('HANDLES must have exactly the line `Handles allowed: none.`', text.read().strip() == 'Handles allowed: none.')
 
 
-def what_is_wrong(path, crate):
+def mutant_fault(path, crate):
     """Returns the reason why a mutant cannot be applied, or an empty text."""
     texts, file, old, pairs = {}, None, None, 0
     with open(path, encoding='utf-8') as lines:
@@ -63,20 +63,20 @@ def what_is_wrong(path, crate):
                     with open(file, encoding='utf-8') as text:
                         texts[file] = text.read()
                 if texts[file].count(old) != 1:
-                    return f'its old text occurs {texts[file].count(old)} times in {file}'
+                    return f'the old text occurs {texts[file].count(old)} times in {file}, expected once'
                 texts[file], pairs = texts[file].replace(old, line[len('new: '):]), pairs + 1
-    return '' if pairs else 'it replaces nothing'
+    return '' if pairs else 'the mutant has no line `new:`'
 
 
-def check_wrong_bodies():
+def check_mutants():
     for crate in sorted(glob.glob('crates/*')):
         names = collections.Counter()
         for path in sorted(glob.glob(f'{crate}/must-fail/*.edit') + glob.glob(f'{crate}/mutants/*.edit')):
             names[os.path.basename(path)] += 1
-            why = what_is_wrong(path, crate)
-            holds(f'{path}: {why}', not why)
-        twice = [name for name, count in names.items() if count > 1]
-        holds(f'{crate}: several mutants have the same name: {twice}', not twice)
+            fault = mutant_fault(path, crate)
+            check(f'{path}: the mutant cannot be applied: {fault}', not fault)
+        duplicates = [name for name, count in names.items() if count > 1]
+        check(f'{crate}: several mutants have the same name: {duplicates}', not duplicates)
 
 
 def check_citations(names):
@@ -87,7 +87,7 @@ def check_citations(names):
                 with open(path, encoding='utf-8') as text:
                     others |= set(re.findall(r'Rattle\.(\w+)\.proofs\b|\b(\w+)::proofs\b', text.read()))
         cited = {other for pair in others for other in pair if other in names} - {name, name.removesuffix('_tests')}
-        holds(f'{name} cites proofs of {sorted(cited)}', not cited)
+        check(f'{name} cites proofs of other crates: {sorted(cited)}', not cited)
 
 
 def check_lengths():
@@ -97,31 +97,31 @@ def check_lengths():
         if '/out/' not in path and '/target/' not in path:
             with open(path, encoding='utf-8') as text:
                 count = text.read().count('\n')
-            holds(f'{path} has {count} lines', count < 800)
+            check(f'{path} has {count} lines, the limit is 799', count < 800)
 
 
 def check_format(names):
     """Checks the format of each crate with rt's own code, because rt has no command that checks without changing files.
     """
-    import kept_libraries
-    rt = kept_libraries.rt_itself()
+    import cached_libraries
+    rt = cached_libraries.rt_itself()
     rt.rtlib.stop = rt.stop
     for name in names:
         with open(os.devnull, 'w', encoding='utf-8') as out:
-            holds(f'{name} does not have the format of `rt fmt`', not rt.rtlib.fmt(f'{os.getcwd()}/crates/{name}', '--check', out))
+            check(f'{name} is not formatted: run rt fmt in its folder', not rt.rtlib.fmt(f'{os.getcwd()}/crates/{name}', '--check', out))
 
 
 def main():
     names = crates()
-    check_places(names)
-    check_wrong_bodies()
+    check_folders(names)
+    check_mutants()
     check_citations(names)
     check_lengths()
     skipped = 0
     if shutil.which('rt'):
         check_format(names)
     else:
-        print('layout: rt is missing: NOT RUN: whether each crate has the format of `rt fmt`')
+        print('layout: SKIPPED: the format of the crates (rt is not installed)')
         skipped = 1
     print(f'{PASSED[0]} passed, {len(FAILED)} failed' + (f', {skipped} skipped' if skipped else ''))
     return 1 if FAILED else 0

@@ -1,11 +1,11 @@
 #!/usr/bin/env python3
 """Prints the purpose of each file, from its first comment. Run it at the top of the repository. It proves nothing.
 
-    python3 tools/map.py            prints all crates of crates.txt, in order, and then the folders callers, rust and
-    tools
+    python3 tools/map.py            prints all crates of crates.txt, in order, and then the folders callers, rust,
+    bench and tools
     python3 tools/map.py CRATE..    prints these crates, each with the crate of its tests if it has one
     python3 tools/map.py FOLDER..   prints another folder, like tools or callers/rust
-    python3 tools/map.py --bare     prints the files of crates that have no first comment
+    python3 tools/map.py --uncommented     prints the files of crates that have no first comment
 
 It prints the first sentence of each comment. A folder below `proofs/` has the proofs of one function and is listed by
 the function's name. Files that only list other files (Lib.antt, laws.antt) and generated Rust modules are left out.
@@ -17,7 +17,7 @@ import signal
 import sys
 import textwrap
 
-FOLDERS = ('callers', 'rust', 'tools')
+FOLDERS = ('callers', 'rust', 'bench', 'tools')
 LISTS = ('Lib.antt', 'laws.antt')
 MARKS = {'.rt': r'//[!/]?', '.rs': r'//[!/]?', '.antt': '--', '.sql': '--', '.md': '#'}
 LEFT_OUT = ('.lock', '.out', '.gitignore', '.typed', 'LICENSE')
@@ -42,10 +42,10 @@ def first_comment(path):
         return ' '.join(re.sub(r'(?m)^ \*', ' ', found[1]).split()) if found else ''
     lines = []
     for line in text.split('\n'):
-        said = re.match(rf'\s*(?:{MARKS.get(kind, "#")})(.*)', line)
-        if not said or not said[1].strip():
+        comment_line = re.match(rf'\s*(?:{MARKS.get(kind, "#")})(.*)', line)
+        if not comment_line or not comment_line[1].strip():
             break
-        lines.append(said[1].strip())
+        lines.append(comment_line[1].strip())
     return ' '.join(lines)
 
 
@@ -61,7 +61,7 @@ def files(crate):
     return [path for path in paths if os.path.basename(path) not in LISTS]
 
 
-def bare():
+def uncommented():
     return [path for crate in crates() for path in files(crate) if not first_comment(path)]
 
 
@@ -71,33 +71,33 @@ def proved_functions(crate):
     return sorted({os.path.relpath(os.path.dirname(path), f'crates/{crate}/proofs') for path in paths})
 
 
-def row(name, text):
+def entry(name, text):
     return textwrap.fill(f'  {name}  {text}', 120, subsequent_indent='      ', break_long_words=False, break_on_hyphens=False)
 
 
 def show_crate(crate):
     print(f'crates/{crate}')
     for path in files(crate):
-        print(row(os.path.relpath(path, f'crates/{crate}'), sentence(first_comment(path)) or '(no first comment)'))
+        print(entry(os.path.relpath(path, f'crates/{crate}'), sentence(first_comment(path)) or '(no first comment)'))
     functions = proved_functions(crate)
     if functions:
-        print(row('proofs/, by function:', ', '.join(functions)))
+        print(entry('proofs/, by function:', ', '.join(functions)))
 
 
 def show_folder(folder):
     print(folder)
-    for place, below, names in os.walk(folder):
-        written = 'cedar_' if place == 'rust/src' else 'out'
-        below[:] = sorted(name for name in below if name not in ('out', 'target', '__pycache__') and not name.startswith(written))
+    for place, subfolders, names in os.walk(folder):
+        generated = 'cedar_' if place == 'rust/src' else 'out'
+        subfolders[:] = sorted(name for name in subfolders if name not in ('out', 'target', '__pycache__') and not name.startswith(generated))
         for name in sorted(names):
             path = os.path.join(place, name)
             if not name.endswith(LEFT_OUT):
-                print(row(os.path.relpath(path, folder), sentence(first_comment(path))).rstrip())
+                print(entry(os.path.relpath(path, folder), sentence(first_comment(path))).rstrip())
 
 
 def main(words):
-    if words == ['--bare']:
-        print('\n'.join(bare()))
+    if words == ['--uncommented']:
+        print('\n'.join(uncommented()))
         return 0
     names = crates()
     for word in words or [*names, *FOLDERS]:
@@ -108,7 +108,7 @@ def main(words):
         elif os.path.isdir(word):
             show_folder(word.rstrip('/'))
         else:
-            print(f'no crate or folder is named {word}', file=sys.stderr)
+            print(f'map: no crate and no folder has the name {word}', file=sys.stderr)
             return 1
     return 0
 

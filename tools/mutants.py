@@ -4,16 +4,16 @@
     python3 tools/mutants.py [OPTION..] [CRATE..]
 
 - `--jobs N` gives each check N jobs, instead of the number that rt chooses.
-- `--gate` tries only the mutants in must-fail/, which the full check tries too.
-- `--beside` tries only the mutants in mutants/.
+- `--must-fail` tries only the mutants in must-fail/, which the full check tries too.
+- `--mutants` tries only the mutants in mutants/.
 - `--edits NAME,NAME` tries only these mutants.
 - `--part K/N` tries the Kth of N parts, so that N processes can share the work.
 
 Callers of a function depend only on its contract. So whether a body can be proved does not depend on other bodies. One
 check therefore tries mutants of several functions, with `rt check --only` and these functions. It uses the cached
-libraries that tools/kept_libraries.py finds. rt proves the other dependencies.
+libraries that tools/cached_libraries.py finds. rt proves the other dependencies.
 
-A mutant is killed if the check reports that its function is not proved because of a goal: a given proof no longer fits,
+A mutant is killed if the check reports that its function is not proved because of a goal: an existing proof no longer fits,
 or rt finds no proof. If the only errors are lost names, for example a goal or a fact with another name, the contract
 was not tested. Such a mutant is reported as a lost name, and is not counted as killed. If a check changes a callee of a
 function, the function's mutant waits for a later check.
@@ -32,13 +32,13 @@ import time
 
 # The most mutants of one check. With more, more functions wait for callees.
 MOST = 10
-COUNTED = {'refused': 'killed', 'lost': 'with a lost name', 'not': 'not killed', 'not tried': 'not tried'}
+OUTCOMES = {'killed': 'killed', 'lost name': 'with a lost name', 'survived': 'survived', 'not tried': 'not tried'}
 BEGINS = re.compile(r'^(\s*)(?:pub(?:\([^)]*\))? )?(?:const )?(?:unsafe )?(?:extern "C" )?fn (\w+)')
 LOST_NAME = re.compile(r'has no field|is not in scope|has no `|was not admitted|not found: `|no `[^`]*` that can be named|cannot be named|no such name')
 DIAGNOSTIC = re.compile(r'^(?:note: )?(?:\./)?((?:proofs|src|specs)/\S+?):\d+:\d+: (.*)$')
 
 
-class WrongBody:
+class Mutant:
     """A mutant: an edit of one file. It has the replaced texts, and the function whose body contains them, if there is
     one.
     """
@@ -88,8 +88,8 @@ def owner_of(head):
     head = re.sub(r'^impl(<(?:[^<>]|<[^<>]*>)*>)? ', '', head.split(' where ')[0].rstrip(' {'))
     trait, _, kind = head.rpartition(' for ')
     kind = re.sub(r"<.*|&(?:'\w+ )?(?:mut )?", '', kind)
-    given = re.findall(r'<(.*)>', trait)
-    inner = ''.join(re.findall(r'\w+', re.sub(r"'\w+", '', given[0]))) if given else ''
+    trait_parameters = re.findall(r'<(.*)>', trait)
+    inner = ''.join(re.findall(r'\w+', re.sub(r"'\w+", '', trait_parameters[0]))) if trait_parameters else ''
     return kind.split('::')[-1] + (re.sub(r'<.*', '', trait).split('::')[-1] + inner if trait else '::')
 
 
@@ -123,10 +123,10 @@ def bodies(text):
     return found
 
 
-def diagnostics(told):
+def diagnostics(output):
     """Returns the errors and notes of a check, each with its file and all its lines."""
     found = []
-    for line in told.split('\n'):
+    for line in output.split('\n'):
         begins = DIAGNOSTIC.match(line)
         if begins:
             found.append([begins[1], begins[2]])
@@ -137,13 +137,13 @@ def diagnostics(told):
     return [(file, text) for file, text in found if file]
 
 
-def judged(told, function):
+def outcome_of(output, function):
     """Returns the result of a check for a function, and the beginning of the reason.
 
-    The result is 'refused' (killed at a goal), 'lost' (only names are lost), 'waits' (a callee is not proved), 'proved'
+    The result is 'killed' (by a goal), 'lost name' (only names are lost), 'waits' (a callee is not proved), 'proved'
     or 'unknown'.
     """
-    lines = re.findall(r'(?m)^(?:so far: )?fn (\S+): (.*)$', told)
+    lines = re.findall(r'(?m)^(?:so far: )?fn (\S+): (.*)$', output)
     own = [(path, rest) for path, rest in lines if ('::' + path).endswith('::' + function)]
     if len({path for path, _ in own}) != 1:
         return 'unknown', ''
@@ -153,16 +153,16 @@ def judged(told, function):
     if not re.match(r'not proved|no proof', rest):
         return 'unknown', rest
     inner = '/'.join(path.split('::')[1:])
-    about = [text for file, text in diagnostics(told) if file.startswith(f'proofs/{inner}/') and text.startswith('error')]
+    about = [text for file, text in diagnostics(output) if file.startswith(f'proofs/{inner}/') and text.startswith('error')]
     goals = [text for text in about if not LOST_NAME.search(text)]
     if re.search(r'it calls|it passes|a call of', rest):
         return 'waits', rest
     if goals:
-        return 'refused', goals[0].split('\n')[0][:150]
+        return 'killed', goals[0].split('\n')[0][:150]
     if about:
-        return 'lost', about[0].split('\n')[0][:150]
+        return 'lost name', about[0].split('\n')[0][:150]
     found = re.search(r'`search` did not prove (.*)', rest) or re.search(r'which antt refuses', rest)
-    return ('refused', rest[:150]) if found else ('unknown', rest[:150])
+    return ('killed', rest[:150]) if found else ('unknown', rest[:150])
 
 
 def link_or_copy(one, other):
@@ -170,7 +170,7 @@ def link_or_copy(one, other):
     return os.link(one, other) if one.endswith('.oantt') else shutil.copy2(one, other)
 
 
-def copy_of_repository(room):
+def copy_of_repository(work):
     """Copies the files that a check reads, and the results of earlier checks.
 
     Files of built libraries are only replaced, never written, so they are hard-linked.
@@ -183,28 +183,28 @@ def copy_of_repository(room):
             return shutil.copy2(one, other)
 
     for name in ('crates.txt', 'HANDLES'):
-        shutil.copy2(name, room)
-    shutil.copytree('crates', f'{room}/crates', symlinks=True, copy_function=copy)
+        shutil.copy2(name, work)
+    shutil.copytree('crates', f'{work}/crates', symlinks=True, copy_function=copy)
 
 
 class Crate:
     """A crate in a copy of the repository, and its mutants."""
 
-    def __init__(self, room, name, options):
-        self.name, self.folder, self.jobs = name, f'{room}/crates/{name}', options.jobs
-        self.edits = [WrongBody(path, self.folder) for path in options.edits_of(self.folder)]
-        self.room, self.before = room, time.time()
-        self.counts = {'refused': 0, 'lost': 0, 'not': 0, 'not tried': 0}
+    def __init__(self, work, name, options):
+        self.name, self.folder, self.jobs = name, f'{work}/crates/{name}', options.jobs
+        self.edits = [Mutant(path, self.folder) for path in options.edits_of(self.folder)]
+        self.work, self.before = work, time.time()
+        self.counts = {'killed': 0, 'lost name': 0, 'survived': 0, 'not tried': 0}
 
-    def say(self, text):
+    def print_timed(self, text):
         now = time.time()
         print(f'{now - self.before:5.0f} s  {text}', flush=True)
         self.before = now
 
-    def verdict(self, edit, kind, text):
+    def report(self, edit, kind, text):
         self.counts[kind] += 1
-        words = {'refused': 'killed', 'lost': 'LOST NAME', 'not': 'NOT KILLED', 'not tried': 'NOT TRIED'}[kind]
-        self.say(f'{self.name}/{edit.name}: {words}: {text}')
+        words = {'killed': 'killed by a goal', 'lost name': 'LOST NAME', 'survived': 'SURVIVED', 'not tried': 'NOT TRIED'}[kind]
+        self.print_timed(f'{self.name}/{edit.name}: {words}: {text}')
 
     def checked(self, edits, only):
         """Checks the crate with these mutants. Returns the output and the status."""
@@ -224,65 +224,65 @@ class Crate:
                     out.write(edit.text)
         return ran.stdout, ran.returncode
 
-    def together(self, edits):
+    def try_together(self, edits):
         """Tries mutants of different functions in one check. Returns the mutants that wait, and those to be tried one
         by one.
         """
-        told, _ = self.checked(edits, [edit.function for edit in edits])
-        if not re.search(r'(?m)^fn ', told) and len(edits) > 1:
+        output, _ = self.checked(edits, [edit.function for edit in edits])
+        if not re.search(r'(?m)^fn ', output) and len(edits) > 1:
             half = len(edits) // 2
-            first, second = self.together(edits[:half]), self.together(edits[half:])
+            first, second = self.try_together(edits[:half]), self.try_together(edits[half:])
             return first[0] + second[0], first[1] + second[1]
-        waits, alone = [], []
+        waits, remaining = [], []
         for edit in edits:
-            verdict, why = judged(told, edit.function)
-            if verdict in ('refused', 'lost'):
-                self.verdict(edit, verdict, why)
+            verdict, reason = outcome_of(output, edit.function)
+            if verdict in ('killed', 'lost name'):
+                self.report(edit, verdict, reason)
             elif verdict == 'waits' and len(edits) > 1:
                 waits.append(edit)
             elif verdict == 'proved':
-                self.verdict(edit, 'not', f'{edit.function} is still proved')
+                self.report(edit, 'survived', f'{edit.function} is still proved')
             else:
-                alone.append(edit)
-        return waits, alone
+                remaining.append(edit)
+        return waits, remaining
 
-    def by_rounds(self, edits):
+    def try_in_rounds(self, edits):
         """Tries mutants of bodies, one per function at a time. Returns the mutants that have to be tried one by one."""
-        alone = []
+        remaining = []
         while edits:
-            now, later, taken, texts = [], [], set(), {}
+            batch, later, taken, texts = [], [], set(), {}
             for edit in edits:
                 text = texts.get(edit.file, edit.text)
                 # An earlier edit may have changed the text that this one replaces.
-                if edit.function in taken or len(now) == MOST or any(text.count(old) != 1 for old, _ in edit.pairs):
+                if edit.function in taken or len(batch) == MOST or any(text.count(old) != 1 for old, _ in edit.pairs):
                     later.append(edit)
                 else:
                     taken.add(edit.function)
                     texts[edit.file] = edit.edited(text)
-                    now.append(edit)
-            waits, more = self.together(now)
+                    batch.append(edit)
+            waits, more = self.try_together(batch)
             edits = later + waits
-            alone += more
-        return alone
+            remaining += more
+        return remaining
 
-    def alone(self, edit):
+    def try_alone(self, edit):
         """Tries one mutant by a check of the whole crate, as the full check does."""
-        told, status = self.checked([edit], [])
-        errors = [(file, text) for file, text in diagnostics(told) if text.startswith('error') or file.startswith('src/')]
+        output, status = self.checked([edit], [])
+        errors = [(file, text) for file, text in diagnostics(output) if text.startswith('error') or file.startswith('src/')]
         goals = [f'{file}: {text}'.split('\n')[0][:150] for file, text in errors if not LOST_NAME.search(text)]
         if status == 0:
-            self.verdict(edit, 'not', 'the crate is still proved with this mutant')
-        elif status == 1 and 'logic=not-proved' in told:
-            self.verdict(edit, *(('refused', goals[0]) if goals else ('lost', 'there is no other error')))
+            self.report(edit, 'survived', 'the crate is still proved with this mutant')
+        elif status == 1 and 'logic=not-proved' in output:
+            self.report(edit, *(('killed', goals[0]) if goals else ('lost name', 'the check reports no other error')))
         else:
-            self.verdict(edit, 'not tried', (re.findall(r'(?m)^.*error.*$', told) or [told.strip()[-150:]])[0][:150])
+            self.report(edit, 'not tried', (re.findall(r'(?m)^.*error.*$', output) or [output.strip()[-150:]])[0][:150])
 
     def run(self):
         """Tries all mutants of the crate."""
-        alone = [edit for edit in self.edits if not edit.function]
-        alone += self.by_rounds([edit for edit in self.edits if edit.function])
-        for edit in alone:
-            self.alone(edit)
+        remaining = [edit for edit in self.edits if not edit.function]
+        remaining += self.try_in_rounds([edit for edit in self.edits if edit.function])
+        for edit in remaining:
+            self.try_alone(edit)
 
 
 class Options:
@@ -291,8 +291,8 @@ class Options:
     def __init__(self, words):
         self.jobs, self.folders, self.part, self.edits = [], ['must-fail', 'mutants'], (1, 1), None
         while words[:1] and words[0].startswith('--'):
-            if words[0] in ('--beside', '--gate'):
-                self.folders, words = ['mutants' if words[0] == '--beside' else 'must-fail'], words[1:]
+            if words[0] in ('--mutants', '--must-fail'):
+                self.folders, words = [words[0][2:]], words[1:]
             elif words[0] == '--jobs' and re.fullmatch('[1-9][0-9]*', ''.join(words[1:2])):
                 self.jobs, words = words[:2], words[2:]
             elif words[0] == '--edits' and words[1:]:
@@ -301,7 +301,7 @@ class Options:
                 first, many = words[1].split('/')
                 self.part, words = (int(first), int(many)), words[2:]
             else:
-                sys.exit(f'mutants: {words[0]}: no such option; options are --gate, --beside, --jobs N, --edits A,B and --part K/N')
+                sys.exit(f'mutants: unknown option {words[0]}\nusage: python3 tools/mutants.py [--must-fail | --mutants] [--jobs N] [--edits A,B] [--part K/N] [NAME..]')
         self.names = words
 
     def edits_of(self, folder):
@@ -318,22 +318,22 @@ def main(words):
     names = options.names or sorted(path.split('/')[1] for path in glob.glob('crates/*') if options.edits_of(path))
     for name in names:
         if not os.path.isdir(f'crates/{name}'):
-            sys.exit(f'mutants: no crate is named {name}')
-    counts = {'refused': 0, 'lost': 0, 'not': 0, 'not tried': 0}
-    with tempfile.TemporaryDirectory() as room:
-        copy_of_repository(room)
+            sys.exit(f'mutants: no crate has the name {name}')
+    counts = {'killed': 0, 'lost name': 0, 'survived': 0, 'not tried': 0}
+    with tempfile.TemporaryDirectory() as work:
+        copy_of_repository(work)
         tool = os.path.abspath(os.path.dirname(__file__))
-        subprocess.run([sys.executable, f'{tool}/kept_libraries.py', *names], cwd=room, check=False)
-        crates = [Crate(room, name, options) for name in names]
+        subprocess.run([sys.executable, f'{tool}/cached_libraries.py', *names], cwd=work, check=False)
+        crates = [Crate(work, name, options) for name in names]
         print(f'{sum(len(crate.edits) for crate in crates)} mutants of {len(crates)} crates', flush=True)
         for crate in crates:
             crate.run()
-            told = ', '.join(f'{count} {COUNTED[kind]}' for kind, count in crate.counts.items())
-            print(f'{crate.name}: {len(crate.edits)} mutants: {told}', flush=True)
+            summary = ', '.join(f'{count} {OUTCOMES[kind]}' for kind, count in crate.counts.items())
+            print(f'{crate.name}: {len(crate.edits)} mutants: {summary}', flush=True)
             for kind, count in crate.counts.items():
                 counts[kind] += count
-    print(f"{counts['refused']} killed at a goal, {counts['lost']} only by a lost name, {counts['not']} not killed, {counts['not tried']} not tried")
-    return 0 if counts['refused'] and not (counts['lost'] or counts['not'] or counts['not tried']) else 1
+    print(', '.join(f'{count} {OUTCOMES[kind]}' for kind, count in counts.items()))
+    return 0 if counts['killed'] and not (counts['lost name'] or counts['survived'] or counts['not tried']) else 1
 
 
 if __name__ == '__main__':

@@ -4,8 +4,8 @@ It follows the definitions of commands in `EntityCommand.antt` of `cedar_entity_
 `cedar_policy_lines`, and of their output in `EntityOutput.antt`, `PolicyOutput.antt` and `Output.antt` of
 `cedar_store`.
 
-A world is a dictionary from the texts of uids to sets of parents. A board is a dictionary of bodies and a dictionary of
-policies, in insertion order. `./bench` compares the program with this model.
+An input store is a dictionary from the texts of uids to sets of parents. A policy set is a dictionary of bodies and a dictionary of
+policies, in insertion order. `bench/run` compares the program with this model.
 """
 import re
 
@@ -47,89 +47,89 @@ def escaped(text):
     return re.sub(rb"""['"\\]""", rb"\\\g<0>", text)
 
 
-def above(world, start):
+def ancestors(store, start):
     """Returns the uids that are reachable from some uids over parents."""
-    reached, left = set(), [parent for own in start for parent in world.get(own, ())]
+    reached, left = set(), [parent for own in start for parent in store.get(own, ())]
     while left:
         one = left.pop()
         if one not in reached:
             reached.add(one)
-            left += world.get(one, ())
+            left += store.get(one, ())
     return reached
 
 
-def is_cyclic(world):
-    below, free, seen = {}, [], 0
-    for own, parents in world.items():
+def is_cyclic(store):
+    children, ready, seen = {}, [], 0
+    for own, parents in store.items():
         for parent in parents:
-            if parent in world:
-                below.setdefault(parent, []).append(own)
-        if not any(parent in world for parent in parents):
-            free.append(own)
-    count = {own: sum(parent in world for parent in parents) for own, parents in world.items()}
-    while free:
+            if parent in store:
+                children.setdefault(parent, []).append(own)
+        if not any(parent in store for parent in parents):
+            ready.append(own)
+    count = {own: sum(parent in store for parent in parents) for own, parents in store.items()}
+    while ready:
         seen += 1
-        for child in below.get(free.pop(), ()):
+        for child in children.get(ready.pop(), ()):
             count[child] -= 1
             if not count[child]:
-                free.append(child)
-    return seen < len(world)
+                ready.append(child)
+    return seen < len(store)
 
 
 class Session:
     def __init__(self):
-        self.waiting, self.world, self.board, self.aside = [], {}, ({}, {}), ({}, {})
+        self.queue, self.store, self.current, self.other = [], {}, ({}, {}), ({}, {})
 
-    def counted(self):
-        return b"ok %d\n" % len(self.world)
+    def ok_line(self):
+        return b"ok %d\n" % len(self.store)
 
-    def closed(self, world):
-        if is_cyclic(world):
-            self.world = {}
+    def close(self, store):
+        if is_cyclic(store):
+            self.store = {}
             return b"refused: cycle\n"
-        self.world = world
-        return self.counted()
+        self.store = store
+        return self.ok_line()
 
-    def added(self, base):
-        waiting, self.waiting = self.waiting, []
-        world = dict(base)
-        for own, parents in waiting:
-            known = above(base, [own]) if own in base else world.setdefault(own, parents)
-            if known != parents:
-                self.world = {}
+    def add_queued(self, base):
+        queue, self.queue = self.queue, []
+        store = dict(base)
+        for own, parents in queue:
+            existing = ancestors(base, [own]) if own in base else store.setdefault(own, parents)
+            if existing != parents:
+                self.store = {}
                 return b"refused: duplicate %s\n" % own
-        return self.closed(world)
+        return self.close(store)
 
-    def entities(self, word, uids):
+    def entity_line(self, word, uids):
         """Returns the output of a command on entities, or None if the line is not one."""
         if not all(uid(text) for text in uids):
             return None
         if word == b"ent" and uids:
-            self.waiting.append((uids[0], frozenset(uids[1:])))
+            self.queue.append((uids[0], frozenset(uids[1:])))
             return b""
         if word == b"anc" and len(uids) == 1:
-            if uids[0] not in self.world:
+            if uids[0] not in self.store:
                 return b"no entity\n"
-            return b"\t".join([b"anc"] + sorted(above(self.world, uids), key=uid)) + b"\n"
+            return b"\t".join([b"anc"] + sorted(ancestors(self.store, uids), key=uid)) + b"\n"
         if word in (b"remove", b"slice") and uids:
-            gone = set(uids) & set(self.world)
+            removed = set(uids) & set(self.store)
             if word == b"slice":
-                gone = set(self.world) - set(uids) - above(self.world, uids)
-            self.world = {own: parents - gone if word == b"remove" else parents for own, parents in self.world.items() if own not in gone}
-            return self.counted()
+                removed = set(self.store) - set(uids) - ancestors(self.store, uids)
+            self.store = {own: parents - removed if word == b"remove" else parents for own, parents in self.store.items() if own not in removed}
+            return self.ok_line()
         if uids:
             return None
         if word == b"build":
-            return self.added({})
+            return self.add_queued({})
         if word == b"add":
-            return self.added(self.world)
+            return self.add_queued(self.store)
         if word == b"upsert":
-            waiting, self.waiting = self.waiting, []
-            return self.closed({**self.world, **dict(waiting)})
+            queue, self.queue = self.queue, []
+            return self.close({**self.store, **dict(queue)})
         return None
 
-    def joins(self, own, body, policy):
-        bodies, policies = self.board
+    def bind(self, own, body, policy):
+        bodies, policies = self.current
         if own in bodies or own in policies:
             return b"refused: occupied %s\n" % escaped(own)
         if body is not None:
@@ -138,7 +138,7 @@ class Session:
             policies[own] = policy
         return b"ok\n"
 
-    def links(self, template, own, fields):
+    def link(self, template, own, fields):
         """Returns the output of a command that links, or None if the line is not one."""
         bound = {}
         for field in fields:
@@ -146,25 +146,25 @@ class Session:
             if slot is None or slot in bound:
                 return None
             bound[slot] = field[len(MARKS[slot]):]
-        bodies, policies = self.board
+        bodies, policies = self.current
         if template not in bodies or template in policies:
             return b"refused: no template %s\n" % escaped(template)
         if set(bodies[template][1]) != set(bound):
             return b"refused: arity\n"
         if 1 in bound and not is_action(bound[1]):
             return b"refused: not an action %s\n" % bound[1]
-        return self.joins(own, None, (template, bodies[template], bound))
+        return self.bind(own, None, (template, bodies[template], bound))
 
-    def unlinks(self, own):
-        bodies, policies = self.board
+    def unlink(self, own):
+        bodies, policies = self.current
         if own in policies and policies[own][0] is not None:
             del policies[own]
             return b"ok\n"
         kind = b"not a link" if own in bodies else b"no link"
         return b"refused: %s %s\n" % (kind, escaped(own))
 
-    def merges(self, rename):
-        (bodies, policies), (others, further) = self.board, self.aside
+    def merge(self, rename):
+        (bodies, policies), (others, further) = self.current, self.other
         differ = [own for here, there in ((bodies, others), (policies, further), (policies, others), (bodies, further))
                   for own in there if own in here and (policies.get(own), bodies.get(own)) != (further.get(own), others.get(own))]
         differ = list(dict.fromkeys(differ))
@@ -172,7 +172,7 @@ class Session:
             return b"refused: occupied %s\n" % escaped(differ[0])
         new, number = {}, 0
         for own in differ:
-            while any(b"policy%d" % number in held for held in (bodies, policies, others, further)):
+            while any(b"policy%d" % number in bound_ids for bound_ids in (bodies, policies, others, further)):
                 number += 1
             new[own], number = b"policy%d" % number, number + 1
         bound = set(bodies) | set(policies)
@@ -184,25 +184,25 @@ class Session:
                 policies[new.get(own, own)] = new.get(template, template), body, values
         return b"\t".join([b"ok"] + [escaped(text) for pair in new.items() for text in pair]) + b"\n"
 
-    def policies(self, fields):
+    def policy_line(self, fields):
         """Returns the output of a command on policy sets, or None if the line is not one."""
         word, rest = fields[0], fields[1:]
         if word == b"static" and len(rest) == 2 and rest[1] in (b"permit", b"forbid"):
             body = rest[1], ()
-            return self.joins(rest[0], body, (None, body, {}))
+            return self.bind(rest[0], body, (None, body, {}))
         if word == b"template" and len(rest) == 2 and rest[1] in SLOTS:
-            return self.joins(rest[0], (b"permit", SLOTS[rest[1]]), None)
+            return self.bind(rest[0], (b"permit", SLOTS[rest[1]]), None)
         if word == b"link" and len(rest) >= 2:
-            return self.links(rest[0], rest[1], rest[2:])
+            return self.link(rest[0], rest[1], rest[2:])
         if word == b"unlink" and len(rest) == 1:
-            return self.unlinks(rest[0])
+            return self.unlink(rest[0])
         if word == b"other" and not rest:
-            self.board, self.aside = self.aside, self.board
+            self.current, self.other = self.other, self.current
             return b"ok\n"
         if word == b"merge" and len(rest) == 1 and rest[0] in (b"rename", b"keep"):
-            return self.merges(rest[0] == b"rename")
+            return self.merge(rest[0] == b"rename")
         if word == b"ids" and not rest:
-            lines = ([b"bodies", *self.board[0]], [b"policies", *self.board[1]])
+            lines = ([b"bodies", *self.current[0]], [b"policies", *self.current[1]])
             return b"".join(b"\t".join([line[0]] + [escaped(own) for own in line[1:]]) + b"\n" for line in lines)
         return None
 
@@ -213,16 +213,16 @@ class Session:
         if re.search(rb"[^\t -~]", line):
             return None
         fields = line.split(b"\t")
-        written = self.entities(fields[0], fields[1:])
-        return self.policies(fields) if written is None else written
+        line_output = self.entity_line(fields[0], fields[1:])
+        return self.policy_line(fields) if line_output is None else line_output
 
 
-def output(given):
+def output(input_bytes):
     """Returns the output for an input, the status, and the number of lines that were commands."""
     session, out = Session(), []
-    for number, line in enumerate(given.split(b"\n"), 1):
-        written = session.line(line)
-        if written is None:
+    for number, line in enumerate(input_bytes.split(b"\n"), 1):
+        line_output = session.line(line)
+        if line_output is None:
             return b"".join(out) + b"line %d: not a command\n" % number, 2, number - 1
-        out.append(written)
+        out.append(line_output)
     return b"".join(out), 0, number

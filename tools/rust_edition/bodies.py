@@ -164,9 +164,9 @@ def without_memory_arms(nodes):
         if isinstance(n, Group):
             n = Group(n.open, without_memory_arms(n.items))
             if n.open == '{' and any(is_p(x, '=>') for x in n.items):
-                kept = [a for a in arms(n.items) if not re.search(r'\bMemory\b', plain(a.pattern))]
-                if len(kept) < len(arms(n.items)):
-                    n = Group('{', from_arms(kept))
+                remaining = [a for a in arms(n.items) if not re.search(r'\bMemory\b', plain(a.pattern))]
+                if len(remaining) < len(arms(n.items)):
+                    n = Group('{', from_arms(remaining))
         out.append(n)
     return out
 

@@ -7,12 +7,12 @@ from .trees import Group, before, is_group, is_id, is_p, parse, plain, split
 ONLY = re.compile(r'(\w+)\.cloned?\(\)|(\w+) == (\w+)|(\w+)\.hash\((\w+)\);?')
 
 
-def said_at_calls(nodes):
+def with_inlined_calls(nodes):
     """Returns the items of a file without such functions, if each of their calls borrows fields."""
     bodies = {f.name: (f, m) for f, m in ((f, only(f)) for f, owner, _ in functions(nodes) if owner is None) if m}
     for name, (f, m) in bodies.items():
         calls = list(calls_of(nodes, name))
-        if calls and all(parts_lent(call, f, m) for call in calls):
+        if calls and all(borrows_fields(call, f, m) for call in calls):
             nodes = without(nodes, name, m, [parameter_name(p) for p in f.params])
     return nodes
 
@@ -38,11 +38,11 @@ def calls_of(nodes, name):
                 yield nodes[k + 1]
 
 
-def parts_lent(call, f, m):
+def borrows_fields(call, f, m):
     """Returns whether a call borrows fields of values: `&self.part`."""
-    lent = [plain(a) for a in split(call.items)]
+    arguments = [plain(a) for a in split(call.items)]
     count = 1 if m.group(1) or m.group(4) else 2
-    return len(lent) == len(f.params) and all(re.fullmatch(r'&\w+(\.\w+)+', a) for a in lent[:count])
+    return len(arguments) == len(f.params) and all(re.fullmatch(r'&\w+(\.\w+)+', a) for a in arguments[:count])
 
 
 def without(nodes, name, m, params):
@@ -55,13 +55,13 @@ def without(nodes, name, m, params):
             while not is_group(nodes[k], '{'):
                 k += 1
         elif is_id(n, name) and k + 1 < len(nodes) and is_group(nodes[k + 1], '('):
-            lent = dict(zip(params, [plain(a).lstrip('&') for a in split(nodes[k + 1].items)]))
-            told = re.sub(r'\w+', lambda w: lent.get(w.group(0), w.group(0)), m.group(0).rstrip(';'))
-            told = told.replace('.cloned()', '.clone()')  # an `&Option`, of which the call borrows a field
-            negated = out and is_p(out[-1], '!') and ' == ' in told
+            arguments = dict(zip(params, [plain(a).lstrip('&') for a in split(nodes[k + 1].items)]))
+            inlined = re.sub(r'\w+', lambda w: arguments.get(w.group(0), w.group(0)), m.group(0).rstrip(';'))
+            inlined = inlined.replace('.cloned()', '.clone()')  # an `&Option`, of which the call borrows a field
+            negated = out and is_p(out[-1], '!') and ' == ' in inlined
             if negated:
                 out.pop()
-            out += parse(told.replace(' == ', ' != ') if negated else told)
+            out += parse(inlined.replace(' == ', ' != ') if negated else inlined)
             k += 1
         else:
             out.append(Group(n.open, without(n.items, name, m, params)) if isinstance(n, Group) else n)

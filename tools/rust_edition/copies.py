@@ -43,17 +43,17 @@ def field(part):
 
 def copies_all(body, owner, fields):
     """Returns whether the text of a `clone` body copies each field."""
-    told = re.sub(r'\?', '', plain(body))
-    made = re.fullmatch(rf'((?:let \w+ = self\.\w+\.clone\(\); )*)Ok\({owner} ?(.*)\)', told)
-    if not made:
+    body_text = re.sub(r'\?', '', plain(body))
+    constructor = re.fullmatch(rf'((?:let \w+ = self\.\w+\.clone\(\); )*)Ok\({owner} ?(.*)\)', body_text)
+    if not constructor:
         return False
-    copied = {a for a, b in re.findall(r'let (\w+) = self\.(\w+)\.clone\(\);', made.group(1)) if a == b}
-    inner = made.group(2).strip()
+    copied = {a for a, b in re.findall(r'let (\w+) = self\.(\w+)\.clone\(\);', constructor.group(1)) if a == b}
+    inner = constructor.group(2).strip()
     if inner.startswith('('):
         return inner == '(' + ', '.join(f'self.{f}.clone()' for f in fields) + ')'
-    given = [g.strip() for g in inner.strip('{} ').split(',') if g.strip()]
+    values = [g.strip() for g in inner.strip('{} ').split(',') if g.strip()]
     fine = {f'{f}: self.{f}.clone()' for f in fields} | {f'{f}: self.{f}' for f in fields} | copied
-    return len(given) == len(fields) and all(g in fine for g in given)
+    return len(values) == len(fields) and all(g in fine for g in values)
 
 
 def copies_each(body):
@@ -66,10 +66,10 @@ def copies_each(body):
 
 def copied(arm):
     """Returns the value of a match arm, with each copy replaced by the copied part."""
-    told = plain(arm.body).replace('?', '')
-    told = re.sub(r'^\{ (.*) \}$', r'\1', told)
-    told = re.sub(r'let (\w+) = \1\.clone\(\); ', '', told)
-    told = re.sub(r'^Ok\((.*)\)$', r'\1', told)
-    told = re.sub(r'\b(\w+)\.clone\(\)', r'\1', re.sub(r'\*(\w+)', r'\1', told))
-    told = re.sub(r'\b(\w+): \1\b', r'\1', told)
-    return re.sub(r',(?= ?[)}])', '', re.sub(r'\( ', '(', re.sub(r' \)', ')', told)))
+    body_text = plain(arm.body).replace('?', '')
+    body_text = re.sub(r'^\{ (.*) \}$', r'\1', body_text)
+    body_text = re.sub(r'let (\w+) = \1\.clone\(\); ', '', body_text)
+    body_text = re.sub(r'^Ok\((.*)\)$', r'\1', body_text)
+    body_text = re.sub(r'\b(\w+)\.clone\(\)', r'\1', re.sub(r'\*(\w+)', r'\1', body_text))
+    body_text = re.sub(r'\b(\w+): \1\b', r'\1', body_text)
+    return re.sub(r',(?= ?[)}])', '', re.sub(r'\( ', '(', re.sub(r' \)', ')', body_text)))

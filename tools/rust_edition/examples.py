@@ -10,9 +10,9 @@ def entries(path=os.path.join(HERE, 'examples.txt')):
     """Reads the hidden lines of all examples, and the lines of the example for each type and call."""
     hidden, found, calls, lines = [], {}, [], []
     with open(path, encoding='utf-8') as f:
-        rows = f.read().split('\n') + ['@ end: -']
-    for row in rows:
-        if row.startswith('@ '):
+        lines_of_file = f.read().split('\n') + ['@ end: -']
+    for entry in lines_of_file:
+        if entry.startswith('@ '):
             while lines and not lines[-1]:
                 lines.pop()
             if calls == ['*']:
@@ -20,21 +20,21 @@ def entries(path=os.path.join(HERE, 'examples.txt')):
             for call in calls:
                 found[call] = lines
             lines = []
-            owner, _, names = row[2:].partition(':')
+            owner, _, names = entry[2:].partition(':')
             calls = ['*'] if owner == '*' else [(owner, name) for name in names.split()]
-        elif calls and not re.match(r'# ?----|# [A-Z]', row):
-            lines.append(row)
+        elif calls and not re.match(r'# ?----|# [A-Z]', entry):
+            lines.append(entry)
     return hidden, found
 
 
-def shown(line):
+def comment_line(line):
     """Returns a line as it is written in the comment."""
     return '# ' + line[2:] if line.startswith(': ') else line
 
 
 def comment(lines, hidden, indent):
     """Returns an example as lines of a comment."""
-    code = [shown(line) for line in hidden + lines]
+    code = [comment_line(line) for line in hidden + lines]
     if any('?' in re.sub(r'"[^"]*"', '', line) for line in lines):
         code.append('# Ok::<(), Box<dyn std::error::Error>>(())')
     return [f'{indent}///', f'{indent}/// ```'] + [f'{indent}/// {line}'.rstrip() for line in code] + [f'{indent}/// ```']

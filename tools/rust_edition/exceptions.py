@@ -19,23 +19,23 @@ CHOICES = {
 }
 
 # The end of the result types that stay results even if no error is possible: the callers convert them to statuses.
-TOLD = ', Reason>'
+STATUS_RESULT = ', Reason>'
 
 # Functions that only proofs use, so the package does not have them: (type or file, name).
 DROPPED = {('KeyedState', 'new'), ('fresh', 'count_ids'), ('fresh', 'size'), ('node', 'listed'),
            ('shared_node', 'listed_pointers'), ('store_text', 'next_entity'), ('store_text', 'is_before'),
            ('store_text', 'write_by_walks')}
 # Functions that only the tests of the layer use, so the package does not have them.
-UNASKED = {
+ONLY_IN_TESTS = {
     ('PolicySet', 'from_raw_components'), ('PolicyMaps', 'from_raw_components'), ('lists', 'read_policy'),
     ('lists', 'read_policies'), ('maps', 'filter_templates'), ('LineStore', 'new'), ('PolicySets', 'new'),
     ('command', 'read_policy_command'), ('making', 'static_policy'), ('making', 'slotted_template'),
     ('Entity', 'with_shared_parents'),
     ('UidSet', 'is_ascending'), ('UidSet', 'retain'),
 }
-# Functions of `UNASKED` that the C library uses, functions of the C library that only proofs use, and its files that are dropped.
-ASKED_FROM_C = {('Entity', 'with_shared_parents'), ('making', 'static_policy'), ('making', 'slotted_template')}
-UNASKED_FROM_C = {('Held', 'of_parts'), ('Held', 'into_parts')}
+# Functions of `ONLY_IN_TESTS` that the C library uses, functions of the C library that only proofs use, and its files that are dropped.
+USED_BY_C = {('Entity', 'with_shared_parents'), ('making', 'static_policy'), ('making', 'slotted_template')}
+UNUSED_BY_C = {('Held', 'of_parts'), ('Held', 'into_parts')}
 DROPPED_FILES = {('cedar_c', 'parts')}
 DROPPED_TYPES = {'Linked', 'Direct', 'Streams'}
 DROPPED_IMPLS = {('Linked', 'Drop'), ('Linked', 'Deref'), ('Direct', 'Streams')}
@@ -48,8 +48,8 @@ UNUSED = {
 }
 
 # Public functions with parameters that are anything that can be iterated or read as a text: (type or file, name), and the mode of
-# each of these parameters (see `wide.py`).
-WIDE = {
+# each of these parameters (see `general_parameters.py`).
+GENERAL_PARAMETERS = {
     ('Eid', 'new'): {'text': 'into'},
     ('PolicyID', 'from_string'): {'text': 'as_ref'},
     ('PolicyID', 'from_smolstr'): {'id': 'into'},

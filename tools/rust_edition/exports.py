@@ -1,6 +1,6 @@
 """Writes the functions of the C library over the package: one for each function that `cedar_c` exports.
 
-A slice is passed as a pointer and a length, and a reference as a pointer. The hand-written `lent.rs` converts them to
+A slice is passed as a pointer and a length, and a reference as a pointer. The hand-written `c_references.rs` converts them to
 references. Each signature is compared with the declaration in `callers/c/cedar.h`.
 """
 import os
@@ -9,17 +9,17 @@ import re
 from .functions import functions, is_allocator
 from .trees import before, is_id, plain
 
-# `PLAIN` has the types that are passed by value, with their types in C. `KEPT` has the types behind pointers. `LENT` has a line for
-# each kind of reference: its pattern, the function of `lent.rs` that creates it, the pointer type, and whether it is a slice.
+# `PLAIN` has the types that are passed by value, with their types in C. `POINTED_TO` has the types behind pointers. `REFERENCES` has a line for
+# each kind of reference: its pattern, the function of `c_references.rs` that creates it, the pointer type, and whether it is a slice.
 PLAIN = {'bool': 'bool', 'u32': 'uint32_t', 'u64': 'uint64_t', 'usize': 'size_t'}
-KEPT = {'u8': 'uint8_t', 'Span': 'cedar_span', 'Edge': 'cedar_edge', 'Term': 'cedar_term', 'Node': 'cedar_node',
+POINTED_TO = {'u8': 'uint8_t', 'Span': 'cedar_span', 'Edge': 'cedar_edge', 'Term': 'cedar_term', 'Node': 'cedar_node',
         'Body': 'cedar_body', 'AnnotationAt': 'cedar_annotation', 'Store': 'cedar_store', 'Policies': 'cedar_policies'}
-LENT = [(r'&\[(\w+)\]', 'all', '*const', True), (r'&mut \[(\w+)\]', 'all_mut', '*mut', True),
+REFERENCES = [(r'&\[(\w+)\]', 'all', '*const', True), (r'&mut \[(\w+)\]', 'all_mut', '*mut', True),
         (r'&mut (\w+)', 'one', '*mut', False), (r'&(\w+)', 'read', '*const', False)]
 HEAD = '''//! The functions of `cedar.h`. Each calls the function of the layer with the same name.
 #![allow(unsafe_code)]
 
-use super::lent;
+use super::c_references;
 use super::policies::Policies;
 use super::store::Store;
 use crate::cedar_c_bodies::{AnnotationAt, Body};
@@ -34,44 +34,44 @@ class Export:
 
     def __init__(self, module, f):
         self.module, self.name, self.answer, self.unknown = module, f.name, f.answer, []
-        self.taken, self.lent, self.c_types = [], [], []
+        self.parameters, self.arguments, self.c_types = [], [], []
         for p in f.params:
             if not is_allocator(p):
                 name, kind = [x.strip() for x in plain(p).split(':', 1)]
-                self.take(name, kind)
+                self.add_parameter(name, kind)
         if self.answer and self.answer not in PLAIN:
-            self.unknown.append(f'no rule for the result type `{self.answer}` of {self.name}')
+            self.unknown.append(f'rust_edition: there is no rule for the result type `{self.answer}` of {self.name}')
 
-    def take(self, name, kind):
+    def add_parameter(self, name, kind):
         """Adds a parameter."""
         if kind in PLAIN:
-            self.taken.append(f'{name}: {kind}')
+            self.parameters.append(f'{name}: {kind}')
             self.c_types.append(PLAIN[kind])
-            self.lent.append(name)
+            self.arguments.append(name)
             return
-        for pattern, by, pointer, is_many in LENT:
+        for pattern, converter, pointer, is_many in REFERENCES:
             m = re.fullmatch(pattern, kind)
-            if m and m.group(1) in PLAIN | KEPT:
-                self.taken.append(f'{name}: {pointer} {m.group(1)}')
-                self.c_types.append('const ' * (pointer == '*const') + (PLAIN | KEPT)[m.group(1)] + ' *')
-                self.lent.append(f'lent::{by}({name}, {name}_len)' if is_many else f'lent::{by}({name})')
+            if m and m.group(1) in PLAIN | POINTED_TO:
+                self.parameters.append(f'{name}: {pointer} {m.group(1)}')
+                self.c_types.append('const ' * (pointer == '*const') + (PLAIN | POINTED_TO)[m.group(1)] + ' *')
+                self.arguments.append(f'c_references::{converter}({name}, {name}_len)' if is_many else f'c_references::{converter}({name})')
                 if is_many:
-                    self.taken.append(f'{name}_len: usize')
+                    self.parameters.append(f'{name}_len: usize')
                     self.c_types.append('size_t')
                 return
-        self.unknown.append(f'no rule for the parameter `{name}: {kind}` of {self.name}')
+        self.unknown.append(f'rust_edition: there is no rule for the parameter `{name}: {kind}` of {self.name}')
 
     def declared(self):
         """Returns the types that the header must declare, the type of the result first."""
         return [PLAIN.get(self.answer, 'void') if self.answer else 'void', *self.c_types]
 
-    def written(self):
+    def function_text(self):
         """Returns the text of the function."""
         tail = f' -> {self.answer}' if self.answer else ''
-        call = f'super::{self.module}::{self.name}({", ".join(self.lent)})'
-        if any('*' in t for t in self.taken):
+        call = f'super::{self.module}::{self.name}({", ".join(self.arguments)})'
+        if any('*' in t for t in self.parameters):
             call = f'// SAFETY: the caller follows the rules at the top of `cedar.h`.\n    unsafe {{ {call} }}'
-        return (f'\n#[unsafe(no_mangle)]\npub unsafe extern "C" fn {self.name}({", ".join(self.taken)}){tail} {{\n'
+        return (f'\n#[unsafe(no_mangle)]\npub unsafe extern "C" fn {self.name}({", ".join(self.parameters)}){tail} {{\n'
                 f'    {call}\n}}\n')
 
 
@@ -97,10 +97,10 @@ def exported(sources, found):
         if os.path.dirname(name) == 'cedar_c':
             plain_ones = re.sub(r'#\[unsafe\(no_mangle\)\]\s*', '', sources[name])
             out[name] = re.sub(r'\bextern "C" (?=fn )', '', plain_ones)
-    out[os.path.join('cedar_c', 'mod.rs')] += 'mod exports;\nmod lent;\n'
-    out[os.path.join('cedar_c', 'exports.rs')] = HEAD + ''.join(e.written() for e in found)
-    with open(os.path.join(os.path.dirname(os.path.abspath(__file__)), 'lent.rs'), encoding='utf-8') as f:
-        out[os.path.join('cedar_c', 'lent.rs')] = f.read()
+    out[os.path.join('cedar_c', 'mod.rs')] += 'mod exports;\nmod c_references;\n'
+    out[os.path.join('cedar_c', 'exports.rs')] = HEAD + ''.join(e.function_text() for e in found)
+    with open(os.path.join(os.path.dirname(os.path.abspath(__file__)), 'c_references.rs'), encoding='utf-8') as f:
+        out[os.path.join('cedar_c', 'c_references.rs')] = f.read()
     return out
 
 
@@ -123,11 +123,11 @@ def type_of(param):
 def faults(found, top):
     """Returns the differences between the exports and the header."""
     with open(os.path.join(top, 'callers', 'c', 'cedar.h'), encoding='utf-8') as f:
-        due = declarations(f.read())
-    here = {e.name: e.declared() for e in found}
+        declared = declarations(f.read())
+    exported_types = {e.name: e.declared() for e in found}
     out = [u for e in found for u in e.unknown]
-    out += [f'cedar.h declares no {name}' for name in sorted(here.keys() - due.keys())]
-    out += [f'cedar.h declares {name}, which cedar_c does not export' for name in sorted(due.keys() - here.keys())]
-    out += [f'{name} has other types than in cedar.h: {here[name]}, {due[name]}'
-            for name in sorted(here.keys() & due.keys()) if here[name] != due[name]]
+    out += [f'rust_edition: cedar.h does not declare {name}, which cedar_c exports' for name in sorted(exported_types.keys() - declared.keys())]
+    out += [f'rust_edition: cedar.h declares {name}, which cedar_c does not export' for name in sorted(declared.keys() - exported_types.keys())]
+    out += [f'rust_edition: {name} has the types {exported_types[name]}, but cedar.h declares {declared[name]}'
+            for name in sorted(exported_types.keys() & declared.keys()) if exported_types[name] != declared[name]]
     return out

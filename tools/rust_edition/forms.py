@@ -125,9 +125,9 @@ def with_rest(nodes):
         cs = code(nodes[start:stop])
         if len(cs) > 3 and is_id(cs[0], 'let') and is_id(cs[1]) and is_group(cs[2], '{') and cs[1][1][0].isupper():
             fields = [plain(f) for f in parts(cs[2].items)]
-            kept = [f for f in fields if not re.fullmatch(r'\w+: _\w*', f)]
-            if len(kept) < len(fields):
-                cs[2].items[:] = parse(' ' + ', '.join([f for f in kept if f != '..'] + ['..']) + ' ')
+            remaining = [f for f in fields if not re.fullmatch(r'\w+: _\w*', f)]
+            if len(remaining) < len(fields):
+                cs[2].items[:] = parse(' ' + ', '.join([f for f in remaining if f != '..'] + ['..']) + ' ')
     return nodes
 
 
@@ -175,8 +175,8 @@ def unbind(before_, out, name):
         for k, n in enumerate(cs[:3]):
             if is_group(n, '{') and name in identifiers(n.items):
                 fields = [f for f in parts(n.items) if name not in identifiers(f)]
-                kept = [f for f in fields if plain(f) != '..']
-                n.items[:] = parse(' ' + ', '.join(plain(f) for f in kept) + ', .. ')
+                remaining = [f for f in fields if plain(f) != '..']
+                n.items[:] = parse(' ' + ', '.join(plain(f) for f in remaining) + ', .. ')
         return
 
 
@@ -246,10 +246,10 @@ def with_returns(nodes):
             out += part
             continue
         subject, _, name, body = found
-        told = plain(body)
-        if len(re.findall(rf'\b{name}\b', told)) == 1 and ';' not in told:
-            end = ';' if closed or not told.endswith('}') else ''
-            out += parse(re.sub(rf'\b{name}\b', lambda _: subject + '?', told) + end)
+        body_text = plain(body)
+        if len(re.findall(rf'\b{name}\b', body_text)) == 1 and ';' not in body_text:
+            end = ';' if closed or not body_text.endswith('}') else ''
+            out += parse(re.sub(rf'\b{name}\b', lambda _: subject + '?', body_text) + end)
         else:
             out += part
     return out + nodes[last:]

@@ -9,8 +9,8 @@ from .trees import (Group, after, before, code, is_code, is_comment, is_group, i
                     trim, angle_end)
 from .copies import derived
 from .forms import natural
-from .own import self_type, with_self
-from .wide import widened
+from .self_types import self_type, with_self
+from .general_parameters import generalized
 
 
 def drop_notes(out):
@@ -126,11 +126,11 @@ class Writer:
             j += 1
         parts = split(nodes[j].items)
         name = nodes[after(nodes, i + 1)][1]
-        kept = [p for p in parts if variant(p)[0] != 'Memory']
-        texts = [(variant(p), error_text(p)) for p in kept]
-        shown = [without_error(p) for p in kept]
+        remaining = [p for p in parts if variant(p)[0] != 'Memory']
+        texts = [(variant(p), error_text(p)) for p in remaining]
+        variants = [without_error(p) for p in remaining]
         body = []
-        for p in shown:
+        for p in variants:
             body += [('ws', '\n')] + trim(p) + [('p', ',')]
         out += nodes[i:j] + [Group('{', body + [('ws', '\n')])]
         if all(t for _, t in texts) and texts:
@@ -146,8 +146,8 @@ class Writer:
                 j = before(out, len(out) - 1)
                 places = self.unused_places(out, j, file) if n.open == '(' and j >= 0 and is_id(out[j]) else ()
                 if places:
-                    kept = [p for k, p in enumerate(split(n.items)) if k not in places]
-                    n.items[:] = parse(', '.join(plain(p) for p in kept))
+                    remaining = [p for k, p in enumerate(split(n.items)) if k not in places]
+                    n.items[:] = parse(', '.join(plain(p) for p in remaining))
             out.append(n)
         return out
 
@@ -184,9 +184,9 @@ class Writer:
         self.unknown += [u + f' (in {f.name})' for u in place.unknown]
         texts = [re.sub(r": &('\w+ )?Vec<(.*)>$", r': &\1[\2]', plain(p)) for p in params]
         generics = text(nodes[f.generics[0]:f.generics[1]])
-        modes = self.lists.wide.get((owner or file.module, f.name))
+        modes = self.lists.general.get((owner or file.module, f.name))
         if modes:
-            texts, body = widened(texts, body, modes)
+            texts, body = generalized(texts, body, modes)
         texts, answer, generics = elided(texts, answer, generics)
         tail = '' if unit else f' -> {answer}'
         self.mark(f, file, owner, out)
@@ -323,9 +323,9 @@ def arm(path, fields, literal, args):
         pattern = '(' + ', '.join(n if n in used else '_' for n in names) + ')'
     elif fields is not None:
         names = [field_name(p) for p in split(fields.items)]
-        kept = [n for n in names if re.search(rf'\b{n}\b', used)]
-        dots = [] if len(kept) == len(names) else ['..']
-        pattern = ' { ' + ', '.join(kept + dots) + ' }'
+        remaining = [n for n in names if re.search(rf'\b{n}\b', used)]
+        dots = [] if len(remaining) == len(names) else ['..']
+        pattern = ' { ' + ', '.join(remaining + dots) + ' }'
     if '{' not in literal:
         return f'{path}{pattern} => f.write_str({literal}),'
     return f'{path}{pattern} => write!(f, {literal}{args}),'

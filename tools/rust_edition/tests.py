@@ -6,7 +6,7 @@ code that checks the result does not change. Functions that a test defines itsel
 import os
 import re
 
-from . import exceptions, otherwise, texts
+from . import exceptions, replacements, texts
 from .bodies import ALLOCATOR, STD_METHODS
 from .functions import Function, called, functions, header, imports_of, is_function, kind_of, starts_item
 from .ghosts import without_ghosts
@@ -80,7 +80,7 @@ class Test:
     def __init__(self, crate, imports, library):
         self.crate, self.imports, self.library = crate, imports, library
 
-    def judge(self, out):
+    def wrapper_of_call(self, out):
         """Returns whether the last call is of the package or of std, and the wrapper for its result."""
         how, name, on, _ = called(out, len(out))
         if how == 'path':
@@ -89,12 +89,12 @@ class Test:
             at = self.imports.get(name, ('', ''))[0]
             if at not in exceptions.CRATES:
                 return False, None
-            return True, self.told(self.library.free(at, name), name)
+            return True, self.wrapper(self.library.free(at, name), name)
         if how == 'method':
             return self.of_method(name, is_first_allocator(out[-1].items))
         return False, None
 
-    def told(self, kinds, name):
+    def wrapper(self, kinds, name):
         """Returns the wrapper for a result of these kinds, or `None`."""
         if name == 'slice':  # can fail only by an allocation, with an error that tests name
             return 'Ok::<_, crate::entities::EntitiesError>'
@@ -107,10 +107,10 @@ class Test:
         if on == 'Self' or on in self.library.own_types.get(self.crate, ()):
             return False, None
         if (on, name) in self.library.table.owned:
-            return True, self.told(self.library.table.owned[on, name], name)
+            return True, self.wrapper(self.library.table.owned[on, name], name)
         at = on if on in exceptions.CRATES else self.imports.get(on, ('', ''))[0]
         if at in exceptions.CRATES:
-            return True, self.told(self.library.free(at, name), name)
+            return True, self.wrapper(self.library.free(at, name), name)
         return False, None
 
     def of_method(self, name, has):
@@ -148,17 +148,17 @@ class Test:
 
     def call(self, out):
         """Rewrites the last call: removes the allocator, and wraps the result."""
-        is_library, told = self.judge(out)
+        is_library, result_wrapper = self.wrapper_of_call(out)
         if not is_library:
             return
         if is_first_allocator(out[-1].items):
             k = next((k for k, x in enumerate(out[-1].items) if is_p(x, ',')), len(out[-1].items))
             out[-1].items[:] = trim(out[-1].items[k + 1:])
-        if told:
+        if result_wrapper:
             how, name, _, k = called(out, len(out))
             start = receiver(out, k) if how == 'method' else path_start(out, k)
             listed = parse('.collect::<Vec<_>>()') if name in ('out_edges', 'direct_edges') else []
-            out[start:] = parse(told) + [Group('(', trim(out[start:]) + listed)]
+            out[start:] = parse(result_wrapper) + [Group('(', trim(out[start:]) + listed)]
 
     def functions(self, nodes):
         """Rewrites the bodies of the functions of a tree."""
@@ -183,8 +183,8 @@ class Test:
             return f.nodes[f.at:f.end + 1]
         body = self.calls(without_library_memory(f.body))
         if f.name == 'clone' and 'AllocError' in f.answer:
-            made = f'fn clone(&self) -> {first_argument(f.answer)} {{ (|| -> {f.answer} {{ {text(body)} }})().unwrap() }}'
-            return parse(made)
+            clone_text = f'fn clone(&self) -> {first_argument(f.answer)} {{ (|| -> {f.answer} {{ {text(body)} }})().unwrap() }}'
+            return parse(clone_text)
         signature = [n for n in f.nodes[f.at:f.end] if isinstance(n, Group) or n[0] != 'com']
         return signature + [Group('{', body)]
 
@@ -260,8 +260,8 @@ def without_library_memory(nodes):
             n = Group(n.open, without_library_memory(n.items))
             if n.open == '{' and any(is_p(x, '=>') for x in n.items):
                 all_ = arms(n.items)
-                kept = [a for a in all_ if not re.search(ERRORS, plain(a.pattern))]
-                n = Group('{', from_arms(kept)) if len(kept) < len(all_) else n
+                remaining = [a for a in all_ if not re.search(ERRORS, plain(a.pattern))]
+                n = Group('{', from_arms(remaining)) if len(remaining) < len(all_) else n
         out.append(n)
     return out
 
@@ -293,7 +293,7 @@ NAMES = [
 ]
 
 
-def written(crate, name, nodes, library):
+def test_text(crate, name, nodes, library):
     """Returns the text of a source of tests."""
     everything = exceptions.CRATES + exceptions.TESTS
     test = Test(crate, imports_of(nodes, crate, everything), library)
@@ -326,16 +326,16 @@ def modules(top, table, files):
     """Returns the text of each source of tests, by its path below `src`."""
     tests = list(sources(top))
     library = Library(table, files, tests)
-    _, after_ = otherwise.entries(os.path.join(HERE, 'tests_otherwise.txt'))
+    _, after_ = replacements.entries(os.path.join(HERE, 'test_replacements.txt'))
     out = {}
     for crate, name, nodes in tests:
-        source = written(crate, name, nodes, library)
-        source = otherwise.said(source, after_.get((crate, name), []), f'{crate}/{name}')
+        source = test_text(crate, name, nodes, library)
+        source = replacements.apply(source, after_.get((crate, name), []), f'{crate}/{name}')
         out[os.path.join(crate, 'mod.rs' if name == 'lib' else name + '.rs')] = source
     return out
 
 
-def asked_for(top):
+def imported_names(top):
     """Returns the names that tests import from the heads of crates."""
     return {(path[0], path[1].split(' as ')[0]) for _, _, nodes in sources(top) for path in texts.uses_in(nodes)
             if path[0] in exceptions.CRATES and len(path) > 1}

@@ -57,7 +57,7 @@ def comment_names(line):
     return re.sub(r'\bIndexSet\b', 'OrderedSet', line)
 
 
-def take_uses(nodes):
+def split_uses(nodes):
     """Returns the tree of a file without its private `use` items, and their paths."""
     out, paths, i = [], [], 0
     while i < len(nodes):

@@ -72,8 +72,8 @@ def text(nodes):
 
 def plain(nodes):
     """Returns the text on one line, without comments."""
-    kept = [n for n in nodes if not is_comment(n)]
-    return re.sub(r'\s+', ' ', text(kept)).strip()
+    code_nodes = [n for n in nodes if not is_comment(n)]
+    return re.sub(r'\s+', ' ', text(code_nodes)).strip()
 
 
 def is_comment(n):

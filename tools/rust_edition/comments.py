@@ -5,11 +5,11 @@ of a paragraph is filled anew. Of the comment at the head of a crate the first p
 import re
 import textwrap
 
-SPEAKS = re.compile('|'.join([
+OFF_TOPIC = re.compile('|'.join([
     r'\bmemory\b', r'\b[Aa]llocat(?:ion|or)s?\b', 'AllocError', '`Memory`', '::Memory', '`_?alloc', r'\b[Cc]ontracts?\b',
     r'\bghost', r'\.antt\b', r'\bspecs/', r'\b[Pp]roofs?\b', r'\b[Pp]roved?\b', 'No effect at run time']))
-# Said otherwise, before sentences are looked at.
-SAID = [
+# Replacements that are applied before sentences are filtered.
+REWRITTEN = [
     ('The default hasher has a fixed seed\\. If untrusted parties choose the (?:uids|names), they can force collisions and slow '
      '(?:every call|this function) down\\. Use (\\[`[^`]*`\\]) with a randomly keyed builder in that case\\.',
      r'The default hasher has a key that is drawn once for the process. \1 takes another.'),
@@ -29,7 +29,7 @@ LINE = re.compile(r'^(\s*)(///|//!|//)(?: (.*)|)$')
 
 
 def without_proofs(source, is_head):
-    """the text with comments that speak of the package alone"""
+    """Returns the text without sentences of comments that are not about the package."""
     out, lines, k = [], source.split('\n'), 0
     while k < len(lines):
         m = LINE.match(lines[k])
@@ -44,25 +44,25 @@ def without_proofs(source, is_head):
                 break
             block.append(n.group(3) or '')
             k += 1
-        out += written(block, m.group(1) + m.group(2), is_head and m.group(2) == '//!')
+        out += comment_lines(block, m.group(1) + m.group(2), is_head and m.group(2) == '//!')
     return '\n'.join(out)
 
 
-def written(block, mark, is_head):
-    """the lines of a comment"""
-    kept = []
+def comment_lines(block, mark, is_head):
+    """Returns the lines of a comment."""
+    remaining = []
     for paragraph in paragraphs(block):
-        lines = said(paragraph, len(mark))
+        lines = filtered(paragraph, len(mark))
         if lines:
-            kept.append(lines)
-        elif kept and paragraph[0].startswith('- ') and kept[-1][-1].endswith(';'):
-            kept[-1] = kept[-1][:-1] + [kept[-1][-1][:-1] + '.']
+            remaining.append(lines)
+        elif remaining and paragraph[0].startswith('- ') and remaining[-1][-1].endswith(';'):
+            remaining[-1] = remaining[-1][:-1] + [remaining[-1][-1][:-1] + '.']
         if is_head:
             break
-    kept = with_content(kept)
+    remaining = with_content(remaining)
     out = []
-    for k, lines in enumerate(kept):
-        if k and not (lines[0].startswith('- ') and kept[k - 1][0].startswith('- ')):
+    for k, lines in enumerate(remaining):
+        if k and not (lines[0].startswith('- ') and remaining[k - 1][0].startswith('- ')):
             out.append(mark)
         out += [f'{mark} {x}'.rstrip() for x in lines]
     return out
@@ -72,7 +72,7 @@ FUNCTION = re.compile(r'^\s*(?:pub(?:\([a-z]+\))? )?(?:const )?fn \w+')
 
 
 def without_error_sections(source):
-    """the text without the sections `# Errors` of functions that return no `Result` in the package"""
+    """Returns the text without the sections `# Errors` of functions that return no `Result` in the package."""
     lines, out, k = source.split('\n'), [], 0
     while k < len(lines):
         if not lines[k].strip().startswith('///'):
@@ -94,7 +94,7 @@ def without_error_sections(source):
 
 
 def head_at(lines, at):
-    """the signature that begins at a line"""
+    """Returns the signature that begins at a line."""
     end = at
     while end < len(lines) - 1 and not re.search(r'[{;]\s*$', lines[end]):
         end += 1
@@ -102,7 +102,7 @@ def head_at(lines, at):
 
 
 def without_section(block):
-    """a comment without its section `# Errors`"""
+    """Returns a comment without its section `# Errors`."""
     out, inside = [], False
     for line in block:
         if re.match(r'^\s*/// # ', line):
@@ -114,14 +114,14 @@ def without_section(block):
     return out
 
 
-def with_content(kept):
-    """the paragraphs without the headings that nothing follows any more"""
-    return [lines for k, lines in enumerate(kept)
-            if not lines[0].startswith('# ') or (k + 1 < len(kept) and not kept[k + 1][0].startswith('# '))]
+def with_content(remaining):
+    """Removes headings that are not followed by a paragraph."""
+    return [lines for k, lines in enumerate(remaining)
+            if not lines[0].startswith('# ') or (k + 1 < len(remaining) and not remaining[k + 1][0].startswith('# '))]
 
 
 def paragraphs(block):
-    """paragraphs, items of lists and texts between fences, each a list of lines"""
+    """Returns the paragraphs, items of lists and fenced texts, each as a list of lines."""
     out, current, fenced = [], [], False
     for line in block:
         if line.startswith('```'):
@@ -141,53 +141,53 @@ def paragraphs(block):
     return [p for p in out if p]
 
 
-def said(paragraph, indent):
-    """what is left of a paragraph, filled where something was taken out"""
+def filtered(paragraph, indent):
+    """Filters the sentences of a paragraph, and fills it again if some were removed."""
     if any(x.startswith(('```', '#', '|')) for x in paragraph):
         return paragraph
-    whole = ' '.join(x.strip() for x in paragraph)
-    bullet = '- ' if whole.startswith('- ') else ''
-    left = sentences_left(whole[len(bullet):])
-    if left == whole[len(bullet):]:
+    joined_text = ' '.join(x.strip() for x in paragraph)
+    bullet = '- ' if joined_text.startswith('- ') else ''
+    filtered_text = filtered_sentences(joined_text[len(bullet):])
+    if filtered_text == joined_text[len(bullet):]:
         return paragraph
-    if not left:
+    if not filtered_text:
         return []
-    return textwrap.wrap(bullet + left, 119 - indent, subsequent_indent=' ' * len(bullet), break_long_words=False,
+    return textwrap.wrap(bullet + filtered_text, 119 - indent, subsequent_indent=' ' * len(bullet), break_long_words=False,
                          break_on_hyphens=False)
 
 
-def sentences_left(whole):
-    changed = whole
-    for a, b in SAID:
+def filtered_sentences(joined_text):
+    changed = joined_text
+    for a, b in REWRITTEN:
         changed = re.sub(a, b, changed)
     out = []
     for sentence in re.split(r'(?<=[.])\s+(?=[A-Z`\[0-9])', changed):
         if sentence in UNTRUE:
             continue
-        if SPEAKS.search(sentence):
-            sentence = parts_left(sentence)
+        if OFF_TOPIC.search(sentence):
+            sentence = filtered_parts(sentence)
         if sentence:
             out.append(sentence)
     return ' '.join(out)
 
 
-def parts_left(sentence):
-    """the parts between semicolons that do not speak of memory or proofs"""
+def filtered_parts(sentence):
+    """Returns the parts between semicolons that are not about memory or proofs."""
     parts = re.split(r';\s+', sentence.rstrip('.'))
-    kept = [p for p in parts if not SPEAKS.search(p)]
-    if not kept or len(parts) == 1:
+    remaining = [p for p in parts if not OFF_TOPIC.search(p)]
+    if not remaining or len(parts) == 1:
         return ''
-    text = '; '.join(kept)
+    text = '; '.join(remaining)
     return (text[0].upper() if text[0].islower() and not text.startswith('`') else text[0]) + text[1:].rstrip('.') + '.'
 
 
-# What a written file may not speak of.
-LEFT = re.compile('|'.join([
+# Words that a generated file must not contain.
+FORBIDDEN = re.compile('|'.join([
     r'memory\b', 'alloc(?!at)', r'\bcontract', r'\bproof', r'\bprove[sdr]?\b', r'\bghost\b', 'fixed seed', r'\bGlobal\b',
     r'^\s*(requires|ensures)\b']), re.I)
 
 
 def faults(name, source):
-    """lines of a written file that speak of memory, contracts or proofs"""
-    return [f'{name} speaks of what the package does not have: {line.strip()}'
-            for line in source.split('\n')[1:] if LEFT.search(line)]
+    """Returns a message for each line of a generated file that is about memory, contracts or proofs."""
+    return [f'rust_edition: {name} has a comment on memory, contracts or proofs: {line.strip()}'
+            for line in source.split('\n')[1:] if FORBIDDEN.search(line)]

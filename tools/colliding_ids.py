@@ -9,19 +9,19 @@ MULTIPLIER, SEED, ONES = 0x9E3779B97F4A7C15, 0x243F6A8885A308D3, (1 << 64) - 1
 EDITS = 1000
 
 
-def joined(one, other):
+def folded_product(one, other):
     product = one * other
     return product & ONES ^ product >> 64
 
 
 def short(state, number, length):
     """Returns the state of the hasher after up to eight bytes, given as a number."""
-    return joined(state ^ number, MULTIPLIER ^ 2 * length)
+    return folded_product(state ^ number, MULTIPLIER ^ 2 * length)
 
 
 def long(state, text):
     """Returns the state of the hasher after sixteen bytes of a longer text."""
-    return joined(state ^ int.from_bytes(text[:8], "little"), MULTIPLIER ^ int.from_bytes(text[8:], "little"))
+    return folded_product(state ^ int.from_bytes(text[:8], "little"), MULTIPLIER ^ int.from_bytes(text[8:], "little"))
 
 
 def printable(number):
@@ -30,7 +30,7 @@ def printable(number):
     return text.decode() if all(32 < b < 127 and b not in b'"\\' for b in text) else None
 
 
-def crafted_type():
+def colliding_type():
     """Returns a type and a prefix of eight characters. Every eid of 16 characters with the prefix makes the state 0."""
     for number in range(100000):
         name = f"T{number:05}"
@@ -40,27 +40,27 @@ def crafted_type():
         head = printable(state + 16 & ONES)
         if head:
             return name, head
-    raise SystemExit("found no type whose uids collide")
+    raise SystemExit("colliding ids: found no type whose uids collide")
 
 
-def crafted_start():
+def colliding_start():
     """Returns a prefix of 24 characters. Every id of 32 characters with the prefix makes the state 0."""
     for number in range(1000000):
         start = f"policy{number:010}"
         head = printable(long(SEED + 32 & ONES, start.encode()))
         if head:
             return start + head
-    raise SystemExit("found no ids that collide")
+    raise SystemExit("colliding ids: found no ids that collide")
 
 
 def edits(size):
     """Yields edits of one entity each, of a store of entities without parents. Half of them overwrite an entity."""
     for edit in range(EDITS):
-        own = (edit * 7919 + 1) % size
+        number = (edit * 7919 + 1) % size
         if edit % 4 == 3:
-            yield "remove", own, []
+            yield "remove", number, []
         else:
-            yield "upsert", own, [(own * 31 + edit) % own] if own else []
+            yield "upsert", number, [(number * 31 + edit) % number] if number else []
 
 
 def store_lines(shape, size, uid):
@@ -73,11 +73,11 @@ def store_lines(shape, size, uid):
         yield ["ent", uid(i)] + [uid(parent) for parent in parents]
     yield ["build"]
     if shape == "edits":
-        for verb, own, parents in edits(size):
+        for verb, number, parents in edits(size):
             if verb == "remove":
-                yield ["remove", uid(own)]
+                yield ["remove", uid(number)]
             else:
-                yield ["ent", uid(own)] + [uid(parent) for parent in parents]
+                yield ["ent", uid(number)] + [uid(parent) for parent in parents]
                 yield ["upsert"]
 
 
@@ -102,16 +102,16 @@ def set_lines(shape, size, name):
 
 
 def stores(size):
-    """Yields each store with a title: its lines with crafted uids, and with ordinary uids."""
-    name, head = crafted_type()
+    """Yields each store with a title: its lines with colliding uids, and with ordinary uids."""
+    name, head = colliding_type()
     for shape, count in ("single", size), ("star", size), ("chain", size // 20), ("edits", size):
-        for kind, start in ("crafted", head), ("ordinary", "ordinary"):
+        for kind, start in ("colliding", head), ("ordinary", "ordinary"):
             yield f"{shape} {count:,} of {kind} uids", store_lines(shape, count, lambda i, name=name, start=start: f'{name}::"{start}{i:08}"')
 
 
 def sets(size):
-    """Yields each policy set with a title: its lines with crafted ids, and with ordinary ids."""
-    start = crafted_start()
+    """Yields each policy set with a title: its lines with colliding ids, and with ordinary ids."""
+    start = colliding_start()
     for shape in "static policies", "links", "merge":
-        for kind, head in ("crafted", start), ("ordinary", start[:16] + "ordinary"):
+        for kind, head in ("colliding", start), ("ordinary", start[:16] + "ordinary"):
             yield f"{shape} {size:,} of {kind} ids", set_lines(shape, size, lambda i, head=head: f"{head}{i:08}")

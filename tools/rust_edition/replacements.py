@@ -1,4 +1,4 @@
-"""Replaces texts in the package as `otherwise.txt` specifies.
+"""Replaces texts in the package as `replacements.txt` specifies.
 
 A line `@ CRATE/FILE` begins the entries of a source. A line `@ CRATE/FILE after` begins the entries of the text that
 the rules made of it. An entry is either a line `~ OLD ~> NEW`, or lines `- OLD` and then lines `+ NEW`. Empty lines
@@ -10,7 +10,7 @@ import sys
 HERE = os.path.dirname(os.path.abspath(__file__))
 
 
-def entries(path=os.path.join(HERE, 'otherwise.txt')):
+def entries(path=os.path.join(HERE, 'replacements.txt')):
     """Reads the pairs of texts for each source, and for each file after the rules: two dictionaries."""
     before, after = {}, {}
     with open(path, encoding='utf-8') as f:
@@ -37,7 +37,7 @@ def pair(old, new):
     return ('\n'.join(old) + ('' if new else '\n'), '\n'.join(new))
 
 
-def said(source, pairs, name):
+def apply(source, pairs, name):
     """Applies the entries to a text.
 
     Raises:
@@ -45,7 +45,7 @@ def said(source, pairs, name):
     """
     for old, new in pairs:
         if old not in source:
-            print(f'out of date: an entry of {name}: {old[:60]!r}', file=sys.stderr)
+            print(f'rust_edition: an entry of {name} is out of date: the source does not contain {old[:60]!r}', file=sys.stderr)
             sys.exit(1)
         source = source.replace(old, new)
     return source

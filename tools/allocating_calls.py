@@ -2,10 +2,10 @@
 """Lists the public calls that allocate, and checks that each has a test case in which its allocations fail.
 
 Without an argument, it prints the calls found in the sources: each crate, and below it its calls. The output has to
-equal allocating-calls.txt, except for the mark `- `. The mark precedes a call whose test cases do not
+equal tools/allocating-calls.txt, except for the mark `- `. The mark precedes a call whose test cases do not
 allocate, so that no allocation can fail.
 
-With `--rows FILE`, it compares the list with the sources and with the test cases that the tests reported in FILE.
+With `--cases FILE`, it compares the list with the sources and with the test cases that the tests reported in FILE.
 
 A public call allocates if it returns a `Result` and has a parameter `alloc: Global`, or if it can return an
 `AllocError` or an error with a variant `Memory`. Clones count too, for every public type that is not `Copy`. Run it at
@@ -16,7 +16,7 @@ import os
 import re
 import sys
 
-LIST = 'allocating-calls.txt'
+LIST = 'tools/allocating-calls.txt'
 
 
 def crates():
@@ -33,7 +33,7 @@ def plain(name):
     return re.sub(r'<.*', '', name).strip()
 
 
-def shown(crate, texts):
+def public_items(crate, texts):
     """Returns a function that checks whether an item of a file is public."""
     root = texts.get('lib.rt', '') + texts.get('main.rt', '')
     modules = set(re.findall(r'^pub mod (\w+);', root, re.M))
@@ -42,10 +42,10 @@ def shown(crate, texts):
         names |= {(module, name.strip()) for name in listed.split(',') if name.strip()}
     names |= set(re.findall(r'^pub use (\w+)::(\w+);', root, re.M))
 
-    def has_text(file, name):
+    def is_public(file, name):
         module = os.path.basename(file)[:-3]
         return module in ('lib', 'main') or module in modules or (module, name) in names
-    return has_text
+    return is_public
 
 
 def functions(text):
@@ -75,7 +75,7 @@ def functions(text):
         yield block, bool(found.group(1)), found.group(2), re.sub(r'\s+', ' ', signature), body
 
 
-def wanting(texts):
+def memory_errors(texts):
     """Yields the errors that have a variant `Memory`."""
     for text in texts.values():
         for name, body in re.findall(r'^pub enum (\w+)[^{]*\{(.*?)^\}', text, re.M | re.S):
@@ -83,35 +83,35 @@ def wanting(texts):
                 yield name
 
 
-def takes(signature, errors):
+def can_fail_to_allocate(signature, errors):
     """Returns whether a function can return an allocation failure."""
-    answer = signature.partition('->')[2]
-    if 'Result<' not in answer:
+    returned = signature.partition('->')[2]
+    if 'Result<' not in returned:
         return False
-    if 'AllocError' in answer or re.search(r'\balloc: Global', signature):
+    if 'AllocError' in returned or re.search(r'\balloc: Global', signature):
         return True
-    return any(re.search(rf'\b{error}\b', answer) for error in errors)
+    return any(re.search(rf'\b{error}\b', returned) for error in errors)
 
 
-def called(block, public, name, signature, body, errors, is_type):
+def call_name(block, public, name, signature, body, errors, is_type):
     """Returns the name of the function in test cases, or None if it does not allocate or is not public."""
-    over = re.match(r'impl(?:<[^>]*>)? (.+?) for (.+?)(?: where.*)?$', block)
-    if over:
-        trait, of = over.group(1), plain(over.group(2))
+    trait_impl = re.match(r'impl(?:<[^>]*>)? (.+?) for (.+?)(?: where.*)?$', block)
+    if trait_impl:
+        trait, of = trait_impl.group(1), plain(trait_impl.group(2))
         if not is_type(of):
             return None
         if trait == 'Clone':
             return f'{of}::clone'
         if trait.startswith('From<'):
-            made = of in errors and not re.match(r'From<Alloc', trait)
-            return f'{trait} for {of}::{name}' if made else None
-        if not takes(signature, errors):
+            converts = of in errors and not re.match(r'From<Alloc', trait)
+            return f'{trait} for {of}::{name}' if converts else None
+        if not can_fail_to_allocate(signature, errors):
             return None
         return f'{trait} for {of}::{name}' if trait.startswith('TCNode') else f'{of}::{name}'
     if block.startswith('pub trait'):
         trait = plain(re.match(r'pub trait (\w+)', block).group(1))
-        return f'{trait}::{name}' if body and takes(signature, errors) else None
-    if not public or not takes(signature, errors):
+        return f'{trait}::{name}' if body and can_fail_to_allocate(signature, errors) else None
+    if not public or not can_fail_to_allocate(signature, errors):
         return None
     if block:
         of = plain(re.match(r'impl(?:<[^>]*>)? (.+)', block).group(1))
@@ -121,29 +121,29 @@ def called(block, public, name, signature, body, errors, is_type):
 
 def aliases(files):
     """Returns the type aliases that a crate defines for instances of its generic types."""
-    named = {}
+    alias_names = {}
     for text in files.values():
         for name, of in re.findall(r'^pub type (\w+) = (\w+)<', text, re.M):
-            named.setdefault(of, []).append(name)
-    return named
+            alias_names.setdefault(of, []).append(name)
+    return alias_names
 
 
-def under(call, named):
+def names_of_call(call, alias_names):
     """Returns the names of a call, with the aliases of its type if it has some."""
     of, colons, name = call.partition('::')
-    return [f'{given}::{name}' for given in named[of]] if colons and of in named else [call]
+    return [f'{alias}::{name}' for alias in alias_names[of]] if colons and of in alias_names else [call]
 
 
 def calls():
     texts = {crate: {os.path.basename(file): open(file, encoding='utf-8').read()
                      for file in sorted(glob.glob(f'crates/{crate}/src/*.rt'))} for crate in crates()}
-    errors = {error for files in texts.values() for error in wanting(files)}
+    errors = {error for files in texts.values() for error in memory_errors(files)}
     seen = set()
     for crate, files in texts.items():
-        has_text = shown(crate, files)
+        is_public = public_items(crate, files)
         for file, text in files.items():
             for name in re.findall(r'^pub (?:struct|enum|trait|fn) (\w+)', text, re.M):
-                if has_text(file, name):
+                if is_public(file, name):
                     seen.add(name)
     for crate, files in texts.items():
         listed = set()
@@ -153,15 +153,15 @@ def calls():
                 if 'Clone' in words and 'Copy' not in words and name in seen:
                     listed.add(f'{name}::clone')
             for function in functions(text):
-                call = called(*function, errors, lambda name: name in seen)
+                call = call_name(*function, errors, lambda name: name in seen)
                 if call:
                     listed.add(call)
-        named = aliases(files)
-        for call in sorted({given for call in listed for given in under(call, named)}):
+        alias_names = aliases(files)
+        for call in sorted({name for call in listed for name in names_of_call(call, alias_names)}):
             yield crate, call
 
 
-def listed():
+def listed_calls():
     """Yields the calls of the list, and whether each has the mark of a call that does not allocate in its test cases.
     """
     crate = None
@@ -174,40 +174,40 @@ def listed():
             yield (crate, re.sub(r'^- ', '', call)), call.startswith('- ')
 
 
-def rows(file):
+def test_cases(file):
     """Returns for each call the number of its test cases and the number of allocations that failed in them."""
-    told = {}
+    counts = {}
     for line in open(file, encoding='utf-8', errors='replace'):
         found = re.match(r'\s*refused in turn: (.*?) \| .*: Well\((\d+)\)$', line)
         if found:
-            number, requests = told.get(found.group(1), (0, 0))
-            told[found.group(1)] = number + 1, requests + int(found.group(2))
-    return told
+            number, requests = counts.get(found.group(1), (0, 0))
+            counts[found.group(1)] = number + 1, requests + int(found.group(2))
+    return counts
 
 
 def check(file):
     """Prints the faults of the list and of the test cases, and the counts. Returns whether there is no fault."""
-    own, marks, told = set(calls()), dict(listed()), rows(file)
-    names = {call for _, call in own}
-    faults = [f'{LIST} does not list `{call}` of {crate}' for crate, call in sorted(own - set(marks))]
-    faults += [f'{LIST} lists `{call}` of {crate}, which is not in the sources' for crate, call in sorted(set(marks) - own)]
+    found_calls, marks, counts = set(calls()), dict(listed_calls()), test_cases(file)
+    names = {call for _, call in found_calls}
+    faults = [f'{LIST} does not list `{call}` of {crate}' for crate, call in sorted(found_calls - set(marks))]
+    faults += [f'{LIST} lists `{call}` of {crate}, which is not a public call that allocates' for crate, call in sorted(set(marks) - found_calls)]
     for (crate, call), mark in sorted(marks.items()):
-        if call not in told:
+        if call not in counts:
             faults.append(f'`{call}` of {crate} has no test case')
-        elif mark == (told[call][1] > 0):
-            faults.append(f'`{call}` of {crate} ' + ('allocates, but has the mark `- `' if mark else 'does not allocate, but has no mark `- `'))
-    faults += [f'test cases name `{call}`, which is not a public call that allocates' for call in sorted(set(told) - names)]
+        elif mark == (counts[call][1] > 0):
+            faults.append(f'`{call}` of {crate} ' + ('allocates in its test cases, but has the mark `- `' if mark else 'does not allocate in its test cases, but has no mark `- `'))
+    faults += [f'test cases name `{call}`, which is not a public call that allocates' for call in sorted(set(counts) - names)]
     for fault in faults:
-        print(f'refuse: {fault}')
-    with_rows = sum(call in told for _, call in own)
-    count = sum(number for number, _ in told.values())
-    requests = sum(number for _, number in told.values())
-    print(f'refuse: {with_rows} of {len(own)} calls have test cases: {count} test cases, {requests} failed allocations')
+        print(f'allocation failures: FAILED: {fault}')
+    with_cases = sum(call in counts for _, call in found_calls)
+    count = sum(number for number, _ in counts.values())
+    requests = sum(number for _, number in counts.values())
+    print(f'allocation failures: {with_cases} of {len(found_calls)} public calls that allocate have test cases ({count} test cases, {requests} failed allocations)')
     return not faults
 
 
 def main():
-    if sys.argv[1:2] == ['--rows']:
+    if sys.argv[1:2] == ['--cases']:
         sys.exit(0 if check(sys.argv[2]) else 1)
     last = None
     for crate, call in calls():

@@ -3,7 +3,7 @@ import re
 from .trees import Group, after, before, is_id, is_p, parse
 
 
-def widened(params, body, modes):
+def generalized(params, body, modes):
     """Returns the parameters with the types of their modes, and the adapted body.
 
     The modes are:
