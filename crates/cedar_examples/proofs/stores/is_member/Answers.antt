@@ -16,9 +16,9 @@ loop-uid-preserved c =
     c.in_ok-with_shared_parents.field-0 (
       c.in-Some.uid,
       c.in-Some.groups,
-    ) c.loop-uid.invariant.given c.loop-uid.invariant.bare c.in_ok-push.ensures.items
+    ) c.loop-uid.invariant.inputs c.loop-uid.invariant.bare c.in_ok-push.ensures.items
     (ap input_of made) (has_no_indirect _ _ _ made) in
-    record { input_entity = more.0; bare = more.1 }
+    record { inputs = more.0; bare = more.1 }
 
 pub returns-in_err-store-clause-err : goal.returns-in_err-store-clause-err
 returns-in_err-store-clause-err c =
@@ -27,7 +27,7 @@ returns-in_err-store-clause-err c =
     ∙ (YieldsList-end (YieldsList-from_vec {s = c.into_iter-uid-iterator.result} c.args.members.items gives.0
     (gives.1 ∙ c.args.members.ok.0)) c.loop-uid.yielded c.loop-uid.uid-iterator c.loop-uid.yielded_by c.next.result
     c.next.new.self c.in-None.is c.next.ensures.steps).0 in
-    let all = c.loop-uid.invariant.given ∙ ap (map (λ m. input_entity m.0 m.1.items)) whole in
+    let all = c.loop-uid.invariant.inputs ∙ ap (map (λ m. input_entity m.0 m.1.items)) whole in
     let p = err_from_is_err_and c.from_residual-in_err-store.result c.from_residual-in_err-store.ensures.1 in
     rw (p.1, p.2) (subst (λ l. IsAddError empty_input l c.in_err-store.field-0.0) all
     (c.in_err-store.ensures.plain c.loop-uid.invariant.bare).err)
@@ -40,7 +40,7 @@ returns-clause-ok c =
     (YieldsList-from_vec {s = c.into_iter-uid-iterator.result} c.args.members.items gives.0 (gives.1
     ∙ c.args.members.ok.0)) c.loop-uid.yielded c.loop-uid.uid-iterator c.loop-uid.yielded_by c.next.result
     c.next.new.self c.in-None.is c.next.ensures.steps).0 in
-    let all = c.loop-uid.invariant.given ∙ ap (map (λ m. input_entity m.0 m.1.items)) whole in
+    let all = c.loop-uid.invariant.inputs ∙ ap (map (λ m. input_entity m.0 m.1.items)) whole in
     let plain = subst (λ l. IsPlainStore (added empty_input l) c.in_ok-store.store) all
     (c.in_ok-store.ensures.plain c.loop-uid.invariant.bare).ok in
     c.is_below.ensures (added empty_input (map (λ m. input_entity m.0 m.1.items) c.args.members.items)) plain

@@ -5,6 +5,6 @@ use Rattle.cedar_examples.proofs.stores.is_member.Given as goal
 
 abbrev pub invariant-loop-uid : goal.invariant-loop-uid
 invariant-loop-uid l = record {
-  input_entity : map input_of l.entities.items ≡ map (λ m. input_entity m.0 m.1.items) l.yielded;
+  inputs : map input_of l.entities.items ≡ map (λ m. input_entity m.0 m.1.items) l.yielded;
   bare : HaveNoIndirect l.entities.items;
 }
