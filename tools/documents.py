@@ -12,7 +12,7 @@ The last line is `N passed, M failed`. It checks:
 - The code that docs/GUIDE.md quotes is in the guide's program in the same language, in `cedar_examples`, or in the
   output of an example.
 - docs/hierarchy.svg draws the uids and the edges of the quoted output.
-- docs/layers.svg is the picture of crates.txt.
+- docs/layers.svg is the picture of crates.txt, docs/chart-*.svg those of the figures in bench.
 - The crates in the table of docs/ARCHITECTURE.md and in the headings of docs/PROVED.md are exactly those in crates.txt,
   without tests. Those in tools/proof_times.txt are exactly those in crates.txt.
 - docs/PROVED.md lists exactly the public functions that have a condition.
@@ -26,6 +26,8 @@ import subprocess
 import sys
 
 sys.dont_write_bytecode = True
+sys.path.append(os.path.join(os.path.dirname(os.path.dirname(os.path.abspath(__file__))), 'bench'))
+import charts
 import definitions
 import layers
 import map as files_by_comment
@@ -104,6 +106,7 @@ def succeeds(*words):
 
 def check_comments():
     check('docs/layers.svg is not the picture of crates.txt: run python3 tools/layers.py', layers.is_current())
+    check('docs/chart-*.svg are not the charts of the figures in bench: run python3 bench/charts.py', charts.is_current())
     for script in ('tools/map.py', 'tools/definitions.py'):
         for words in ([], ['cedar_entities']):
             check(f'the command `{script} {" ".join(words)}` fails', succeeds(script, *words))
