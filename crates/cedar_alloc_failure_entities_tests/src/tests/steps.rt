@@ -335,23 +335,23 @@ const STEPS: &str = "
     finish | now; a; a b, b a | ! input graph has a cycle containing vertex `A::\"a\"`
     finish | assume; a; a b, b c, c | a b / c, b c, c
     finish | enforce; b; a b, b c, c | ! expected all transitive edges to exist, but `A::\"a\"` -> `A::\"b\"` and `A::\"b\"` -> `A::\"c\"` exists, while `A::\"a\"` -> `A::\"c\"` does not
-    settle_touched | now; a b; a b, b c, c d, d | a b / c d, b c / d, c d, d
-    - settle_touched | assume; a; a b, b c, c | a b, b c, c
-    settle_touched | enforce; a; a a | ! input graph has a cycle containing vertex `A::\"a\"`
-    settle_whole | now; ; a b, b c, c d, d | a b / c d, b c / d, c d, d
-    settle_whole | enforce; ; a b, b c, c | ! expected all transitive edges to exist, but `A::\"a\"` -> `A::\"b\"` and `A::\"b\"` -> `A::\"c\"` exists, while `A::\"a\"` -> `A::\"c\"` does not
-    - settle_whole | assume; ; a b, b c, c | a b, b c, c
+    finalize_affected | now; a b; a b, b c, c d, d | a b / c d, b c / d, c d, d
+    - finalize_affected | assume; a; a b, b c, c | a b, b c, c
+    finalize_affected | enforce; a; a a | ! input graph has a cycle containing vertex `A::\"a\"`
+    finalize_all | now; ; a b, b c, c d, d | a b / c d, b c / d, c d, d
+    finalize_all | enforce; ; a b, b c, c | ! expected all transitive edges to exist, but `A::\"a\"` -> `A::\"b\"` and `A::\"b\"` -> `A::\"c\"` exists, while `A::\"a\"` -> `A::\"c\"` does not
+    - finalize_all | assume; ; a b, b c, c | a b, b c, c
     forget_each | anew; a b; a b / c, b c, c d / e | a b, b c, c d / e
     - forget_each | ; a; a b / c, b c, c | a b / c, b c, c
-    touched_by | ; c; a b / c, b c, d e | a b c
-    touched_by | listed; c; a b / c, b c, d e | a b c
-    touched_by | listed; e x; a b / c, b c, d e | d e x
-    losses_by | ; b; a b / c d e, b c / d, e | a b c d
-    losses_by | anew; b; a b / c d e, b c / d, e | a all
+    affected_by | ; c; a b / c, b c, d e | a b c
+    affected_by | listed; c; a b / c, b c, d e | a b c
+    affected_by | listed; e x; a b / c, b c, d e | d e x
+    collect_stale | ; b; a b / c d e, b c / d, e | a b c d
+    collect_stale | anew; b; a b / c d e, b c / d, e | a all
     - strip_each | ; b; a b / c d e, b c / d, e | a / e, b c / d, e
     strip_each | shared; b; a b / c d e, b c / d, e | a / e, b c / d, e
-    note_all | a; ; b c d e f g h i j k l m n o p q r s t u v w x y z za zb zc zd ze zf zg zh zi zj zk zl zm zn zo | a b c d e f g h i j k l m n o p q r s t u v w x y z za zb zc zd ze zf zg zh zi zj zk zl zm zn zo
-    - note_all | a b; ; b | a b
+    insert_uids | a; ; b c d e f g h i j k l m n o p q r s t u v w x y z za zb zc zd ze zf zg zh zi zj zk zl zm zn zo | a b c d e f g h i j k l m n o p q r s t u v w x y z za zb zc zd ze zf zg zh zi zj zk zl zm zn zo
+    - insert_uids | a b; ; b | a b
     listed | ; a b c; | ok
 ";
 

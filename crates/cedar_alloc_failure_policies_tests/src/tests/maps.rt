@@ -296,12 +296,12 @@ fn merged(alloc: Global, number: usize, row: Row<'_>) -> CallOutcome {
 struct OnMaps;
 
 const MAPS: &str = "
-    PolicyMaps::put_template | t principal | t /
-    PolicyMaps::put_both | a noted | a / a
-    PolicyMaps::put_both | l = t principal, principal=x | t / l
-    PolicyMaps::put_policy | l = t principal, principal=x | t / l
-    PolicyMaps::take_in | a noted | a / a
-    PolicyMaps::take_in | l = t principal, principal=x | t / l
+    PolicyMaps::insert_template | t principal | t /
+    PolicyMaps::insert_with_body | a noted | a / a
+    PolicyMaps::insert_with_body | l = t principal, principal=x | t / l
+    PolicyMaps::insert_policy | l = t principal, principal=x | t / l
+    PolicyMaps::insert_bulk | a noted | a / a
+    PolicyMaps::insert_bulk | l = t principal, principal=x | t / l
     PolicyMaps::clone | a noted | a / a
     PolicyMaps::clone | l = t principal, principal=x | t / l
     merge_maps | a // l = t principal, principal=x // keep | a t / a l

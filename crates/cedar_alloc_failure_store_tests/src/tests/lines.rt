@@ -68,15 +68,15 @@ const LINES: &str = "
     PolicySets::take | static a permit; other; static a forbid; merge rename | ok a policy0
     PolicySets::take | static a permit; template t none; ids | bodies a t policies a
     PolicySets::take | static a permit; other | ok
-    PolicySets::take_fields | static a permit | ok
-    PolicySets::take_fields | static a permit; static a forbid | refused: occupied a
-    PolicySets::take_fields | template t both | ok
-    PolicySets::take_fields | template t principal; link t l principal=A::\"x\" | ok
-    PolicySets::take_fields | template t principal; link t l action=A::\"x\" | refused: arity
-    PolicySets::take_fields | static t permit; link t l | refused: no template t
-    PolicySets::take_fields | static a permit; ids | bodies a policies a
-    - PolicySets::take_fields | template t principal; link t l principal=A::x | none
-    - PolicySets::take_fields | frob | none
+    PolicySets::apply_fields | static a permit | ok
+    PolicySets::apply_fields | static a permit; static a forbid | refused: occupied a
+    PolicySets::apply_fields | template t both | ok
+    PolicySets::apply_fields | template t principal; link t l principal=A::\"x\" | ok
+    PolicySets::apply_fields | template t principal; link t l action=A::\"x\" | refused: arity
+    PolicySets::apply_fields | static t permit; link t l | refused: no template t
+    PolicySets::apply_fields | static a permit; ids | bodies a policies a
+    - PolicySets::apply_fields | template t principal; link t l principal=A::x | none
+    - PolicySets::apply_fields | frob | none
 ";
 
 // Returns the word for the slots of a template.

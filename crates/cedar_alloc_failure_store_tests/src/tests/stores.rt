@@ -22,10 +22,10 @@ const STORES: &str = "
     - read_entity_command | upsert | some
     - read_entity_command | build A::\"a\" | none
     - read_entity_command | frob | none
-    LineStore::take_ent | ent A::\"a\" A::\"b\" A::\"c\" | waits
-    LineStore::take_ent | ent A::\"'\" | left
-    - LineStore::take_ent | ent | left
-    - LineStore::take_ent | anc A::\"a\" | left
+    LineStore::apply_ent | ent A::\"a\" A::\"b\" A::\"c\" | waits
+    LineStore::apply_ent | ent A::\"'\" | left
+    - LineStore::apply_ent | ent | left
+    - LineStore::apply_ent | anc A::\"a\" | left
     LineStore::take | ent A::\"a\" A::\"b\"
     LineStore::take | ent A::\"a\" A::\"b\"; build | ok 1
     LineStore::take | ent A::\"a\" A::\"a\"; build | refused: cycle

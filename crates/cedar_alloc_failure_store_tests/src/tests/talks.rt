@@ -184,15 +184,15 @@ const TALKS: &str = "
     talk | strict static>a>permit;frob;ids; | 2 ok;line 2: not a command;
     talk | strict build;help | 2 ok 0;line 2: not a command;
     talk | strict build;frob; | write
-    Session::take_line | ent>A::\"a\">A::\"b\" | yes
-    Session::take_line | ent>A::\"a\">A::\"b\";build | yes ok 1;
-    Session::take_line | ent>A::\"a\">A::\"b\";build;anc>A::\"a\" | yes anc>A::\"b\";
-    Session::take_line | ent>A::\"a\">A::\"a\";build | yes refused: cycle;
-    Session::take_line | ent>A::\"a\";build;ent>A::\"b\">A::\"a\";add | yes ok 2;
-    Session::take_line | static>a>permit;static>a>forbid | yes refused: occupied a;
-    Session::take_line | frob | no
-    - Session::take_line | ent>A::\"a\">A::\"b\"; | yes
-    - Session::take_line | \u{e9} | no
+    Session::apply_line | ent>A::\"a\">A::\"b\" | yes
+    Session::apply_line | ent>A::\"a\">A::\"b\";build | yes ok 1;
+    Session::apply_line | ent>A::\"a\">A::\"b\";build;anc>A::\"a\" | yes anc>A::\"b\";
+    Session::apply_line | ent>A::\"a\">A::\"a\";build | yes refused: cycle;
+    Session::apply_line | ent>A::\"a\";build;ent>A::\"b\">A::\"a\";add | yes ok 2;
+    Session::apply_line | static>a>permit;static>a>forbid | yes refused: occupied a;
+    Session::apply_line | frob | no
+    - Session::apply_line | ent>A::\"a\">A::\"b\"; | yes
+    - Session::apply_line | \u{e9} | no
     push_not_command | four | line 4: not a command
 ";
 
