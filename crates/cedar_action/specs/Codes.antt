@@ -16,7 +16,7 @@ abbrev pub rule_with : ℕ → List UidParts → ActionRule
 rule_with k us =
     if k == 0 then any_action else (if k == 3 then among_slot else (if k == 4 then just_slot else rule_with_uids k us))
 
--- A rule is the one with its kind and its uids.
+-- The rule made from the kind and the uids of a is a.
 pub rule_with-parts : (a : ActionRule) → rule_with (rule_kind a) (rule_uids a) ≡ a
 rule_with-parts any_action = refl
 rule_with-parts (among []) = refl

@@ -151,8 +151,8 @@ pub extern "C" fn cedar_policies_add_static(
     status_of(answer)
 }
 
-/// Adds a template with these bytes as its id, the effect with a number, and the slots with a number. It has no other
-/// constraints.
+/// Adds a template with these bytes as its id, the effect with a number, and the slots with a number. Its only
+/// constraints are `==` with these slots. It has no clause and no annotations.
 ///
 /// # Status
 ///

@@ -59,7 +59,8 @@ pub extern "C" fn cedar_policies_add_static_with(
     status_of(answer)
 }
 
-/// Adds a template with these bytes as its id, from the same lists. It may have slots.
+/// Adds a template with these bytes as its id, from the lists that `cedar_policies_add_static_with` takes. It may have
+/// slots.
 ///
 /// # Status
 ///

@@ -17,7 +17,7 @@ use Rattle.cedar_c_lists.specs.declared.layout.Span.{Span}
 use Rattle.cedar_c_lists.specs.declared.reason.Reason.{Reason}
 use Rattle.cedar_c_lists.specs.declared.reason.Reason.TheVariants as reasons
 
--- Whether uids follow the words of an error.
+-- Whether the text of an error consists of fixed words (`words_of`) and uids.
 abbrev pub names_uids : Reason → Bool
 names_uids reasons.Duplicate = true
 names_uids reasons.Cycle = true
@@ -28,7 +28,7 @@ names_uids reasons.ActionParentIsNotAction = true
 names_uids reasons.NotAnAction = true
 names_uids w = false
 
--- Whether a single name follows the words of an error: an id or a key.
+-- Whether the text of an error consists of fixed words (`words_of`) and one name: an id or a key.
 abbrev pub names_one : Reason → Bool
 names_one reasons.ReservedKey = true
 names_one reasons.Occupied = true
@@ -68,24 +68,25 @@ IsNameIn text name s = IsInside text s × (part text s ≡ name)
 abbrev pub IsSlotIn : List ℕ → List SlotId → ℕ → Span → Type 0
 IsSlotIn text ss k s = (x : SlotId) × (slice_get ss k ≡ Some x) × IsInside text s × (part text s ≡ slot_text x)
 
--- For an error that names uids: the span of the uid at index k, or `None` if there are not that many.
+-- Holds if, for an error that names uids, r is the span of the uid at index k, or `None` if there are not that many.
 abbrev pub PartsUids : Reason → List ℕ → ℕ → Option Span → Type 0
 PartsUids w text k r = IsTrue (names_uids w) → (us : List EntityUID) → AreWritten us
     → text ≡ words_of w ++ flat_map spaced us → MatchOption r (length us ≤ k) (IsUidIn text us k)
 
--- For an error that names an id or a key: its span at index 0, and `None` at any other index.
+-- Holds if, for an error that names an id or a key, r is its span at index 0, and `None` at any other index.
 abbrev pub PartsName : Reason → List ℕ → ℕ → Option Span → Type 0
 PartsName w text k r = IsTrue (names_one w) → (name : List ℕ) → text ≡ words_of w ++ (32 ∷ name)
     → MatchOption r (k ≢ 0) (λ s. (k ≡ 0) × IsNameIn text name s)
 
--- For an error that names slots: the span of the slot at index k, or `None` if there are not that many. The unbound
--- slots come first, then the bound ones that the template does not have.
+-- Holds if, for an error that names slots, r is the span of the slot at index k, or `None` if there are not that many.
+-- The unbound slots come first, then the bound ones that the template does not have.
 abbrev pub PartsSlots : Reason → List ℕ → ℕ → Option Span → Type 0
 PartsSlots w text k r = w ≡ reasons.Arity → (unbound extra : List SlotId)
     → text ≡ words_of w ++ (32 ∷ arity_text unbound extra)
     → MatchOption r (length (unbound ++ extra) ≤ k) (IsSlotIn text (unbound ++ extra) k)
 
--- The span of the name at index k in the text of the error with a status. A number that is not a status has no names.
+-- Holds if r is the span of the name at index k in the text of the error with a status. A number that is not a status
+-- has no names.
 abbrev pub IsPartOf : ℕ → List ℕ → ℕ → Option Span → Type 0
 IsPartOf status text k r = ((w : Reason) × (number_of w ≡ status) × PartsUids w text k r × PartsName w text k r
     × PartsSlots w text k r) ⊎ (IsNoReason status × (r ≡ None))

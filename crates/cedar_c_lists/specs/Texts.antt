@@ -29,12 +29,12 @@ IsNoUid text = IsUtf8 text → (v : EntityUID) → IsPrinted (uid_parts v) text 
 abbrev pub IsUnread : List ℕ → Reason → Type 0
 IsUnread text w = (w ≡ NoMemory) ⊎ ((w ≡ NotAUid) × IsNoUid text)
 
--- The result of parsing a uid: the uid, or the reason why there is none.
+-- Holds for the result of parsing a uid: the uid, or the reason why there is none.
 abbrev pub ReadsUid : Result EntityUID Reason → List ℕ → Type 0
 ReadsUid (Ok u) text = IsReadOf u text
 ReadsUid (Err w) text = IsUnread text w
 
--- The result of checking a text: there is a uid, or the reason why there is none.
+-- Holds for the result of checking a text: there is a uid, or the reason why there is none.
 abbrev pub ChecksUid : {A : Type 0} → Result A Reason → List ℕ → Type 0
 ChecksUid (Ok a) text = (u : EntityUID) × IsReadOf u text
 ChecksUid (Err w) text = IsUnread text w
@@ -43,7 +43,7 @@ ChecksUid (Err w) text = IsUnread text w
 abbrev pub IsNoId : List ℕ → Reason → Type 0
 IsNoId text w = (w ≡ NoMemory) ⊎ ((w ≡ NotUtf8) × (IsUtf8 text → ⊥))
 
--- The result of creating an id: the id with these bytes, or the reason why there is none.
+-- Holds for the result of creating an id: the id with these bytes, or the reason why there is none.
 abbrev pub ReadsId : Result (List ℕ) Reason → List ℕ → Type 0
 ReadsId (Ok id) text = IsUtf8 text × (id ≡ text)
 ReadsId (Err w) text = IsNoId text w
@@ -62,7 +62,7 @@ IsUnreadAt text s w =
     (w ≡ NoMemory) ⊎ (((w ≡ BadArgument) × (IsInside text s → ⊥))
     ⊎ ((w ≡ NotAUid) × IsInside text s × IsNoUid (part text s)))
 
--- The result of parsing a uid from a part of a text.
+-- Holds for the result of parsing a uid from a part of a text.
 abbrev pub ReadsUidAt : Result EntityUID Reason → List ℕ → Span → Type 0
 ReadsUidAt (Ok u) text s = IsReadAt text u s
 ReadsUidAt (Err w) text s = IsUnreadAt text s w

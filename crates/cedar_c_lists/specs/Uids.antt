@@ -17,7 +17,7 @@ use Rattle.cedar_c_lists.specs.declared.uids.UidTexts.{UidTexts}
 abbrev pub IsNoName : List ℕ → Type 0
 IsNoName text = IsUtf8 text → (n : NameParts) → IsNameText n text → ⊥
 
--- The result of parsing the name of a type: the type, or the reason why there is none.
+-- Holds for the result of parsing the name of a type: the type, or the reason why there is none.
 abbrev pub ReadsType : Result EntityType Reason → List ℕ → Type 0
 ReadsType (Ok t) text = IsNameText (type_name t) text
 ReadsType (Err w) text = (w ≡ NoMemory) ⊎ ((w ≡ NotAName) × IsNoName text)
@@ -32,7 +32,7 @@ pub record HasTypeAndEid (u : EntityUID) (type eid : List ℕ) : Type 0 where
 abbrev pub IsUnmade : List ℕ → List ℕ → Reason → Type 0
 IsUnmade type eid w = (w ≡ NoMemory) ⊎ (((w ≡ NotAName) × IsNoName type) ⊎ ((w ≡ NotUtf8) × (IsUtf8 eid → ⊥)))
 
--- The result of creating a uid from a type and an eid.
+-- Holds for the result of creating a uid from a type and an eid.
 abbrev pub CreatesUid : Result EntityUID Reason → List ℕ → List ℕ → Type 0
 CreatesUid (Ok u) type eid = HasTypeAndEid u type eid
 CreatesUid (Err w) type eid = IsUnmade type eid w

@@ -19,18 +19,18 @@ static_step_with (s ∷ ss) b t = Err (not_static t.id)
 abbrev pub static_step : SetParts → BodyParts → Result SetParts Refusal
 static_step b t = static_step_with (body_slots t) b t
 
--- The effect of adding a body from a caller's lists by a step. Either the input is invalid and nothing changes, or the
--- step is made on the decoded body.
+-- Holds for the effect of adding a body from a caller's lists by a step. Either the input is invalid and nothing
+-- changes, or the step is made on the decoded body.
 abbrev pub InsertsBody : {A B H : Type 0} → (SetParts → BodyParts → Result SetParts Refusal) → List ℕ → BodyInput
     → Result A Reason → SetState B H → SetState B H → Type 0
 InsertsBody step id G r i j =
     IsStopped (IsInvalidInput id G) r i j
     ⊎ ((b : BodyParts) × IsBodyOfInput id G b × AppliesStep (step i.set b) r i j × KeepsTexts r i j)
 
--- The effect of adding a static policy from a caller's lists.
+-- Holds for the effect of adding a static policy from a caller's lists.
 abbrev pub AddsStaticWith : {A B H : Type 0} → List ℕ → BodyInput → Result A Reason → SetState B H → SetState B H → Type 0
 AddsStaticWith id G r i j = InsertsBody static_step id G r i j
 
--- The effect of adding a template from a caller's lists.
+-- Holds for the effect of adding a template from a caller's lists.
 abbrev pub AddsTemplateWith : {A B H : Type 0} → List ℕ → BodyInput → Result A Reason → SetState B H → SetState B H → Type 0
 AddsTemplateWith id G r i j = InsertsBody add_template_step id G r i j

@@ -26,15 +26,15 @@ pub record Shows {B H : Type 0} (of : BodyParts → Option ExprTree) (id : List 
   pub found : of body ≡ Some expr
   pub shown : IsEncodedExpr expr j.answer j.nodes.items
 
--- The effect of reading a clause. If there is one, it is encoded and stored. If there is none, or after an error,
--- nothing changes.
+-- Holds for the effect of reading a clause. If there is one, it is encoded and stored. If there is none, or after an
+-- error, nothing changes.
 abbrev pub AnswersClause : {B H : Type 0} → List ℕ → Result Bool Reason → SetState B H → SetState B H → Type 0
 AnswersClause id (Ok true) i j = Shows (λ t. t.clause) id i j
 AnswersClause id (Ok false) i j =
     (j ≡ i) × IsUtf8 id × ((t : BodyParts) × (bound_body i.set id ≡ Some t) × (t.clause ≡ None))
 AnswersClause id (Err w) i j = (j ≡ i) × IsUntoldAt (bound_body i.set id) id w
 
--- The effect of reading a condition. It is encoded and stored. After an error nothing changes.
+-- Holds for the effect of reading a condition. It is encoded and stored. After an error nothing changes.
 abbrev pub AnswersCondition : {A B H : Type 0} → List ℕ → Result A Reason → SetState B H → SetState B H → Type 0
 AnswersCondition id (Ok a) i j = Shows (λ t. Some (condition t)) id i j
 AnswersCondition id (Err w) i j = (j ≡ i) × IsUntoldAt (bound_body i.set id) id w

@@ -53,7 +53,7 @@ kind_number (Some (Static t)) = 1
 kind_number (Some (Link l t e)) = 2
 kind_number (Some (Template t)) = 3
 
--- The result of reading the kind of an id, or the reason for the error.
+-- Holds for the result of reading the kind of an id, or the reason for the error.
 abbrev pub KindAt : SetParts → List ℕ → Result ℕ Reason → Type 0
 KindAt b id (Ok n) = IsUtf8 id × (n ≡ kind_number (bound_at b id))
 KindAt b id (Err w) = IsNoId id w
@@ -64,7 +64,7 @@ KindAt b id (Err w) = IsNoId id w
 abbrev pub IsUntoldAt : {X : Type 0} → Option X → List ℕ → Reason → Type 0
 IsUntoldAt {X = X} found id w = IsNoId id w ⊎ ((w ≡ reasons.NoBody) × IsUtf8 id × (found ≡ None))
 
--- The result of reading a value of the policy or body with an id, or the reason for the error.
+-- Holds for the result of reading a value of the policy or body with an id, or the reason for the error.
 abbrev pub ReadsAt : {X V : Type 0} → (SetParts → List ℕ → Option X) → (V → X → Type 0) → SetParts → List ℕ
     → Result V Reason → Type 0
 ReadsAt {X = X} at Is b id (Ok v) = IsUtf8 id × ((x : X) × (at b id ≡ Some x) × Is v x)
@@ -93,8 +93,8 @@ abbrev pub IsAnswered : {B H : Type 0} → (List (List ℕ) → Type 0) → SetS
 IsAnswered Are i j = (j.set ≡ i.set) × (j.refusal.items ≡ i.refusal.items) × (j.nodes.items ≡ i.nodes.items)
     × Are j.answer
 
--- The effect of reading texts of the policy or body with an id. They are stored in `answer`. After an error nothing
--- changes.
+-- Holds for the effect of reading texts of the policy or body with an id. They are stored in `answer`. After an error
+-- nothing changes.
 abbrev pub AnswersAt : {X A B H : Type 0} → (SetParts → List ℕ → Option X) → (X → List (List ℕ) → Type 0) → List ℕ
     → Result A Reason → SetState B H → SetState B H → Type 0
 AnswersAt {X = X} at Are id (Ok a) i j = IsUtf8 id × ((x : X) × (at i.set id ≡ Some x) × IsAnswered (Are x) i j)
@@ -139,13 +139,14 @@ AreBoundBy e texts =
 abbrev pub AreBoundIn : PolicyParts → List (List ℕ) → Type 0
 AreBoundIn p texts = AreBoundBy p.env texts
 
--- The effect of reading the text of a set. It is stored in `answer`. After an allocation failure nothing changes.
+-- Holds for the effect of reading the text of a set. It is stored in `answer`. After an allocation failure nothing
+-- changes.
 abbrev pub AnswersText : {A B H : Type 0} → Result A Reason → SetState B H → SetState B H → Type 0
 AnswersText (Ok a) i j = IsAnswered (IsOneBy (set_output i.set)) i j
 AnswersText (Err w) i j = (j ≡ i) × (w ≡ reasons.NoMemory)
 
--- The effect of reading the ids of the policies that use a body. They are stored in `answer`. After an error nothing
--- changes.
+-- Holds for the effect of reading the ids of the policies that use a body. They are stored in `answer`. After an error
+-- nothing changes.
 abbrev pub AnswersLinked : {A B H : Type 0} → List ℕ → Result A Reason → SetState B H → SetState B H → Type 0
 AnswersLinked id (Ok a) i j = IsUtf8 id × IsAnswered (λ ids. get_linked_step i.set id ≡ Ok ids) i j
 AnswersLinked id (Err w) i j =
@@ -158,7 +159,8 @@ abbrev pub IsValueEncoded : Option (List ℕ) → Bool → List (List ℕ) → T
 IsValueEncoded None has texts = (has ≡ false) × (texts ≡ [])
 IsValueEncoded (Some v) has texts = (has ≡ true) × (texts ≡ v ∷ [])
 
--- The effect of reading the annotation with a key. Its value is stored in `answer`. After an error nothing changes.
+-- Holds for the effect of reading the annotation with a key. Its value is stored in `answer`. After an error nothing
+-- changes.
 abbrev pub AnswersAnnotation : {B H : Type 0} → List ℕ → List ℕ → Result Bool Reason → SetState B H → SetState B H
     → Type 0
 AnswersAnnotation id key (Ok has) i j =

@@ -48,7 +48,8 @@ EncodesScope which b id n texts =
     ⊎ (((which ≡ 1) × EncodesFound EncodesRule (action_at b id) n texts)
     ⊎ ((which ≡ 2) × EncodesFound EncodesConstraint (resource_at b id) n texts))
 
--- The effect of reading one of the three constraints. Its texts are stored in `answer`. After an error nothing changes.
+-- Holds for the effect of reading one of the three constraints. Its texts are stored in `answer`. After an error
+-- nothing changes.
 abbrev pub AnswersScope : {B H : Type 0} → ℕ → List ℕ → Result ℕ Reason → SetState B H → SetState B H → Type 0
 AnswersScope which id (Ok n) i j = IsUtf8 id × IsAnswered (EncodesScope which i.set id n) i j
 AnswersScope which id (Err w) i j =

@@ -132,8 +132,8 @@ IsErrorTextFor (Some x) w text = IsErrorTextBy x w text
 abbrev pub KeepsTexts : {A B H : Type 0} → Result A Reason → SetState B H → SetState B H → Type 0
 KeepsTexts r i j = (j.answer ≡ i.answer) × (j.nodes.items ≡ i.nodes.items) × KeepsErrorText r i.refusal.items j.refusal.items
 
--- The effect of a call that makes a step. The set is the result of the step. After an error the set is unchanged, and
--- the error is the error of the step or an allocation failure.
+-- Holds for the effect of a call that makes a step. The set is the result of the step. After an error the set is
+-- unchanged, and the error is the error of the step or an allocation failure.
 abbrev pub AppliesStep : {A B H : Type 0} → Result SetParts Refusal → Result A Reason → SetState B H → SetState B H → Type 0
 AppliesStep step (Ok a) i j = step ≡ Ok j.set
 AppliesStep step (Err w) i j = (j.set ≡ i.set) × ((w ≡ reasons.NoMemory)
@@ -144,23 +144,23 @@ abbrev pub after_removal : SetParts → List ℕ → Result Binding Refusal → 
 after_removal b i (Ok x) = Ok (without_id b i)
 after_removal b i (Err x) = Err x
 
--- The effect of adding a static policy without constraints from an id and the number of an effect, or the reason why
--- the input is invalid.
+-- Holds for the effect of adding a static policy without constraints from an id and the number of an effect, or the
+-- reason why the input is invalid.
 abbrev pub AddsStatic : {A B H : Type 0} → List ℕ → ℕ → Result A Reason → SetState B H → SetState B H → Type 0
 AddsStatic id n r i j =
     IsStopped (λ w. IsNoEffect n w ⊎ IsNoId id w) r i j
     ⊎ ((e : Effect) × IsEffect n e × IsUtf8 id × AppliesStep (add_static_step i.set (static_body id e)) r i j
     × KeepsTexts r i j)
 
--- The effect of adding a template from an id and the numbers of an effect and of slots, or the reason why the input is
--- invalid.
+-- Holds for the effect of adding a template from an id and the numbers of an effect and of slots, or the reason why the
+-- input is invalid.
 abbrev pub AddsTemplate : {A B H : Type 0} → List ℕ → ℕ → ℕ → Result A Reason → SetState B H → SetState B H → Type 0
 AddsTemplate id n m r i j =
     IsStopped (λ w. IsNoEffect n w ⊎ (IsNoSlots m w ⊎ IsNoId id w)) r i j
     ⊎ ((e : Effect) × (s : TemplateSlots) × IsEffect n e × IsSlots m s × IsUtf8 id
     × AppliesStep (add_template_step i.set (template_body id e s)) r i j × KeepsTexts r i j)
 
--- The effect of linking a template from two ids and bindings, or the reason why the input is invalid.
+-- Holds for the effect of linking a template from two ids and bindings, or the reason why the input is invalid.
 abbrev pub Links : {A B H : Type 0} → List ℕ → List ℕ → List ℕ → List Span → Result A Reason → SetState B H → SetState B H
     → Type 0
 Links template id text parts r i j =
@@ -168,7 +168,7 @@ Links template id text parts r i j =
     ⊎ ((e : EnvParts) × AreBindings text parts e × IsUtf8 template × IsUtf8 id
     × AppliesStep (link_step i.set template id e) r i j × KeepsTexts r i j)
 
--- The effect of a removal by id, or the reason why the id is invalid.
+-- Holds for the effect of a removal by id, or the reason why the id is invalid.
 abbrev pub RemovesById : {A B H : Type 0} → (SetParts → List ℕ → Result Binding Refusal) → List ℕ → Result A Reason
     → SetState B H → SetState B H → Type 0
 RemovesById step id r i j = IsStopped (IsNoId id) r i j ⊎ (IsUtf8 id × AppliesStep (after_removal i.set id (step i.set id)) r i j
@@ -184,8 +184,8 @@ pair_of p = p.0 ∷ p.1 ∷ []
 abbrev pub renaming_texts : List (List ℕ × List ℕ) → List (List ℕ)
 renaming_texts r = flat_map pair_of r
 
--- The effect of merging another set. The texts of the renaming are stored in `answer`. After an error the set is
--- unchanged. The error is an allocation failure, or the first conflicting id if ids are not renamed. After an
+-- Holds for the effect of merging another set. The texts of the renaming are stored in `answer`. After an error the set
+-- is unchanged. The error is an allocation failure, or the first conflicting id if ids are not renamed. After an
 -- allocation failure the text of the last error is kept.
 abbrev pub MergesSet : {A B H : Type 0} → SetParts → Bool → Result A Reason → SetState B H → SetState B H → Type 0
 MergesSet other rename (Ok a) i j =
@@ -205,7 +205,7 @@ MergesSet other rename (Err w) i j =
 abbrev pub IsKind : ℕ → SetParts → List (List ℕ) → Type 0
 IsKind n b ids = ((n ≡ 0) × (ids ≡ body_ids b)) ⊎ ((n ≡ 1) × (ids ≡ policy_ids b))
 
--- The effect of reading the ids. They are stored in `answer`. After an error nothing changes.
+-- Holds for the effect of reading the ids. They are stored in `answer`. After an error nothing changes.
 abbrev pub ListsIds : {A B H : Type 0} → ℕ → Result A Reason → SetState B H → SetState B H → Type 0
 ListsIds n (Ok a) i j =
     (j.set ≡ i.set) × (j.refusal.items ≡ i.refusal.items) × (j.nodes.items ≡ i.nodes.items) × IsKind n i.set j.answer
@@ -216,7 +216,7 @@ ListsIds n (Err w) i j = (j ≡ i) × ((w ≡ reasons.NoMemory)
 abbrev pub IsUntold : {B H : Type 0} → SetState B H → Type 0
 IsUntold k = (k.answer ≡ []) × (k.refusal.items ≡ []) × (k.nodes.items ≡ [])
 
--- The result of copying a set: an equal set, or an allocation failure.
+-- Holds for the result of copying a set: an equal set, or an allocation failure.
 abbrev pub CopiesSet : {B H : Type 0} → SetParts → Result (SetState B H) Reason → Type 0
 CopiesSet b (Ok k) = (k.set ≡ b) × IsUntold k
 CopiesSet b (Err w) = w ≡ reasons.NoMemory

@@ -19,7 +19,7 @@ fault_reason (templates.InvalidExpression f) = Some reasons.UnknownFunction
 fault_reason templates.SlotCacheMismatch = Some reasons.SlotInClause
 fault_reason templates.Memory = None
 
--- Holds if there is a reason, and the text has its words, a blank, and the id.
+-- Holds if the optional reason is w, and the text is the words of w, a blank and the id.
 abbrev pub NamesFault : Option Reason → List ℕ → Reason → List ℕ → Type 0
 NamesFault None id w text = ⊥
 NamesFault (Some x) id w text = (w ≡ x) × (text ≡ words_of w ++ (32 ∷ id))
@@ -31,9 +31,9 @@ IsFaultReported (LinkToSlotlessTemplate l t) w text = NamesFault (Some reasons.S
 IsFaultReported (InvalidTemplate i e) w text = NamesFault (fault_reason e) i w text
 IsFaultReported Memory w text = ⊥
 
--- The effect of validating a set. If links and bodies are valid, nothing changes. Otherwise the error is the first
--- fault or an allocation failure. The set, `answer` and `nodes` do not change, and after an allocation failure neither
--- does the text of the last error.
+-- Holds for the effect of validating a set. If links and bodies are valid, nothing changes. Otherwise the error is the
+-- first fault or an allocation failure. The set, `answer` and `nodes` do not change, and after an allocation failure
+-- neither does the text of the last error.
 abbrev pub Validates : {A B H : Type 0} → Result A Reason → SetState B H → SetState B H → Type 0
 Validates (Ok a) i j = HasSlottedLinks i.set × All IsValidBody i.set.bodies × (j ≡ i)
 Validates (Err w) i j =

@@ -1,4 +1,4 @@
--- The store after an edit, and what a trial of the edit shows.
+-- The store after an edit, and what a dry run of the edit shows.
 use Rattle.std.specs.Prelude.{◌≡◌, ◌↔◌, ◌⊎◌, Bool, true, List, [], ◌∷◌, map, Result, Ok, Err, IfErr, OnOk, IsTrue}
 use Rattle.std.proofs.Common.{ℕ, ap, sym, refl, subst, ◌∙◌, inl, inr}
 use Rattle.std.proofs.lemmas.Bool.{false≢true}
@@ -29,7 +29,7 @@ use Rattle.cedar_c_stores.specs.Stores.{reason_of}
 use Rattle.cedar_c_stores.specs.declared.edits.Edit.{Edit}
 use Rattle.cedar_c_stores.specs.declared.edits.Edit.TheVariants as edits
 
--- After a successful trial, adding entities can fail only because an allocation fails.
+-- After a successful dry run, adding entities can fail only because an allocation fails.
 pub add_sure : (m : TCComputation) (L : List EntityView) (S : StoreView) → m ≡ modes.ComputeNow
     → HaveNoIndirect L → IsSomePlain S
     → ((W : InputStore) → IsPlainStore W S → HaveNoIndirect L → calls.Passes W (calls.Add (map input_of L)))
@@ -38,7 +38,7 @@ add_sure m L S now bare plain tries e g =
     let h : IsAddResult modes.ComputeNow L S (Err e) = subst (λ k. IsAddResult k L S (Err e)) now g in
     adding_passes plain.0 (map input_of L) e (tries plain.0 plain.1 bare) (h.plain plain.0 plain.1 bare).err
 
--- After a successful trial, upserting entities can fail only because an allocation fails.
+-- After a successful dry run, upserting entities can fail only because an allocation fails.
 pub upsert_sure : (m : TCComputation) (L : List EntityView) (S : StoreView) → m ≡ modes.ComputeNow
     → HaveNoIndirect L → IsSomePlain S
     → ((W : InputStore) → IsPlainStore W S → HaveNoIndirect L → calls.Passes W (calls.Upsert (map input_of L)))
@@ -47,7 +47,7 @@ upsert_sure m L S now bare plain tries e g =
     let h : IsUpsertResult modes.ComputeNow L S (Err e) = subst (λ k. IsUpsertResult k L S (Err e)) now g in
     overwriting_passes plain.0 (map input_of L) e (tries plain.0 plain.1 bare) (h.plain plain.0 plain.1 bare).err
 
--- An error of a trial is a possible error of adding the entities.
+-- An error of a dry run is a possible error of adding the entities.
 pub add_so : (m : TCComputation) (L : List EntityView) (S : StoreView) (e : EntitiesError) → m ≡ modes.ComputeNow
     → IsDryAddError S.entities L e
     → ((W : InputStore) → IsPlainStore W S → HaveNoIndirect L → calls.IsErrorAs W (calls.Add (map input_of L)) e)
@@ -58,7 +58,7 @@ add_so m L S e now h tries = subst (λ k. IsAddResult k L S (Err e)) (sym now) (
   plain = λ W p b. record { agree = tt; ok = tt; err = tries W p b };
 })
 
--- An error of a trial is a possible error of upserting the entities.
+-- An error of a dry run is a possible error of upserting the entities.
 pub upsert_so : (m : TCComputation) (L : List EntityView) (S : StoreView) (e : EntitiesError) → m ≡ modes.ComputeNow
     → IsDryUpsertError S.entities L e
     → ((W : InputStore) → IsPlainStore W S → HaveNoIndirect L → calls.IsErrorAs W (calls.Upsert (map input_of L)) e)
@@ -69,7 +69,7 @@ upsert_so m L S e now h tries = subst (λ k. IsUpsertResult k L S (Err e)) (sym 
   plain = λ W p b. record { ok = tt; err = tries W p b };
 })
 
--- An error of a trial of adding is a possible error of the edit.
+-- An error of a dry run of adding is a possible error of the edit.
 pub adding_refused : {A : Type 0} (m : TCComputation) (x : Edit) (v : Vec (Rc EntityView Global)) (M : List EntityView)
     (S : StoreView) → x ≡ edits.Add v → M ≡ entities_in v.items → StaysPlain m x → (r : Result A EntitiesError)
     → IfErr r (IsDryAddError S.entities M)
@@ -79,7 +79,7 @@ adding_refused m x v M S is same keeps (Ok a) h t = tt
 adding_refused m x v M S is same keeps (Err e) h t = subst (λ y. IsEditResult m y S (Err e)) (sym is)
     (subst (λ L. IsAddResult m L S (Err e)) same (add_so m M S e (subst (StaysPlain m) is keeps).0 h t))
 
--- After a successful trial of adding, the edit can fail only because an allocation fails.
+-- After a successful dry run of adding, the edit can fail only because an allocation fails.
 pub adding_passed : {A : Type 0} (m : TCComputation) (x : Edit) (v : Vec (Rc EntityView Global)) (M : List EntityView)
     (S : StoreView) → x ≡ edits.Add v → M ≡ entities_in v.items → StaysPlain m x → IsSomePlain S
     → (r : Result A EntitiesError)
@@ -91,7 +91,7 @@ adding_passed m x v M S is same keeps plain (Ok a) t = λ e g.
     (subst (λ L. IsAddResult m L S (Err e)) (sym same) (subst (λ y. IsEditResult m y S (Err e)) is g))
 adding_passed m x v M S is same keeps plain (Err e) t = tt
 
--- An error of a trial of upserting is a possible error of the edit.
+-- An error of a dry run of upserting is a possible error of the edit.
 pub upserting_refused : {A : Type 0} (m : TCComputation) (x : Edit) (v : Vec (Rc EntityView Global)) (M : List EntityView)
     (S : StoreView) → x ≡ edits.Upsert v → M ≡ entities_in v.items → StaysPlain m x → (r : Result A EntitiesError)
     → IfErr r (IsDryUpsertError S.entities M)
@@ -101,7 +101,7 @@ upserting_refused m x v M S is same keeps (Ok a) h t = tt
 upserting_refused m x v M S is same keeps (Err e) h t = subst (λ y. IsEditResult m y S (Err e)) (sym is)
     (subst (λ L. IsUpsertResult m L S (Err e)) same (upsert_so m M S e (subst (StaysPlain m) is keeps).0 h t))
 
--- After a successful trial of upserting, the edit can fail only because an allocation fails.
+-- After a successful dry run of upserting, the edit can fail only because an allocation fails.
 pub upserting_passed : {A : Type 0} (m : TCComputation) (x : Edit) (v : Vec (Rc EntityView Global)) (M : List EntityView)
     (S : StoreView) → x ≡ edits.Upsert v → M ≡ entities_in v.items → StaysPlain m x → IsSomePlain S
     → (r : Result A EntitiesError)

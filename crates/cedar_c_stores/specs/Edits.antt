@@ -17,7 +17,8 @@ IsEditResult m (Add v) S given = IsAddResult m (entities_in v.items) S given
 IsEditResult m (Upsert v) S given = IsUpsertResult m (entities_in v.items) S given
 IsEditResult m (Remove v) S given = IsRemoveResult m v.items S given
 
--- Holds if an edit in mode m keeps a plain store plain. A trial finds all its errors except an allocation failure.
+-- Holds if an edit in mode m keeps a plain store plain. A dry run then finds all errors of the edit except an
+-- allocation failure.
 abbrev pub StaysPlain : TCComputation → Edit → Type 0
 StaysPlain m (Add v) = (m ≡ ComputeNow) × HaveNoIndirect (entities_in v.items)
 StaysPlain m (Upsert v) = (m ≡ ComputeNow) × HaveNoIndirect (entities_in v.items)

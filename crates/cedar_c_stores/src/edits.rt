@@ -1,9 +1,9 @@
 //! Edits that leave a store unchanged if they fail, and the calls that make them.
 //!
 //! The edits in `cedar_entities` consume the store, and return none after an error. If the store is known to be plain
-//! and the edit keeps it plain, a trial of the edit comes first. The trial costs as much as the edited entities. After
-//! the trial only an allocation failure can make the edit fail. Otherwise the store is copied first, and the copy is
-//! restored after an error.
+//! and the edit keeps it plain, a dry run of the edit comes first. The dry run costs as much as the edited entities.
+//! After the dry run only an allocation failure can make the edit fail. Otherwise the store is copied first, and the
+//! copy is restored after an error.
 ghost use Rattle.std.specs.Prelude.{◌≡◌, IfErr, IfOk, IsTrue, OnOk, Result, Err};
 ghost use Rattle.cedar_entity.specs.declared.err.EntitiesError.{EntitiesError};
 ghost use Rattle.cedar_entity_maps.specs.Plain.{StoreView, entities_in};
@@ -109,8 +109,8 @@ fn make<S: BuildHasher + Copy>(
     }
 }
 
-// Tries an edit that keeps a plain store plain. If the trial succeeds, only an allocation failure can make the edit
-// fail. A removal needs no trial.
+// Makes a dry run of an edit that keeps a plain store plain. If it succeeds, only an allocation failure can make the
+// edit fail. A removal needs no dry run.
 fn try_edit<S: BuildHasher + Clone>(
     alloc: Global,
     store: &Entities<S>,
@@ -129,7 +129,7 @@ fn try_edit<S: BuildHasher + Clone>(
     }
 }
 
-// Makes an edit that keeps a plain store plain, after a trial.
+// Makes an edit that keeps a plain store plain, after a dry run.
 fn edit_plain<S: BuildHasher + Copy>(
     alloc: Global,
     store: &mut Entities<S>,
@@ -203,8 +203,8 @@ impl<S: BuildHasher + Copy> StoreState<S> {
     // Adds entities, as `Entities::add_entities` does. After an error the store is as after an error of `edit`.
     //
     // If the store is known to be plain, the mode is `ComputeNow` and no entity has indirect ancestors, the extra cost
-    // is a trial, as `would_add` describes. Otherwise the extra cost is a copy of the store, and a copy of each entity
-    // whose ancestors are recomputed.
+    // is a dry run, as `would_add` describes. Otherwise the extra cost is a copy of the store, and a copy of each
+    // entity whose ancestors are recomputed.
     pub(crate) fn add_list(
         &mut self,
         alloc: Global,

@@ -60,7 +60,7 @@ impl<S: BuildHasher + Copy> StoreState<S> {
         }
     }
 
-    /// Stores the text of the uid of a number in `answer`.
+    /// Stores the text of the uid that has this number in `answer`.
     ///
     /// # Errors
     ///

@@ -6,9 +6,9 @@ use crate::node::Node;
 use cedar_c_lists::Reason;
 use std::alloc::Global;
 
-/// The greatest number of levels of the tree of some nodes. A node without operands has one level, and any other node
-/// has one more than the deepest of its operands. Dropping, comparing, hashing and printing a value or an expression
-/// recurse once per level.
+/// The greatest number of levels that a tree of nodes may have. A node without operands has one level, and any other
+/// node has one more than the deepest of its operands. Dropping, comparing, hashing and printing a value or an
+/// expression recurse once per level.
 pub const CEDAR_LEVELS: usize = 1000;
 
 // Returns the number of operands of a node, if it fits into `usize`.

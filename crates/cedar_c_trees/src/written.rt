@@ -23,7 +23,7 @@ impl Model for Written {
 }
 
 impl Written {
-    /// Creates it from the bytes and the nodes. Does not allocate.
+    /// Creates a `Written` from the bytes and the nodes. Does not allocate.
     pub(crate) fn new(bytes: Vec<u8>, nodes: Vec<Node>) -> Written
         ensures { result ≡ record { bytes = bytes.items; nodes = nodes.items } }
     {

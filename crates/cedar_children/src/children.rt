@@ -60,7 +60,8 @@ impl<S: BuildHasher + Clone> Children<S> {
         }
     }
 
-    /// Removes a uid as a parent, with all of its children. Makes one lookup. Does not allocate.
+    /// Removes the entry of a parent: afterwards it has no children. The children's own entries do not change. Makes
+    /// one lookup. Does not allocate.
     pub fn remove_parent(&mut self, parent: &SharedUid)
         ensures { (p q : EntityUID) → is_child self.new p q
             ≡ (not (same_uid parent.now p) && is_child self.old p q) }

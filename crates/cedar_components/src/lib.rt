@@ -51,7 +51,8 @@ pub struct Reached {
     /// The index of each number's component. Numbers that reach one another have the same component, which no contract
     /// states.
     pub component: Vec<usize>,
-    /// For each component, the index in `lists` at which its list begins. The list ends where the next list begins.
+    /// For each component, the index in `lists` at which its list begins. The list ends at the next element of `start`,
+    /// which has one more element than there are components.
     pub start: Vec<usize>,
     /// All lists, one after another.
     pub lists: Vec<usize>,

@@ -5,15 +5,16 @@ ghost use Rattle.cedar_components.specs.laws.Numbers.{AllBelow};
 
 use std::alloc::{AllocError, Global};
 
-// Chains of indices. `head[v]` is one more than the last index of the value `v`. `link[k]` is one more than the
-// previous index of the value at index `k`. 0 means that there is none.
+// For a list of numbers: chains of the indices at which each number occurs. `head[v]` is one more than the last index
+// of `v`. `link[k]` is one more than the index of the previous occurrence of the number at index `k`. 0 means that
+// there is none.
 #[derive(Drop)]
 pub(crate) struct Links {
     pub(crate) head: Vec<usize>,
     pub(crate) link: Vec<usize>,
 }
 
-// The arcs of a graph, with the chains by one end of the arcs.
+// The arcs of a graph, with the chains of the arcs that have the same `from`, or the same `to`.
 #[derive(Drop)]
 pub(crate) struct Arcs<'a> {
     pub(crate) from: &'a [usize],

@@ -12,8 +12,8 @@ use std::hash::BuildHasher;
 // The greatest number of types that are shared.
 const MOST: usize = 16;
 
-/// The uids of a copy, each once, and up to 16 of their types. An equal uid or type is shared within the copy. So the
-/// copy needs no more memory than its source.
+/// The uids of a copy, each once, and up to 16 of their types. An equal uid or type is shared within the copy. So a
+/// copy of a source with at most 16 types needs no more memory than its source.
 #[derive(Drop)]
 pub struct CopiedUids<S: BuildHasher> {
     uids: HashSet<SharedUid, S>,

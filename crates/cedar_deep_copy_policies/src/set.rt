@@ -115,9 +115,9 @@ fn deep_copy_bound<S: BuildHasher + Copy>(
 /// # Errors
 ///
 /// - `AllocError`: an allocation failed.
-/// - `AllocError`: a clause has more than `CEDAR_LEVELS` levels. A clause that was decoded from nodes never has.
-/// - `AllocError`: a link comes before a static policy, and its template comes after that policy. A set that was built by
-///   single calls never has such a link.
+/// - `AllocError`: a clause has more than `CEDAR_LEVELS` levels. A clause that was decoded from nodes never has more.
+/// - `AllocError`: a link comes before a static policy, and its template comes after that policy. A set that was built
+///   by `add`, `link` and the other calls that add one policy never has such a link.
 ///
 /// # Complexity
 ///

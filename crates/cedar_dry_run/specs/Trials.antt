@@ -8,8 +8,8 @@ use Rattle.cedar_entity_maps.specs.Plain.{StoreView, EntityMap}
 use Rattle.cedar_entity_maps.specs.InputStore.{InputStore}
 use Rattle.cedar_entity_maps.specs.declared.modes.TCComputation.TheVariants.{ComputeNow}
 
--- The result of a dry run of a call on the plain store of W. If the dry run succeeds, the call succeeds. If it fails,
--- its error is an error of the call.
+-- Holds if a dry run of a call on the plain store of W may have this result: after `Ok` the call succeeds (unless an
+-- allocation fails), and an error is an error of the call.
 abbrev pub Tries : {A : Type 0} → InputStore → Call → Result A EntitiesError → Type 0
 Tries W c (Ok a) = Passes W c
 Tries W c (Err e) = IsErrorAs W c e

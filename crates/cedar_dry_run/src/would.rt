@@ -30,13 +30,13 @@ fn part_for<S: BuildHasher + Clone>(
 /// Checks whether [`Entities::add_entities`] of this store and list would fail under [`TCComputation::ComputeNow`]. The
 /// store and the list do not change.
 ///
-/// Suppose that the store is plain, and that no entity of the list has indirect ancestors. Then the edit succeeds after
-/// `Ok`. Only an allocation failure of the edit is still possible. In any other store, `Ok` has no meaning.
+/// In a plain store, and if no entity of the list has indirect ancestors, `Ok` means that the edit can fail only
+/// because an allocation fails. Otherwise `Ok` means nothing.
 ///
 /// # Errors
 ///
-/// Returns an error with which the edit can fail, in every store. A duplicate is the one that the edit reports. A cycle
-/// is a cycle that the edit would create, but the edit may name another one.
+/// An error has a meaning in every store: the edit can fail with it. A duplicate names the uid that the edit names. A
+/// cycle is a cycle that the edit would create, but the edit may name another one.
 ///
 /// - `Memory`: an allocation of the dry run failed.
 ///

@@ -30,8 +30,8 @@ pub record IsUnknownOf (u : EntityUID) (e : ExprTree) : Type 0 where
   pub node : e ≡ unknown_node (record { name = name; annotation = Some (uid_parts u).name })
   pub printed : IfSome (uid_output (uid_parts u)) (λ bs. name ≡ bs)
 
--- The result of looking up u, where o is the entity of the store at u. If there is an entity, it is the result. If
--- there is none, the result is an unknown in a partial store, and `NoSuchEntity` otherwise.
+-- Holds for the result of looking up u, where o is the entity of the store at u. If there is an entity, it is the
+-- result. If there is none, the result is an unknown in a partial store, and `NoSuchEntity` otherwise.
 abbrev pub Finds : Option EntityView → Bool → EntityUID → Dereference EntityView → Type 0
 Finds o partial u (answers.Data x) = o ≡ Some x.now
 Finds o partial u answers.NoSuchEntity = (o ≡ None) × (partial ≡ false)
@@ -54,7 +54,7 @@ pub record AreDeepEqual (S T : StoreView) : Type 0 where
   pub mode : S.partial ≡ T.partial
   pub entities : (q : EntityUID) → HasDeepEqual (finmap.get S.entities q) (finmap.get T.entities q)
 
--- The effect of taking the next item of an iterator. It returns `None` if the list is empty. Otherwise it removes the
--- first entity, and returns it or an allocation failure.
+-- Holds for the effect of taking the next item of an iterator. It returns `None` if the list is empty. Otherwise it
+-- removes the first entity, and returns it or an allocation failure.
 abbrev pub RemovesUids : {E : Type 0} → List EntityView → Option (Result EntityView E) → List EntityView → Type 0
 RemovesUids s r t = MatchOption r ((s ≡ []) × (t ≡ [])) (λ x. (e : EntityView) × (s ≡ e ∷ t) × IfOk x (λ y. y ≡ e))

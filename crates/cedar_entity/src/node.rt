@@ -114,7 +114,8 @@ impl TCNode<EntityUID> for Entity {
     ghost direct_are_edges = { parents_are_ancestors };
 }
 
-/// A shared entity. Stores can share it, and `clone` shares it too. A change of a shared entity first copies it.
+/// A pointer to an entity, which several stores can share. `clone` copies the pointer. A change first copies the entity
+/// if it is shared.
 #[derive(Clone, Debug, Drop)]
 pub struct SharedEntity(pub Rc<Entity>);
 

@@ -1,9 +1,9 @@
--- The value of the program's commands in contracts.
+-- A command that was read, as contracts see it.
 use Rattle.cedar_entity_lines.specs.EntityCommand.{EntityCommand, Ent, Build, Add, Upsert, Remove, Slice, Anc}
 use Rattle.cedar_entity_lines.specs.declared.command.EntityCommand as code
 use Rattle.cedar_entity_lines.specs.declared.command.EntityCommand.TheVariants as read
 
--- The value of a command that was read.
+-- The command of the definitions for a command of the code.
 abbrev pub entity_command_of : code.EntityCommand → EntityCommand
 entity_command_of (read.Ent u ps) = Ent u ps.items
 entity_command_of read.Build = Build

@@ -48,7 +48,7 @@ graph W a b = is_parent_in (finmap.get W.entities a) b
 abbrev pub entry_of : InputEntity → EntityUID × Parts
 entry_of g = (g.uid, g.parts)
 
--- The parts of the first entity of a list with a uid.
+-- The parts of the first entity with the uid q in a list.
 abbrev pub first : List InputEntity → EntityUID → Option Parts
 first L q = finmap.find uid_order q (map entry_of L)
 

@@ -24,7 +24,8 @@ rules_of modes.ComputeNow = record { repairs = true; refuses_cycles = true; chec
 abbrev pub with_repair : EditRules → EditRules
 with_repair r = record r { repairs = true }
 
--- Whether the edit rules compute the closure of added entities: they repair, report cycles, and check nothing else.
+-- Whether the edit rules compute the closure of added entities: an addition repairs and reports cycles, and the whole
+-- store is not checked at the end.
 abbrev pub computes : EditRules → Bool
 computes r = (r.repairs && r.refuses_cycles) && not r.checks
 

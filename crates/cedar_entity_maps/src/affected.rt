@@ -29,7 +29,7 @@ use std::collections::{HashMap, HashSet};
 use std::hash::BuildHasher;
 use std::rc::Rc;
 
-/// The stale indirect ancestors of an entity.
+/// The stale indirect ancestors of an entity (see `is_stale`).
 #[derive(Debug, Drop)]
 pub enum Lost {
     /// All indirect ancestors.

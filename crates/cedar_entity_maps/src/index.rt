@@ -137,8 +137,8 @@ fn children_of<S: BuildHasher + Clone>(
     with_all(alloc, none, entities, &keys)
 }
 
-/// Lists the children once scans have cost about as much as listing. If an allocation fails, the children stay
-/// unlisted.
+/// Counts a scan of the store. Once the scans have cost about as much as an index of children, builds that index. Does
+/// nothing if the store is small or not known to be plain. If an allocation fails, there is still no index.
 pub fn list_if_it_pays<S: BuildHasher + Clone>(
     alloc: Global,
     entities: &HashMap<SharedUid, SharedEntity, S>,

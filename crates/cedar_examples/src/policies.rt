@@ -23,7 +23,7 @@ use std::alloc::Global;
 /// The checks are made in this order. After an error the set is unchanged.
 ///
 /// - `NoSuchTemplate`: there is no template with the first id.
-/// - `ArityError`: the template has other slots than the principal's.
+/// - `ArityError`: the slots of the template are not exactly the principal's.
 /// - `PolicyIdConflict`: the new id is already in use.
 /// - `Memory`: an allocation failed.
 pub fn grant(
@@ -35,7 +35,8 @@ pub fn grant(
 ) -> Result<(), LinkingError>
     ensures step { Steps linking_error_of result policies.old policies.new
         (link_step policies.old template id (bound_more no_env Principal (uid_parts user))) }
-    // The new id is the id of a link of that template. The link binds each slot of the template, and no other.
+    // If the result is `Ok`, the new id is the id of a link of that template. The link binds each slot of the template,
+    // and no other.
     ensures bound { OnOk result ((t : BodyParts) × (bound_at policies.old template ≡ Some (Template t))
         × (bound_at policies.new id ≡ Some (Link id t (bound_more no_env Principal (uid_parts user))))
         × BindsExactly (body_slots t) (bound_more no_env Principal (uid_parts user))) }

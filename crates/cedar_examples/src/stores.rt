@@ -53,7 +53,7 @@ pub fn is_member(
     Ok(is_below(&store, user, group))
 }
 
-/// Moves a user to other groups, and then closes a group. Returns the store.
+/// Moves a user to other groups, and then deletes a group. Returns the store.
 ///
 /// # Errors
 ///

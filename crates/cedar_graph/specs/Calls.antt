@@ -22,10 +22,10 @@ pub record OnlyAdds {K : Type 0} (old new : K → K → Bool) : Type 0 where
   pub stays : KeepsEdges old new
   pub only : AddsOnlyReached old new
 
--- The effect of `compute_tc`. Edges are only added, and `same` states that the same keys are reached as before. Unless
--- an allocation failed, the new graph is the closure of the old one, even if a cycle is reported. An `Ok` means that
--- the graph has no cycle, if that was to be checked (`asked`). A reported cycle was to be checked, and its key is in
--- the map and lies on a cycle.
+-- Holds for the effect of `compute_tc`. Edges are only added, and `same` states that the same keys are reached as
+-- before. Unless an allocation failed, the new graph is the closure of the old one, even if a cycle is reported. An
+-- `Ok` means that the graph has no cycle, if that was to be checked (`asked`). A reported cycle was to be checked, and
+-- its key is in the map and lies on a cycle.
 pub record Closes {K V S T : Type 0} (eq : K → K → Bool) (edges : V → K → Bool) (asked : Bool)
     (old new : HashMap K V S) (result : Result T (TcError K)) : Type 0 where
   pub adds : OnlyAdds (graph_of eq edges old) (graph_of eq edges new)
@@ -37,10 +37,10 @@ pub record Closes {K V S T : Type 0} (eq : K → K → Bool) (edges : V → K �
   pub ok : OnOk result (IsTrue asked → HasNoCycle (graph_of eq edges old))
   pub err : IfErr result (NamesCycleAt asked (λ v. is_some (get eq old v)) (graph_of eq edges old))
 
--- The effect of `repair_tc`. Only nodes at keys to fix change, and edges are only added. Suppose that all other nodes
--- have an edge to every key that they reach. Then after `Ok` the new graph is the closure of the old one, if no key to
--- fix lies on a cycle. That is guaranteed if cycles were to be checked (`asked`). A reported cycle was to be checked,
--- and its key is to be fixed and lies on a cycle.
+-- Holds for the effect of `repair_tc`. Only nodes at keys to fix change, and edges are only added. Suppose that all
+-- other nodes have an edge to every key that they reach. Then after `Ok` the new graph is the closure of the old one,
+-- if no key to fix lies on a cycle. That is guaranteed if cycles were to be checked (`asked`). A reported cycle was to
+-- be checked, and its key is to be fixed and lies on a cycle.
 pub record Repairs {K V S T : Type 0} (eq : K → K → Bool) (edges : V → K → Bool) (asked : Bool) (fix : K → Bool)
     (old new : HashMap K V S) (result : Result T (TcError K)) : Type 0 where
   pub alone : (q : K) → fix q ≡ false → get eq new q ≡ get eq old q
@@ -55,8 +55,8 @@ pub record Repairs {K V S T : Type 0} (eq : K → K → Bool) (edges : V → K �
 abbrev pub StaysOnCycle : {K M T : Type 0} → M → M → Result T (TcError K) → Type 0
 StaysOnCycle old new result = IfErr result (λ e. MatchFault e (λ _ _ _. ⊥) (λ _. new ≡ old))
 
--- The effect of `close_dag`. Edges are only added. After `Ok` the new graph is the closure of the old one, and it has
--- no cycle. A reported key is in the map and lies on a cycle, and the map is then unchanged.
+-- Holds for the effect of `close_dag`. Edges are only added. After `Ok` the new graph is the closure of the old one,
+-- and it has no cycle. A reported key is in the map and lies on a cycle, and the map is then unchanged.
 pub record ClosesDag {K V S T : Type 0} (eq : K → K → Bool) (edges : V → K → Bool) (old new : HashMap K V S)
     (result : Result T (TcError K)) : Type 0 where
   pub adds : OnlyAdds (graph_of eq edges old) (graph_of eq edges new)
@@ -65,9 +65,9 @@ pub record ClosesDag {K V S T : Type 0} (eq : K → K → Bool) (edges : V → K
   pub err : IfErr result (NamesCycleAt true (λ v. is_some (get eq old v)) (graph_of eq edges old))
   pub stays : StaysOnCycle old new result
 
--- The effect of `repair_dag`. Only nodes at keys to fix change, and edges are only added. Suppose that all other nodes
--- have an edge to every key that they reach. Then after `Ok` the new graph is the closure of the old one, and no key to
--- fix lies on a cycle. A reported key is to be fixed and lies on a cycle, and the map is then unchanged.
+-- Holds for the effect of `repair_dag`. Only nodes at keys to fix change, and edges are only added. Suppose that all
+-- other nodes have an edge to every key that they reach. Then after `Ok` the new graph is the closure of the old one,
+-- and no key to fix lies on a cycle. A reported key is to be fixed and lies on a cycle, and the map is then unchanged.
 pub record RepairsDag {K V S T : Type 0} (eq : K → K → Bool) (edges : V → K → Bool) (fix : K → Bool)
     (old new : HashMap K V S) (result : Result T (TcError K)) : Type 0 where
   pub alone : (q : K) → fix q ≡ false → get eq new q ≡ get eq old q

@@ -13,7 +13,7 @@ hasher_with seed key = record { state = seed; key = key }
 abbrev pub first_hasher : KeyedState → KeyedHasher
 first_hasher s = record { state = s.seed; key = s.key }
 
--- The exclusive or of the two halves of a product of 128 bits.
+-- The exclusive or of the two 64-bit halves of `a * b`.
 unfoldable pub mixed : ℕ → ℕ → ℕ
 mixed a b = bit_xor (bit_and (a * b) (2 ^ 64 - 1)) (a * b / 2 ^ 64)
 
@@ -43,7 +43,9 @@ unfoldable pub after_words : List ℕ → ℕ → ℕ → ℕ → ℕ
 after_words bytes key state zero = state
 after_words bytes key state (suc n) = mixed (bit_xor (after_words bytes key state n) (word_at bytes (8 * n))) key
 
--- The hasher after these bytes. It processes the whole words from the start, and then the last eight bytes.
+-- The hasher after these bytes. From eight bytes on, it processes words of eight bytes from the start while further
+-- bytes follow, and then the last eight bytes, which can overlap the word before. Fewer bytes are processed as one
+-- number (see `short`).
 unfoldable pub keyed : KeyedHasher → List ℕ → KeyedHasher
 keyed h bytes =
     let n = length bytes in

@@ -17,7 +17,8 @@ use std::hash::{BuildHasher, Hasher};
 use std::random::RandomSource;
 use std::{fmt, io};
 
-/// A builder of keyed hashers. Two hashers of one builder hash alike; hashers of builders with different keys do not.
+/// A builder of keyed hashers. Hashers of one builder hash alike. Hashers of builders with different keys in general do
+/// not.
 ///
 /// The type is `Copy`.
 #[derive(Clone, Copy)]
@@ -27,10 +28,10 @@ pub struct KeyedState {
 }
 
 impl KeyedState {
-    /// Creates a builder with a key of 16 random bytes from `source`. A program passes `rt`.
+    /// Creates a builder with a key of 16 random bytes from `source`. A program passes its `HostRuntime`.
     ///
     /// The result is [`from_bytes`](KeyedState::from_bytes) of the bytes that the source writes. A contract cannot name
-    /// these bytes, so a test shows it.
+    /// these bytes, so this is only tested.
     ///
     /// # Errors
     ///

@@ -29,7 +29,7 @@ pub fn text_in(alloc: Global, room: &mut String, text: &str) -> Result<String, A
     refilled(alloc, room, text)
 }
 
-// Copies a text into the buffer of `room`.
+// Copies a text into the buffer of `room`, which is empty afterwards.
 #[inline(never)]
 fn refilled(alloc: Global, room: &mut String, text: &str) -> Result<String, AllocError>
     ensures { IfOk result (λ t. string_bytes t ≡ text.now) }

@@ -24,7 +24,7 @@ use std::alloc::{AllocError, Global};
 use std::hash::BuildHasher;
 use std::rc::Rc;
 
-/// Entries to merge into maps, in two groups: those whose equals are already in the maps, and the new ones.
+/// Entries to merge into maps, in two groups: those that have an equal entry in the maps, and the new ones.
 #[derive(Debug, Drop)]
 pub struct SharedAndNew<T> {
     /// Entries that are equal to entries in the maps.

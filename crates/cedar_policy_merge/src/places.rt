@@ -15,7 +15,7 @@ pub(crate) fn are_placed_as(stands: &SlotEnv, values: &SlotEnv) -> bool {
     true
 }
 
-// Returns whether two uids and their types have the same source locations.
+// Returns whether there is a uid in `stands`, and it and its type have the same locations as `uid` and its type.
 fn is_placed_as(stands: Option<&EntityUID>, uid: &EntityUID) -> bool {
     match stands {
         None => false,

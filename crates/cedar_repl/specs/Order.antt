@@ -23,17 +23,17 @@ pub record Passed : Type 0 where
   pub written : List ℕ
   pub flushed : List ℕ
 
--- The state before any call.
+-- What was read, written and flushed before any call: nothing.
 abbrev pub nothing : Passed
 nothing = record { came = []; written = []; flushed = [] }
 
--- The state after one more call.
+-- What was read, written and flushed after one more call.
 abbrev pub passed_by : Passed → Call → Passed
 passed_by p (Reads bytes) = record { came = p.came ++ bytes; written = p.written; flushed = p.flushed }
 passed_by p (Writes bytes) = record { came = p.came; written = p.written ++ bytes; flushed = p.flushed }
 passed_by p Flushes = record { came = p.came; written = p.written; flushed = p.written }
 
--- The state after a list of calls.
+-- What was read, written and flushed after the calls, beginning with p.
 unfoldable pub passed : Passed → List Call → Passed
 passed p [] = p
 passed p (c ∷ cs) = passed (passed_by p c) cs

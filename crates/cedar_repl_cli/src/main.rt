@@ -16,7 +16,8 @@ enum Action {
     Unknown,
 }
 
-// Returns the action of an argument. An argument that is not UTF-8 is unknown, like any other.
+// Returns the action of an argument. Any argument other than `--strict` and `--help`, also one that is not UTF-8, is
+// `Unknown`.
 fn named(argument: &[u8]) -> Action {
     if argument == b"--strict".as_slice() {
         Action::Talk(ErrorMode::Strict)

@@ -17,8 +17,8 @@ abbrev pub IsRefusedByStep : {A E B : Type 0} → Result A E → Result B Refusa
 IsRefusedByStep r step = IfErr r (λ e. IsErr step)
 
 -- Whether a call has this result and changes the policy set `old` to `new`, for every builder of hashers. Each call
--- except a merge follows its step. `Memory` leaves the set unchanged, and is impossible if a link or a static policy
--- can be removed. A result in the variant of another call is impossible.
+-- except a merge follows its step. `Memory` leaves the set unchanged. A call that removes a link or a static policy
+-- does not fail with `Memory` if its step succeeds. A result in the variant of another call is impossible.
 abbrev pub IsStep : {S H : Type 0} → PolicyCall S H → Answer S H → SetParts → SetParts → Type 0
 IsStep (calls.AddStatic s) (answers.AddStatic r) old new = Steps set_error_of r old new (add_static_step old s)
 IsStep (calls.AddTemplate t) (answers.AddTemplate r) old new = Steps set_error_of r old new (add_template_step old t)

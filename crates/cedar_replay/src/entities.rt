@@ -84,7 +84,7 @@ pub fn replay_entities(
 ) -> Result<Entities, (usize, EntitiesError)>
     requires { AllByRecursion EntitiesHaveNoIndirect calls.items }
 
-    // All calls succeed, and the result is the plain store of the entities that the calls produce.
+    // If the result is `Ok`, all calls succeeded, and it is the plain store of the entities that the calls produce.
     ensures pass { OnOk result (AllPass empty_input (map call_of calls.items)) }
     ensures ok { IfOk result (λ s.
         IsPlainStore (apply_calls empty_input (map call_of calls.items)) s) }

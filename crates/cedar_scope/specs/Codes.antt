@@ -13,7 +13,7 @@ abbrev pub reference_with : Option UidParts → Reference
 reference_with None = to_slot
 reference_with (Some u) = to_uid u
 
--- A reference is the one with its optional uid.
+-- The reference made from the optional uid of r is r.
 pub reference_with-referred_uid : (r : Reference) → reference_with (referred_uid r) ≡ r
 reference_with-referred_uid (to_uid u) = refl
 reference_with-referred_uid to_slot = refl

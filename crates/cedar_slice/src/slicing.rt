@@ -145,7 +145,8 @@ fn part_of<S: BuildHasher + Clone>(
 ///
 /// The copies have the attributes, tags, parents and ancestors of the originals. Uids that are not in the store, and
 /// repeated uids, have no effect. The slice is not partial. It uses a clone of the store's hasher builder. If the store
-/// is known to be plain, so is the slice, and edits of both cost the same.
+/// is known to be plain (see `would_add`), so is the slice, and edits of the slice are as cheap as edits of such a
+/// store.
 ///
 /// # Errors
 ///

@@ -373,7 +373,7 @@ fn is_read_whole(alloc: Global, way: Way, most: usize, good: usize) -> bool {
     told
 }
 
-// Checks this for any number of good reads.
+// Calls `is_read_whole` for any number of good reads.
 fn is_refused_for_reads(alloc: Global, way: Way, most: usize) -> bool {
     for good in 0..32 {
         if !is_read_whole(alloc, way, most, good) {
@@ -383,7 +383,7 @@ fn is_refused_for_reads(alloc: Global, way: Way, most: usize) -> bool {
     true
 }
 
-// Checks this for the variants that leak memory, or that free it.
+// Calls `is_refused_for_reads` for the variants that leak memory, or that free it.
 fn are_refused_for_reads(alloc: Global, leaves: bool, most: usize) -> bool {
     for way in ways(leaves) {
         if !is_refused_for_reads(alloc, way, most) {
@@ -450,7 +450,7 @@ fn is_written_whole(alloc: Global, way: Way, most: usize, good: usize, flushes: 
     }
 }
 
-// Checks this for any number of good writes.
+// Calls `is_written_whole` for any number of good writes.
 fn is_refused_for_writes(alloc: Global, way: Way, most: usize) -> bool {
     for good in 0..11 {
         let flushed = is_written_whole(alloc, way, most, good, true);
@@ -461,7 +461,7 @@ fn is_refused_for_writes(alloc: Global, way: Way, most: usize) -> bool {
     true
 }
 
-// Checks this for the variants that leak memory, or that free it.
+// Calls `is_refused_for_writes` for the variants that leak memory, or that free it.
 fn are_refused_for_writes(alloc: Global, leaves: bool, most: usize) -> bool {
     for way in ways(leaves) {
         if !is_refused_for_writes(alloc, way, most) {

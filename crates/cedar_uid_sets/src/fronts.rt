@@ -72,7 +72,8 @@ fn kind(name: &Name) -> u64
     front(name.basename().as_ref().as_bytes())
 }
 
-/// A uid to look up, with its two numbers. In contracts it is the uid.
+/// A uid to look up, with the two numbers that abbreviate its type (`kind`) and its eid (`front`). In contracts it is
+/// the uid.
 #[derive(Drop)]
 pub(crate) struct Key<'a> {
     pub(crate) kind: u64,

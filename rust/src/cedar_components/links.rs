@@ -2,14 +2,15 @@
 
 //! Chains of the indices at which each value occurs in a list.
 
-// Chains of indices. `head[v]` is one more than the last index of the value `v`. `link[k]` is one more than the
-// previous index of the value at index `k`. 0 means that there is none.
+// For a list of numbers: chains of the indices at which each number occurs. `head[v]` is one more than the last index
+// of `v`. `link[k]` is one more than the index of the previous occurrence of the number at index `k`. 0 means that
+// there is none.
 pub(crate) struct Links {
     pub(crate) head: Vec<usize>,
     pub(crate) link: Vec<usize>,
 }
 
-// The arcs of a graph, with the chains by one end of the arcs.
+// The arcs of a graph, with the chains of the arcs that have the same `from`, or the same `to`.
 pub(crate) struct Arcs<'a> {
     pub(crate) from: &'a [usize],
     pub(crate) to: &'a [usize],

@@ -22,7 +22,8 @@ mod window_lists;
 pub struct Reached {
     /// The index of each number's component.
     pub component: Vec<usize>,
-    /// For each component, the index in `lists` at which its list begins. The list ends where the next list begins.
+    /// For each component, the index in `lists` at which its list begins. The list ends at the next element of `start`,
+    /// which has one more element than there are components.
     pub start: Vec<usize>,
     /// All lists, one after another.
     pub lists: Vec<usize>,

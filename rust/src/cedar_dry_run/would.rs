@@ -17,13 +17,12 @@ fn part_for<S: BuildHasher + Clone>(store: &Entities<S>, list: &[Arc<Entity>]) -
 /// Checks whether [`Entities::add_entities`] of this store and list would fail under [`TCComputation::ComputeNow`]. The
 /// store and the list do not change.
 ///
-/// Suppose that the store is plain, and that no entity of the list has indirect ancestors. Then the edit succeeds after
-/// `Ok`. In any other store, `Ok` has no meaning.
+/// Otherwise `Ok` means nothing.
 ///
 /// # Errors
 ///
-/// Returns an error with which the edit can fail, in every store. A duplicate is the one that the edit reports. A cycle
-/// is a cycle that the edit would create, but the edit may name another one.
+/// An error has a meaning in every store: the edit can fail with it. A duplicate names the uid that the edit names. A
+/// cycle is a cycle that the edit would create, but the edit may name another one.
 ///
 /// # Complexity
 ///

@@ -49,7 +49,8 @@ impl TCNode<EntityUID> for Entity {
     }
 }
 
-/// A shared entity. Stores can share it, and `clone` shares it too. A change of a shared entity first copies it.
+/// A pointer to an entity, which several stores can share. `clone` copies the pointer. A change first copies the entity
+/// if it is shared.
 #[derive(Clone, Debug)]
 pub struct SharedEntity(pub Arc<Entity>);
 

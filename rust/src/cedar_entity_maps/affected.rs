@@ -11,7 +11,7 @@ use std::collections::{HashMap, HashSet};
 use std::hash::BuildHasher;
 use std::sync::Arc;
 
-/// The stale indirect ancestors of an entity.
+/// The stale indirect ancestors of an entity (see `is_stale`).
 #[derive(Debug)]
 pub enum Lost {
     /// All indirect ancestors.

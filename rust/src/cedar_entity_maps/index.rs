@@ -99,7 +99,8 @@ fn children_of<S: BuildHasher + Clone>(entities: &HashMap<SharedUid, SharedEntit
     with_all(none, entities, &keys)
 }
 
-/// Lists the children once scans have cost about as much as listing.
+/// Counts a scan of the store. Once the scans have cost about as much as an index of children, builds that index. Does
+/// nothing if the store is small or not known to be plain.
 pub fn list_if_it_pays<S: BuildHasher + Clone>(entities: &HashMap<SharedUid, SharedEntity, S>, index: &mut Index<S>) {
     if !index.plain || index.children.is_some() || entities.len() < SMALL {
         return;

@@ -5,7 +5,8 @@
 use std::fmt;
 use std::hash::{BuildHasher, Hasher};
 
-/// A builder of keyed hashers. Two hashers of one builder hash alike; hashers of builders with different keys do not.
+/// A builder of keyed hashers. Hashers of one builder hash alike. Hashers of builders with different keys in general do
+/// not.
 ///
 /// The type is `Copy`.
 #[derive(Clone, Copy)]

@@ -22,7 +22,7 @@ pub fn text_in(room: &mut String, text: &str) -> String {
     refilled(room, text)
 }
 
-// Copies a text into the buffer of `room`.
+// Copies a text into the buffer of `room`, which is empty afterwards.
 #[inline(never)]
 fn refilled(room: &mut String, text: &str) -> String {
     let mut copy = mem::take(room);

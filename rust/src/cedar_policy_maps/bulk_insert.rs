@@ -10,7 +10,7 @@ use crate::ordered_map::{OrderedMap, OrderedSet};
 use std::hash::BuildHasher;
 use std::sync::Arc;
 
-/// Entries to merge into maps, in two groups: those whose equals are already in the maps, and the new ones.
+/// Entries to merge into maps, in two groups: those that have an equal entry in the maps, and the new ones.
 #[derive(Debug)]
 pub struct SharedAndNew<T> {
     /// Entries that are equal to entries in the maps.

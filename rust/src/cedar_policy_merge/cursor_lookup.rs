@@ -77,7 +77,8 @@ pub(crate) fn place_of_policy<S: BuildHasher + Copy>(
     Some(place)
 }
 
-// Returns the new body with this id, if it is at the place to try or after it. Moves the place behind it.
+// Returns the body with this id from the index `*next` on, if there is one. `*next` is then the index after it, and
+// otherwise the end of the list.
 pub(crate) fn new_body_at<'a>(
     joined: &'a [Arc<Template>],
     id: &PolicyID,

@@ -115,7 +115,7 @@ fn gather_bodies<S: BuildHasher + Copy>(
     }
 }
 
-// Does the same for one body.
+// Collects the id of one body as `gather_bodies` does for all of them.
 fn gather_body<S: BuildHasher + Copy>(
     ids: &mut OrderedSet<PolicyID, S>,
     links: &mut Vec<PolicyID>,
@@ -148,7 +148,7 @@ fn gather_policies<S: BuildHasher + Copy>(
     }
 }
 
-// Does the same for one policy.
+// Collects the id of one policy as `gather_policies` does for all of them.
 fn gather_policy<S: BuildHasher + Copy>(
     ids: &mut OrderedSet<PolicyID, S>,
     templates: &mut Vec<PolicyID>,
@@ -295,7 +295,8 @@ fn position_of<S: BuildHasher + Copy>(
     }
 }
 
-// Returns whether a body of this set has this id after renaming. This set uses no new id.
+// Returns whether this set has a body with the id `new` or, if there is no new id, `id`. A new id is never in use in
+// this set, so the result is then false.
 fn contains_body<S: BuildHasher + Copy>(here: &PolicyMaps<S>, new: Option<&PolicyID>, id: &PolicyID) -> bool {
     match new {
         Some(_) => false,

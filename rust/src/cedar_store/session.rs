@@ -198,7 +198,7 @@ impl<S: BuildHasher + Copy> Session<S> {
     /// Runs a line, given without its line feed, and returns whether it is a command. A line may contain any bytes. An
     /// empty line is a command that does nothing. See the project's `docs/PROGRAM.md` for the commands.
     ///
-    /// A command appends its output to `out`, which can be empty. A line that is not a command changes neither the
+    /// A command appends its output, which can be empty, to `out`. A line that is not a command changes neither the
     /// session nor `out`. The caller can report it with [`push_not_command`], as the program does.
     ///
     /// # Complexity

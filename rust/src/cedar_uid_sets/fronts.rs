@@ -55,7 +55,7 @@ fn kind(name: &Name) -> u64 {
     front(name.basename().as_ref().as_bytes())
 }
 
-/// A uid to look up, with its two numbers.
+/// A uid to look up, with the two numbers that abbreviate its type (`kind`) and its eid (`front`).
 pub(crate) struct Key<'a> {
     pub(crate) kind: u64,
     pub(crate) front: u64,

@@ -148,7 +148,8 @@ fn chain(alloc: Global, many: u32) -> Option<Entities> {
     }
 }
 
-// Returns the store after some calls, or a chain from which one entity may be removed.
+// Returns the store after the calls of a text. If the text begins with `chain N`, the calls begin with a chain of N
+// entities.
 fn counted_store(alloc: Global, calls: &str) -> Option<Entities> {
     match calls.strip_prefix("chain ") {
         Some(rest) => {

@@ -34,8 +34,7 @@ pub(super) fn action(alloc: Global, text: &str) -> Option<ActionConstraint> {
     }
 }
 
-// Returns whether the remaining uids of an iterator are these. The list of several uids is compared in its order, not
-// from the back.
+// Returns whether the remaining uids of an iterator are these, in this order.
 fn are_uids(alloc: Global, uids: &EntityIterator<'_>, want: &str) -> bool {
     match uids {
         EntityIterator::None => want == "none",

@@ -370,7 +370,7 @@ fn text_in_room(
     })
 }
 
-// Runs a function that reads into the buffer of the first word.
+// Runs a function that copies a text into a buffer that has held another one: the first word.
 fn in_room(alloc: Global, number: usize, row: Row<'_>) -> CallOutcome {
     let (first, rest) = row.given.split_once(' ').unwrap_or((row.given, ""));
     match String::from_str(alloc, first) {

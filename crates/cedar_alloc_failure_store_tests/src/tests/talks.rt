@@ -26,7 +26,7 @@ fn told(answer: Result<u8, TalkError>, written: &[u8], due: &[u8], want: &str) -
     }
 }
 
-// Runs an interactive run on these bytes.
+// Holds a conversation over these bytes.
 fn held(
     alloc: Global,
     number: usize,

@@ -9,8 +9,8 @@ use Rattle.cedar_entity_maps.specs.EditErrors.{MatchError, NamesOneOf}
 use Rattle.cedar_entity_maps.specs.Affected.{IsEnded, IsEndError}
 use Rattle.cedar_entity_maps.specs.declared.modes.EditRules.{EditRules}
 
--- The result of finalizing an edit from D to N. If the edit rules compute the closure, a reported cycle names an
--- affected uid.
+-- Holds for the result of finalizing an edit from D to N. If the edit rules compute the closure, a reported cycle names
+-- an affected uid.
 pub record Ends {A : Type 0} (row : EditRules) (affected : EntityUID → Bool) (D N : EntityMap) (answer : Result A EntitiesError)
     : Type 0 where
   pub ok : OnOk answer (IsEnded row affected D N)

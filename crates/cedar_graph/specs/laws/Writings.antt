@@ -129,8 +129,8 @@ NoneLoops E n = (w x : ℕ) → x < n → E w x → HasPath E x x → ⊥
 abbrev pub AreMarked : (ℕ → ℕ → Type 0) → ℕ → List ℕ → Type 0
 AreMarked E n marks = (w y : ℕ) → w < n → E w y → 0 < slice_index marks y
 
--- The effect of writing. Only nodes at keys that satisfy A change, no edge is removed, and each added edge satisfies X.
--- After `Ok` all edges from nodes of the map that satisfy X are there.
+-- Holds for the effect of writing. Only nodes at keys that satisfy A change, no edge is removed, and each added edge
+-- satisfies X. After `Ok` all edges from nodes of the map that satisfy X are there.
 pub record Writes {K V S T E : Type 0} (eq : K → K → Bool) (edges : V → K → Bool) (A : K → Type 0)
     (X : K → K → Type 0) (old new : HashMap K V S) (result : Result T E) : Type 0 where
   pub alone : (q : K) → (A q → ⊥) → get eq new q ≡ get eq old q

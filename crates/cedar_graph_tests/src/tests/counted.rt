@@ -40,7 +40,7 @@ fn are_listed_once<S: BuildHasher + Copy>(alloc: Global, hasher: S) -> bool {
     }
 }
 
-// Checks this for a chain of two thousand keys.
+// Calls `are_listed_once` for a chain of two thousand keys.
 fn chain_takes(alloc: Global) -> bool {
     match chain(alloc, 1, 2001) {
         Ok(mut nodes) => {

@@ -42,7 +42,7 @@ fn id(alloc: Global, text: &str) -> Result<String, Fail> {
     }
 }
 
-// Does the same with an identifier that may be reserved.
+// Returns the answer of a line about an identifier that may be reserved.
 fn any_id(alloc: Global, text: &str) -> Result<String, Fail> {
     match AnyId::from_normalized_str(alloc, text) {
         Ok(id) => {

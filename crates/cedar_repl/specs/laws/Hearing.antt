@@ -31,16 +31,17 @@ pub record Has {S H : Type 0} (k : Conversation S H) (bytes out : List ℕ) : Ty
   pub stands : IsInState k.session state
   pub answers : AnswersFrom k.manner 1 start heard.lines state out
 
--- The effect of receiving more bytes. If the conversation continues, `after` is `before` with the outputs for the lines
--- that they complete. If an invalid line ends it, the whole output is the output of a run, whatever input follows.
+-- Holds for the effect of receiving more bytes. If the conversation continues, `after` is `before` with the outputs for
+-- the lines that they complete. If an invalid line ends it, the whole output is the output of a run, whatever input
+-- follows.
 abbrev pub Hears : {S H : Type 0} → Bool → Conversation S H → List ℕ → Conversation S H → List ℕ → List ℕ → Type 0
 Hears true old bytes new before after = (new.manner ≡ old.manner)
     × ((xs : List ℕ) → (out : List ℕ) → Has old xs (out ++ before) → Has new (xs ++ bytes) (out ++ after))
 Hears false old bytes new before after = (xs : List ℕ) → (out : List ℕ) → (rest : List ℕ) → Has old xs (out ++ before)
     → (old.manner ≡ Strict) × IsOutput ((xs ++ bytes) ++ rest) (record { bytes = out ++ after; status = 2 })
 
--- The effect of the end of the input. The incomplete last line, if there is one, was processed, or it is not a command
--- and ends the conversation.
+-- Holds for the effect of the end of the input. The incomplete last line, if there is one, was processed, or it is not
+-- a command and ends the conversation.
 abbrev pub Closes : {S H : Type 0} → Bool → Conversation S H → List ℕ → Type 0
 Closes true k after = (xs : List ℕ) → (out : List ℕ) → Has k xs out → AnswersAll k.manner xs (out ++ after)
 Closes false k after = (xs : List ℕ) → (out : List ℕ) → Has k xs out → (k.manner ≡ Strict)

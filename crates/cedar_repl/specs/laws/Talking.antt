@@ -22,8 +22,8 @@ IsWriteFault Read = ⊥
 IsWriteFault Write = Unit {0}
 IsWriteFault Memory = ⊥
 
--- The effect of the last line: it was processed, and the status states whether it ended the conversation. If an
--- allocation failed, nothing was written.
+-- Holds for the effect of the last line: it was processed, and the status states whether it ended the conversation. If
+-- an allocation failed, nothing was written.
 abbrev pub Finishes : {S H : Type 0} → Result ℕ TalkError → Conversation S H → Option (List ℕ) → Option (List ℕ)
     → Type 0
 Finishes (Ok status) k w w' = (after : List ℕ) × Appends w w' after
@@ -32,8 +32,9 @@ Finishes (Err Read) k w w' = ⊥
 Finishes (Err Write) k w w' = Unit {0}
 Finishes (Err Memory) k w w' = w' ≡ w
 
--- The result of a conversation. The input was read to its end, and all of its lines have outputs. Or, in strict mode,
--- the output is the output of a run, which ends at an invalid line, and at most 4,096 bytes after it were read.
+-- Holds for the result of a conversation. The input was read to its end, and all of its lines have outputs. Or, in
+-- strict mode, the output is the output of a run, which ends at an invalid line, and at most 4,096 bytes after it were
+-- read.
 abbrev pub Converses : ErrorMode → Result ℕ TalkError → Option (List ℕ) → Option (List ℕ) → Option (List ℕ)
     → Option (List ℕ) → Type 0
 Converses m (Ok status) r r' w w' = (bytes : List ℕ) × (out : List ℕ) × Consumes r r' bytes × Appends w w' out

@@ -1,4 +1,4 @@
-// Readers and writers that fail at each of their calls.
+// Readers and writers that fail at one of their calls, each call in turn.
 use super::{due_of, fixed, keys, lines_of};
 use cedar_repl::{ErrorMode, TalkError, talk};
 use std::alloc::Global;
@@ -71,7 +71,7 @@ fn is_due<S: BuildHasher + Copy>(
     told
 }
 
-// Checks this for any number of good reads.
+// Calls `is_due` for any number of good reads.
 fn are_due_by<S: BuildHasher + Copy>(
     alloc: Global,
     hasher: S,
@@ -87,7 +87,7 @@ fn are_due_by<S: BuildHasher + Copy>(
     true
 }
 
-// Checks this with the default hasher builder and with two keys.
+// Calls `are_due_by` with the default hasher builder and with two keys.
 fn are_due(alloc: Global, manner: ErrorMode, rows: &str, most: usize) -> bool {
     let (one, other) = keys();
     are_due_by(alloc, fixed(), manner, rows, most)
@@ -181,7 +181,7 @@ fn is_written_whole<S: BuildHasher + Copy>(
     }
 }
 
-// Checks this for any number of good writes.
+// Calls `is_written_whole` for any number of good writes.
 fn is_refused_by<S: BuildHasher + Copy>(alloc: Global, hasher: S, most: usize) -> bool {
     for good in 0..11 {
         let flushed = is_written_whole(alloc, hasher, most, good, true);
@@ -192,7 +192,7 @@ fn is_refused_by<S: BuildHasher + Copy>(alloc: Global, hasher: S, most: usize) -
     true
 }
 
-// Checks this with the default hasher builder and with two keys.
+// Calls `is_refused_by` with the default hasher builder and with two keys.
 fn is_refused_for_writes(alloc: Global, most: usize) -> bool {
     let (one, other) = keys();
     is_refused_by(alloc, fixed(), most)

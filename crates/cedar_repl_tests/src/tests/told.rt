@@ -48,7 +48,7 @@ fn bytes_of(alloc: Global, text: &str) -> Vec<u8> {
     bytes
 }
 
-// Checks this for the bytes of a text, with the default hasher builder and with two keys.
+// Calls `bytes_of` for the bytes of a text, with the default hasher builder and with two keys.
 fn is_run_of(alloc: Global, text: &str) -> bool {
     let (one, other) = keys();
     let input = bytes_of(alloc, text);

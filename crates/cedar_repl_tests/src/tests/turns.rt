@@ -133,7 +133,7 @@ fn is_in_turn<S: BuildHasher + Copy>(
     told
 }
 
-// Checks this in both modes, with the default hasher builder and with two keys.
+// Calls `is_in_turn` in both modes, with the default hasher builder and with two keys.
 fn are_in_turn(alloc: Global, most: usize, often: usize) -> bool {
     let (one, other) = keys();
     is_in_turn(alloc, fixed(), ErrorMode::Lenient, LENIENT, most, often)

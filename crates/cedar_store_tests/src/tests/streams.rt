@@ -85,7 +85,7 @@ fn is_whole(alloc: Global, way: Way, input: &str, want: &str, most: usize) -> bo
     told && input.len() > 32_769
 }
 
-// Checks this with the default hasher builder and with two keys.
+// Calls `is_whole` with the default hasher builder and with two keys.
 fn are_whole(alloc: Global, input: &str, want: &str, most: usize) -> bool {
     for way in ways(false) {
         if !is_whole(alloc, way, input, want, most) {
@@ -95,7 +95,7 @@ fn are_whole(alloc: Global, input: &str, want: &str, most: usize) -> bool {
     true
 }
 
-// Checks this for 1,200 entities and `often` queries of the ancestors of one.
+// Calls `are_whole` for 1,200 entities and `often` queries of the ancestors of one.
 fn many_are_whole(alloc: Global, most: usize, often: usize) -> Result<bool, Fail> {
     let (input, want) = many(alloc, 1200, often)?;
     let told = are_whole(alloc, &input, &want, most) && want.len() > often.saturating_mul(700);
@@ -167,7 +167,7 @@ fn is_read_on(alloc: Global, way: Way, input: &str, want: &str, often: usize) ->
     told
 }
 
-// Checks this for runs that leak memory, or that free it.
+// Calls `is_read_on` for runs that leak memory, or that free it.
 fn are_read_on(alloc: Global, leaves: bool, input: &str, want: &str, often: usize) -> bool {
     for way in ways(leaves) {
         if !is_read_on(alloc, way, input, want, often) {
@@ -177,7 +177,7 @@ fn are_read_on(alloc: Global, leaves: bool, input: &str, want: &str, often: usiz
     true
 }
 
-// Checks this for three entities.
+// Calls `are_read_on` for three entities.
 fn three_are_read_on(alloc: Global, often: usize) -> Result<bool, Fail> {
     let (input, want) = many(alloc, 3, 3)?;
     let told = are_read_on(alloc, false, &input, &want, often)
@@ -236,7 +236,7 @@ fn is_sent(alloc: Global, way: Way, input: &str, want: &str) -> bool {
     told && kept
 }
 
-// Checks this for runs that leak memory, or that free it.
+// Calls `is_sent` for runs that leak memory, or that free it.
 fn are_sent(alloc: Global, leaves: bool, input: &str, want: &str) -> bool {
     for way in ways(leaves) {
         if !is_sent(alloc, way, input, want) {
@@ -246,7 +246,7 @@ fn are_sent(alloc: Global, leaves: bool, input: &str, want: &str) -> bool {
     true
 }
 
-// Checks this for three entities.
+// Calls `are_sent` for three entities.
 fn three_are_sent(alloc: Global) -> Result<bool, Fail> {
     let (input, want) = many(alloc, 3, 3)?;
     let told = are_sent(alloc, false, &input, &want) && are_sent(alloc, true, &input, &want);
