@@ -49,13 +49,18 @@ impl Model for Name {
     ghost invariant = { λ n. IsName (record { path = n.path.value.items; basename = n.basename }) };
 }
 
-// Returns the text before the first `::` and the text after it, if there is a `::`.
+// Returns the text before the first `::` and the text after it, if there is a `::`. The first `:` is looked for first,
+// because a search for one byte costs less than a search for a text.
 fn split_mark(text: &str) -> Option<(&str, &str)>
     ensures parts { MatchOption result (components text.now ≡ text.now ∷ [])
         (λ x. components text.now ≡ x.0.now ∷ components x.1.now) }
     ensures shorter { MatchOption result (Unit {0}) (λ x. length x.1.now < length text.now) }
 {
-    text.split_once("::")
+    let (front, back) = text.split_once(':')?;
+    match back.strip_prefix(':') {
+        Some(rest) => Some((front, rest)),
+        None => text.split_once("::"),
+    }
 }
 
 // Reads a name, and gives it the location `loc`.

@@ -1,9 +1,9 @@
 //! Parsing of uids.
-ghost use Rattle.std.specs.Prelude.{◌≡◌, IfOk, true, IsTrue};
+ghost use Rattle.std.specs.Prelude.{◌≡◌, IfOk, codes, true, IsTrue};
 ghost use Rattle.std.specs.Str.{bytes_eq};
 ghost use Rattle.std.specs.Option.{option_map};
 ghost use Rattle.cedar_ids.specs.Escape.{escaped, is_ascii};
-ghost use Rattle.cedar_ids.specs.laws.UidReading.{uid_halves};
+ghost use Rattle.cedar_ids.specs.laws.UidReading.{first_text, uid_halves};
 ghost use Rattle.cedar_ids.specs.laws.Decode.{eid_of};
 ghost use Rattle.cedar_ids.specs.laws.Eids.{ascii_part};
 ghost use Rattle.cedar_ids.specs.Uid.{UidParts};
@@ -21,11 +21,23 @@ use crate::name::read_name;
 use std::alloc::{AllocError, Global};
 use std::rc::RcStr;
 
+// Returns the text before the first `::"` and the text after it, if there is a `::"`. The first `"` is looked for first,
+// because a search for one byte costs less than a search for a text.
+fn split_uid(text: &str) -> Option<(&str, &str)>
+    ensures { option_map (λ x. (x.0.now, x.1.now)) result ≡ first_text (codes "::\"") text.now }
+{
+    let (front, back) = text.split_once('"')?;
+    match front.strip_suffix("::") {
+        Some(name) => Some((name, back)),
+        None => text.split_once("::\""),
+    }
+}
+
 // Returns the text before the first `::"`, and the text between that mark and a final `"`.
 fn uid_halves(text: &str) -> Option<(&str, &str)>
     ensures { option_map (λ x. (x.0.now, x.1.now)) result ≡ uid_halves text.now }
 {
-    text.strip_suffix('"')?.split_once("::\"")
+    split_uid(text.strip_suffix('"')?)
 }
 
 // Returns whether `text` is the escaped text of `eid`.

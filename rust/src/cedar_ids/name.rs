@@ -23,9 +23,14 @@ pub struct Name {
     loc: Option<Loc>,
 }
 
-// Returns the text before the first `::` and the text after it, if there is a `::`.
+// Returns the text before the first `::` and the text after it, if there is a `::`. The first `:` is looked for first,
+// because a search for one byte costs less than a search for a text.
 fn split_mark(text: &str) -> Option<(&str, &str)> {
-    text.split_once("::")
+    let (front, back) = text.split_once(':')?;
+    match back.strip_prefix(':') {
+        Some(rest) => Some((front, rest)),
+        None => text.split_once("::"),
+    }
 }
 
 // Reads a name, and gives it the location `loc`.

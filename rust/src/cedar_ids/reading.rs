@@ -10,9 +10,19 @@ use crate::cedar_ids::loc::Loc;
 use crate::cedar_ids::name::read_name;
 use std::sync::Arc;
 
+// Returns the text before the first `::"` and the text after it, if there is a `::"`. The first `"` is looked for first,
+// because a search for one byte costs less than a search for a text.
+fn split_uid(text: &str) -> Option<(&str, &str)> {
+    let (front, back) = text.split_once('"')?;
+    match front.strip_suffix("::") {
+        Some(name) => Some((name, back)),
+        None => text.split_once("::\""),
+    }
+}
+
 // Returns the text before the first `::"`, and the text between that mark and a final `"`.
 fn uid_halves(text: &str) -> Option<(&str, &str)> {
-    text.strip_suffix('"')?.split_once("::\"")
+    split_uid(text.strip_suffix('"')?)
 }
 
 // Returns whether `text` is the escaped text of `eid`.

@@ -2,7 +2,7 @@ use Rattle.std.proofs.Common.{◌∙◌, lit<}
 use Rattle.std.proofs.lemmas.Str.Pattern.{strip_suffix_char}
 use Rattle.std.specs.Prelude.{None, Some}
 use Rattle.cedar_ids.specs.laws.PrintedLaws.{halves_quote}
-use Rattle.cedar_ids.specs.laws.Halves.{split_found, halves_no_quote}
+use Rattle.cedar_ids.specs.laws.Halves.{halves_no_quote}
 use Rattle.cedar_ids.proofs.reading.uid_halves.Goals as goal
 
 pub returns-in_err-strip_suffix : goal.returns-in_err-strip_suffix
@@ -12,7 +12,7 @@ returns-in_err-strip_suffix c =
 
 pub returns : goal.returns
 returns c =
-    split_found _ _ _ (lit< tt) c.split_once.ensures.cases
+    c.split_uid.ensures
     ∙ halves_quote c.args.text.now c.in_ok-strip_suffix.field-0.now
     (strip_suffix_char 34 c.args.text.now (Some c.in_ok-strip_suffix.field-0) c.in_ok-strip_suffix.ensures.cases
     (lit< tt))
