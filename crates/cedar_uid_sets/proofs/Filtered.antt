@@ -88,3 +88,36 @@ ascend_chosen [] us s = tt
 ascend_chosen (b ∷ bs) [] s = tt
 ascend_chosen (true ∷ bs) (u ∷ us) s = (all_chosen (λ y. uid_order u y ≡ Less) bs us s.0, ascend_chosen bs us s.1)
 ascend_chosen (false ∷ bs) (u ∷ us) s = ascend_chosen bs us s.1
+
+or_off : (b : Bool) → b ≡ (b || false)
+or_off true = refl
+or_off false = refl
+
+-- The union with a list of no uids.
+pub union_list_none : (s : UidValues) → s ≡ set.union s (set.from_list [])
+union_list_none s = same_members _ _ (λ q.
+    or_off (set.contains s q)
+    ∙ ap (λ b. set.contains s q || b) (sym (contains_listed [] q))
+    ∙ sym (set.contains-union uid_order_total s (set.from_list []) q))
+
+in_more : (s a b : Bool) → (b || (s || a)) ≡ (s || (a || b))
+in_more true a true = refl
+in_more true a false = refl
+in_more false true true = refl
+in_more false true false = refl
+in_more false false true = refl
+in_more false false false = refl
+
+-- The union with a list that has one more uid.
+pub union_more : (s : UidValues) (us : List EntityUID) (i : ℕ) (d : EntityUID) → i < length us
+    → set.insert (set.union s (set.from_list (take i us))) (get_or us i d)
+    ≡ set.union s (set.from_list (take (i + 1) us))
+union_more s us i d lt = same_members _ _ (λ q.
+    set.contains-insert uid_order_total (set.union s (set.from_list (take i us))) (get_or us i d) q
+    ∙ ap (λ b. eq_by_cmp uid_order q (get_or us i d) || b)
+    (set.contains-union uid_order_total s (set.from_list (take i us)) q
+    ∙ ap (λ b. set.contains s q || b) (contains_listed (take i us) q))
+    ∙ ap (λ f. f q (get_or us i d) || (set.contains s q || is_member same_uid (take i us) q)) same_tests
+    ∙ in_more (set.contains s q) (is_member same_uid (take i us) q) (same_uid q (get_or us i d))
+    ∙ ap (λ b. set.contains s q || b) (sym (list_any_more (same_uid q) us i d lt) ∙ sym (contains_listed (take (i + 1) us) q))
+    ∙ sym (set.contains-union uid_order_total s (set.from_list (take (i + 1) us)) q))

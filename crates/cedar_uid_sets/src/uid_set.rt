@@ -294,10 +294,44 @@ impl UidSet {
         self.uids = merge(room, uids, before);
         Ok(())
     }
+
+    /// Inserts the uids of another set. The uids are shared, not copied. For a uid that this set contains already, the
+    /// existing pointer is kept.
+    ///
+    /// # Errors
+    ///
+    /// Returns `AllocError` if an allocation fails, or if a uid cannot be shared once more. After an allocation failure
+    /// the set may contain some of the uids.
+    ///
+    /// # Complexity
+    ///
+    /// An empty set takes a copy of the other vector. Up to eight uids are inserted as in [`UidSet::insert`]. More uids
+    /// are merged as in [`UidSet::extend_ascending`].
+    pub fn extend_from(&mut self, others: &UidSet) -> Result<(), AllocError>
+        ensures { OnOk result (self.new ≡ set.union self.old others.now) }
+    {
+        if !self.is_empty() && others.len() <= IN_TURN {
+            return self.insert_each(others.pointers());
+        }
+        self.extend_ascending(others.clone()?.into_pointers())
+    }
+
+    // Inserts each of the uids.
+    fn insert_each(&mut self, uids: &[SharedUid]) -> Result<(), AllocError>
+        ensures { OnOk result (self.new ≡ set.union self.old (set.from_list uids.now)) }
+    {
+        for shared in uids {
+            self.insert(shared.clone()?)?;
+        }
+        Ok(())
+    }
 }
 
 // Fewer uids than this are removed one by one.
 const FEW: usize = 1000;
+
+// At most this many uids are inserted one by one. More uids are merged.
+const IN_TURN: usize = 8;
 
 impl PartialEq for UidSet {
     ghost use Rattle.std.specs.Cmp.{partial_equiv_from_equiv};
