@@ -7,9 +7,10 @@ use Rattle.std.specs.Set.{is_member}
 use Rattle.cedar_ids.specs.UidOf.{same_uid, uid_order}
 use Rattle.cedar_ids.specs.laws.UidOfLaws.{uid_order_total, same_uid_decides, same_uid_equiv}
 use Rattle.cedar_ids.specs.declared.entity.EntityUID.{EntityUID}
+use Rattle.cedar_uid_sets.specs.UidSets.{UidValues}
 use Rattle.cedar_uid_sets.specs.laws.Sets.{contains_listed, same_tests, one_equal}
 use Rattle.cedar_graph.specs.Graph.{Grows}
-use Rattle.cedar_entity.specs.View.{EntityView, has_ancestor, overlap}
+use Rattle.cedar_entity.specs.View.{EntityView, has_ancestor, overlap, rest, unchanged_parts}
 use Rattle.cedar_entity.specs.laws.Views.{AreNewTo}
 
 -- The entity with one more indirect ancestor, unless the uid is a parent.
@@ -109,9 +110,13 @@ none_common true false true = refl
 none_common true false false = refl
 none_common false i k = refl
 
+-- The entity with the uids of a set as indirect ancestors, except parents.
+abbrev pub with_set : EntityView → UidValues → EntityView
+with_set e s = record e { indirect = set.union e.indirect (set.difference s e.parents) }
+
 -- The entity with several more indirect ancestors, except parents.
 abbrev pub with_row : EntityView → List EntityUID → EntityView
-with_row e ks = record e { indirect = set.union e.indirect (set.difference (set.from_list ks) e.parents) }
+with_row e ks = with_set e (set.from_list ks)
 
 none_left : (k p i : Bool) → (k ≡ true → (p || i) ≡ false) → (k && not p) ≡ k
 none_left false p i f = refl
@@ -127,28 +132,36 @@ no_parent_in_row e ks new = set.same_set uid_order_total one_equal _ _ (λ q.
     ∙ ap (λ b. b && not (set.contains e.parents q)) (sym (contains_listed ks q))
     ∙ sym (set.contains-difference uid_order_total (set.from_list ks) e.parents q))
 
-in_row : (e : EntityView) (ks : List EntityUID) (q : EntityUID)
-    → set.contains (set.union e.indirect (set.difference (set.from_list ks) e.parents)) q
-    ≡ (set.contains e.indirect q || (is_member same_uid ks q && not (set.contains e.parents q)))
-in_row e ks q =
-    set.contains-union uid_order_total e.indirect (set.difference (set.from_list ks) e.parents) q
-    ∙ ap (λ b. set.contains e.indirect q || b) (set.contains-difference uid_order_total (set.from_list ks) e.parents q
-    ∙ ap (λ b. b && not (set.contains e.parents q)) (contains_listed ks q))
+in_set : (e : EntityView) (s : UidValues) (q : EntityUID)
+    → set.contains (set.union e.indirect (set.difference s e.parents)) q
+    ≡ (set.contains e.indirect q || (set.contains s q && not (set.contains e.parents q)))
+in_set e s q =
+    set.contains-union uid_order_total e.indirect (set.difference s e.parents) q
+    ∙ ap (λ b. set.contains e.indirect q || b) (set.contains-difference uid_order_total s e.parents q)
+
+-- The ancestors after those of a set are added.
+pub ancestors_with_set : (e : EntityView) (s : UidValues) (q : EntityUID)
+    → has_ancestor (with_set e s) q ≡ (has_ancestor e q || set.contains s q)
+ancestors_with_set e s q = ap (λ b. set.contains e.parents q || b) (in_set e s q)
+    ∙ left_out (set.contains e.parents q) (set.contains e.indirect q) (set.contains s q)
+
+-- Adding the uids of a set does not change the overlap.
+pub overlap_with_set : (e : EntityView) (s : UidValues) → overlap (with_set e s) ≡ overlap e
+overlap_with_set e s = set.same_set uid_order_total one_equal _ _ (λ q.
+    set.contains-intersection uid_order_total e.parents (set.union e.indirect (set.difference s e.parents)) q
+    ∙ ap (λ b. set.contains e.parents q && b) (in_set e s q)
+    ∙ none_common (set.contains e.parents q) (set.contains e.indirect q) (set.contains s q)
+    ∙ sym (set.contains-intersection uid_order_total e.parents e.indirect q))
 
 -- The ancestors after several are added.
 pub ancestors_with_row : (e : EntityView) (ks : List EntityUID) (q : EntityUID)
     → has_ancestor (with_row e ks) q ≡ (has_ancestor e q || is_member same_uid ks q)
-ancestors_with_row e ks q = ap (λ b. set.contains e.parents q || b) (in_row e ks q)
-    ∙ left_out (set.contains e.parents q) (set.contains e.indirect q) (is_member same_uid ks q)
+ancestors_with_row e ks q =
+    ancestors_with_set e (set.from_list ks) q ∙ ap (λ b. has_ancestor e q || b) (contains_listed ks q)
 
 -- Adding several ancestors does not change the overlap.
 pub overlap_with_row : (e : EntityView) (ks : List EntityUID) → overlap (with_row e ks) ≡ overlap e
-overlap_with_row e ks = set.same_set uid_order_total one_equal _ _ (λ q.
-    set.contains-intersection uid_order_total e.parents
-    (set.union e.indirect (set.difference (set.from_list ks) e.parents)) q
-    ∙ ap (λ b. set.contains e.parents q && b) (in_row e ks q)
-    ∙ none_common (set.contains e.parents q) (set.contains e.indirect q) (is_member same_uid ks q)
-    ∙ sym (set.contains-intersection uid_order_total e.parents e.indirect q))
+overlap_with_row e ks = overlap_with_set e (set.from_list ks)
 
 held_of : (x y : Bool) → x ≡ true → (x || y) ≡ true
 held_of x y h = ap (λ b. b || y) h
@@ -188,3 +201,34 @@ none_above parents indirect true f g k q =
     ∙ ap (λ b. b || set.contains (set.empty {R = uid_order}) q) (set.contains-empty uid_order q)
     ∙ set.contains-empty uid_order q
 none_above parents indirect false f g k q = absurd (cc)
+
+or_nothing : (b c : Bool) → c ≡ false → b ≡ (b || c)
+or_nothing true c e = refl
+or_nothing false c e = sym e
+
+-- The empty set adds no ancestor.
+pub ancestors_with_none : (e : EntityView) (s : UidValues) (q : EntityUID) → s ≡ set.empty
+    → has_ancestor e q ≡ (has_ancestor e q || set.contains s q)
+ancestors_with_none e s q none =
+    or_nothing (has_ancestor e q) (set.contains s q) (ap (λ r. set.contains r q) none ∙ set.contains-empty uid_order q)
+
+-- Adding the uids of a set does not change the other parts, also if it fails.
+pub parts_after_set : {T E : Type 0} (r : Result T E) (old new : EntityView) (s : UidValues)
+    → OnOk r (new ≡ with_set old s) → OnErr r (new ≡ old) → unchanged_parts new ≡ unchanged_parts old
+parts_after_set (Ok x) old new s h g = ap unchanged_parts h ∙ ap (λ o. (old.uid, (rest old, o))) (overlap_with_set old s)
+parts_after_set (Err x) old new s h g = ap unchanged_parts g
+
+or_turned : (s i p : Bool) → ((s || i) || p) ≡ (s || (p || i))
+or_turned true i p = refl
+or_turned false true true = refl
+or_turned false true false = refl
+or_turned false false true = refl
+or_turned false false false = refl
+
+-- A set with the ancestors of an entity: first the indirect ones, then the parents.
+pub ancestors_inserted : (p i s : UidValues) (q : EntityUID) → set.contains (set.union (set.union s i) p) q
+    ≡ (set.contains s q || (set.contains p q || set.contains i q))
+ancestors_inserted p i s q =
+    set.contains-union uid_order_total (set.union s i) p q
+    ∙ ap (λ b. b || set.contains p q) (set.contains-union uid_order_total s i q)
+    ∙ or_turned (set.contains s q) (set.contains i q) (set.contains p q)

@@ -15,6 +15,7 @@ pub mod iters;
 mod least;
 pub mod node;
 mod reserved;
+mod rows;
 mod shared_node;
 
 pub use cedar_uid_sets::{SharedUid, UidSet, Uids};
