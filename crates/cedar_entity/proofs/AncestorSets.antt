@@ -10,7 +10,7 @@ use Rattle.cedar_ids.specs.declared.entity.EntityUID.{EntityUID}
 use Rattle.cedar_uid_sets.specs.UidSets.{UidValues}
 use Rattle.cedar_uid_sets.specs.laws.Sets.{contains_listed, same_tests, one_equal}
 use Rattle.cedar_graph.specs.Graph.{Grows}
-use Rattle.cedar_entity.specs.View.{EntityView, has_ancestor, overlap, rest, unchanged_parts}
+use Rattle.cedar_entity.specs.View.{EntityView, has_ancestor, overlap}
 use Rattle.cedar_entity.specs.laws.Views.{AreNewTo}
 
 -- The entity with one more indirect ancestor, unless the uid is a parent.
@@ -201,22 +201,6 @@ none_above parents indirect true f g k q =
     ∙ ap (λ b. b || set.contains (set.empty {R = uid_order}) q) (set.contains-empty uid_order q)
     ∙ set.contains-empty uid_order q
 none_above parents indirect false f g k q = absurd (cc)
-
-or_nothing : (b c : Bool) → c ≡ false → b ≡ (b || c)
-or_nothing true c e = refl
-or_nothing false c e = sym e
-
--- The empty set adds no ancestor.
-pub ancestors_with_none : (e : EntityView) (s : UidValues) (q : EntityUID) → s ≡ set.empty
-    → has_ancestor e q ≡ (has_ancestor e q || set.contains s q)
-ancestors_with_none e s q none =
-    or_nothing (has_ancestor e q) (set.contains s q) (ap (λ r. set.contains r q) none ∙ set.contains-empty uid_order q)
-
--- Adding the uids of a set does not change the other parts, also if it fails.
-pub parts_after_set : {T E : Type 0} (r : Result T E) (old new : EntityView) (s : UidValues)
-    → OnOk r (new ≡ with_set old s) → OnErr r (new ≡ old) → unchanged_parts new ≡ unchanged_parts old
-parts_after_set (Ok x) old new s h g = ap unchanged_parts h ∙ ap (λ o. (old.uid, (rest old, o))) (overlap_with_set old s)
-parts_after_set (Err x) old new s h g = ap unchanged_parts g
 
 or_turned : (s i p : Bool) → ((s || i) || p) ≡ (s || (p || i))
 or_turned true i p = refl

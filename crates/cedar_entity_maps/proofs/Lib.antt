@@ -2,3 +2,4 @@ pub mod Closures
 pub mod EditEnds
 pub mod Indexes
 pub mod AffectedLists
+pub mod MergedRows

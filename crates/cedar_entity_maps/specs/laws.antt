@@ -12,3 +12,4 @@ pub mod EditErrors
 pub mod Rows
 pub mod Seen
 pub mod InputStores
+pub mod Merging

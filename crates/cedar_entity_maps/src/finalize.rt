@@ -10,6 +10,7 @@ ghost use Rattle.cedar_entity_maps.specs.EditErrors.{MatchError};
 ghost use Rattle.cedar_entity_maps.specs.laws.Ends.{repairing, Ends, EndsWhole};
 ghost use Rattle.cedar_entity_maps.specs.laws.EntityMap.{entity_at, held_map, UidsMatch};
 
+use crate::merging::merge_rows;
 use crate::modes::{EditRules, TCComputation, rules_of};
 use cedar_entity::err::EntitiesError;
 use cedar_entity::node::SharedEntity;
@@ -59,9 +60,9 @@ fn check_if<S: BuildHasher + Clone>(
     }
 }
 
-// Adds to the affected entities the ancestors that they reach. If `enforce_dag` is true, a cycle is reported before any
-// ancestor is written.
-fn repair_affected<S: BuildHasher + Clone>(
+// Adds to the affected entities the ancestors that they reach, by a closure. If `enforce_dag` is true, a cycle is
+// reported before any ancestor is written.
+fn close_affected<S: BuildHasher + Clone>(
     alloc: Global,
     entities: &mut HashMap<SharedUid, SharedEntity, S>,
     affected: &HashSet<SharedUid, S>,
@@ -78,6 +79,23 @@ fn repair_affected<S: BuildHasher + Clone>(
     }
     repair_tc(alloc, affected, entities, false)?;
     Ok(())
+}
+
+// Adds to the affected entities the ancestors that they reach. Entities without an affected ancestor are repaired first,
+// without a closure. If `enforce_dag` is true, a cycle is reported.
+fn repair_affected<S: BuildHasher + Clone>(
+    alloc: Global,
+    entities: &mut HashMap<SharedUid, SharedEntity, S>,
+    affected: &HashSet<SharedUid, S>,
+    enforce_dag: bool,
+) -> Result<(), EntitiesError>
+    requires { UidsMatch entities.old }
+    ensures keys { OnOk result (UidsMatch entities.new) }
+    ensures ends { Ends (repairing enforce_dag) (contains same_uid affected.now)
+        (held_map entities.old) (held_map entities.new) result }
+{
+    let left = merge_rows(alloc, entities, affected)?;
+    close_affected(alloc, entities, &left, enforce_dag)
 }
 
 // Adds to all entities the ancestors that they reach. If `enforce_dag` is true, a cycle is reported before any ancestor
@@ -119,7 +137,7 @@ pub fn finish<S: BuildHasher + Clone>(
     row: EditRules,
 ) -> Result<(), EntitiesError>
     requires { UidsMatch entities.old }
-    ensures keys { UidsMatch entities.new }
+    ensures keys { OnOk result (UidsMatch entities.new) }
     ensures ends { Ends row (contains same_uid affected.now)
         (held_map entities.old) (held_map entities.new) result }
 {
@@ -142,7 +160,7 @@ pub fn finalize_affected<S: BuildHasher + Clone>(
     tc_computation: TCComputation,
 ) -> Result<(), EntitiesError>
     requires { UidsMatch entities.old }
-    ensures keys { UidsMatch entities.new }
+    ensures keys { OnOk result (UidsMatch entities.new) }
     ensures ends { Ends (rules_of tc_computation) (contains same_uid affected.now)
         (held_map entities.old) (held_map entities.new) result }
 {

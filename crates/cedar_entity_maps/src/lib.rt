@@ -8,6 +8,7 @@
 pub mod affected;
 pub mod finalize;
 pub mod index;
+mod merging;
 pub mod modes;
 mod uid_lookup;
 

@@ -105,7 +105,10 @@ fn has_any_of(entity: &Entity, uids: &[SharedUid]) -> bool
 }
 
 // Checks whether an entity has one of the uids as an ancestor, by looking up each ancestor.
-fn has_any_ancestor_of<S: BuildHasher>(entity: &Entity, uids: &HashSet<SharedUid, S>) -> bool
+pub(crate) fn has_any_ancestor_of<S: BuildHasher>(
+    entity: &Entity,
+    uids: &HashSet<SharedUid, S>,
+) -> bool
     ensures { result ≡ list_any (has_ancestor entity.now) uids.now.keys }
 {
     for uid in entity.ancestors() {

@@ -8,7 +8,7 @@ use Rattle.cedar_entity_maps.specs.laws.Rows.{also, where_not, where_so}
 use Rattle.cedar_entity_maps.specs.Affected.{IsAcyclicAt, IsRepairOf}
 use Rattle.cedar_entity_maps.proofs.Closures.{acyclic_of, node_edges, repair_of}
 use Rattle.cedar_entity_maps.proofs.EditEnds.{repair_told}
-use Rattle.cedar_entity_maps.proofs.finalize.repair_affected.Goals as goal
+use Rattle.cedar_entity_maps.proofs.finalize.close_affected.Goals as goal
 
 pub returns-in_err-repair_dag-clause-ends : goal.returns-in_err-repair_dag-clause-ends
 returns-in_err-repair_dag-clause-ends g c =
