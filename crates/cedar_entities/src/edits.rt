@@ -96,7 +96,7 @@ fn read<S: BuildHasher + Clone>(
 {
     let mut applied = HashSet::with_hasher(alloc, entities.hasher().clone()?);
     insert_uids(&mut applied, uids)?;
-    list_if_it_pays(alloc, entities, index);
+    list_if_it_pays(alloc, entities, index, applied.len());
     let affected = affected_by(alloc, entities, index, &applied)?;
     let stale = collect_stale(alloc, entities, &applied, &affected, recompute_all)?;
     let uids = listed(alloc, &applied)?;

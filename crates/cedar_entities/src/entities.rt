@@ -196,7 +196,7 @@ fn add_to<S: BuildHasher + Clone>(
     let mut inserted = HashSet::with_hasher(alloc, entities.hasher().clone()?);
     insert_uids(&mut inserted, fresh)?;
     let joining = listed(alloc, &inserted)?;
-    list_if_it_pays(alloc, entities, index);
+    list_if_it_pays(alloc, entities, index, inserted.len());
     insert_each(entities, list)?;
     let affected = affected_by(alloc, entities, index, &inserted)?;
     let recompute_all = renews_adding(index, rules_of(tc_computation));

@@ -1,11 +1,11 @@
 -- The repair of entities by the ancestors of their ancestors.
 use Rattle.std.specs.Prelude.{◌≡◌, ◌⊎◌, Bool, true, false, ◌||◌, ◌&&◌, List, [], ◌∷◌, Option, Some, None, Result, Ok, Err}
 use Rattle.std.specs.Prelude.{is_some, ⊤, ◌++◌, cond, map, not}
-use Rattle.std.proofs.Common.{ap, arith, length, sym, refl, inl, inr, ◌∙◌, Bor}
+use Rattle.std.proofs.Common.{ℕ, ◌<◌, ◌+◌, ap, get_or, length, take, sym, refl, inl, inr, ◌∙◌, Bor}
 use Rattle.std.proofs.lemmas.List.{map-append}
-use Rattle.std.proofs.Math.Bool.{or-false}
-use Rattle.std.proofs.lemmas.List.Folds.{list_any-append}
-use Rattle.std.specs.List.{list_any}
+use Rattle.std.proofs.Math.Bool.{and-true, or-false}
+use Rattle.std.proofs.lemmas.List.Folds.{list_any-append, list_any_at}
+use Rattle.std.specs.List.{AllZip, list_any}
 use Rattle.std.specs.Option.{IfSome, option_map}
 use Rattle.std.specs.HashMap.{HashMap}
 use Rattle.std.specs.Set.{is_member}
@@ -36,9 +36,11 @@ use Rattle.cedar_entity_maps.specs.Affected.{IsAcyclicAt, IsEnded, IsEndError, I
 use Rattle.cedar_entity_maps.specs.laws.EditErrors.{refusal_cases, refused_for}
 use Rattle.cedar_entity_maps.specs.laws.Ends.{Ends, repairing}
 use Rattle.cedar_entity_maps.specs.laws.EntityMap.{entity_at, held_map}
-use Rattle.cedar_entity_maps.specs.laws.Merging.{AddsRow, IsMerged, IsRest, IsRowAbove, IsRowApart, IsRowOf, widened}
+use Rattle.cedar_entity_maps.specs.laws.Merging.{AddsRow, IsMerged, IsRest, IsRowAbove, IsRowApart, IsRowOf}
+use Rattle.cedar_entity_maps.specs.laws.Merging.{is_left, widened}
 use Rattle.cedar_entity_maps.specs.laws.Seen.{get_seen, seen_as, stored}
 use Rattle.cedar_entity_maps.specs.laws.AnyOf.{any_found, any_member}
+use Rattle.cedar_entity_maps.specs.laws.Lists.{member_more, member_push}
 
 or_true : (x : Bool) → (x || true) ≡ true
 or_true true = refl
@@ -293,91 +295,67 @@ merge_same A left after D N same m = record {
   acyclic = λ t none. m.acyclic t (λ a l. none a (same a ∙ l));
 }
 
-or_parts : (x y : Bool) → (x || y) ≡ true → (x ≡ true) ⊎ (y ≡ true)
-or_parts true y h = inl refl
-or_parts false y h = inr h
+and_first : (x y : Bool) → (x && y) ≡ true → x ≡ true
+and_first true y h = refl
+and_first false y h = h
 
-cond_true : (b : Bool) → cond b true true ≡ true
-cond_true true = refl
-cond_true false = refl
+and_off : (x y : Bool) → y ≡ false → (x && y) ≡ false
+and_off true y h = h
+and_off false y h = refl
 
-cond_parts : (b x : Bool) → cond b true x ≡ true → (b ≡ true) ⊎ (x ≡ true)
-cond_parts true x h = inl refl
-cond_parts false x h = inr h
+still_out : (m s : Bool) → s ≡ false → not (m || s) ≡ not m
+still_out true s h = refl
+still_out false s h = ap not h
 
-or_second : (x y : Bool) → y ≡ true → (x || y) ≡ true
-or_second true y h = refl
-or_second false y h = h
+-- The uids left after one more entity was repaired.
+pub rest_done : (A : EntityUID → Bool) (merged : List EntityUID) (k : EntityUID)
+    → IsRest true k (is_left A merged) (is_left A (merged ++ k ∷ []))
+rest_done A merged k = record {
+  less = λ q h. fewer q (A q) (is_member same_uid merged q) (same_uid k q)
+      (sym (ap (λ b. A q && not b) (member_push merged k q)) ∙ h);
+  rest = λ q h out. ap (λ b. A q && not b) (member_push merged k q)
+      ∙ ap (λ b. A q && b) (still_out (is_member same_uid merged q) (same_uid k q) out) ∙ h;
+  all = λ no. absurd (false≢true (sym no));
+}
+  where
+    fewer : (q : EntityUID) (x m s : Bool) → (x && not (m || s)) ≡ true → (x && not m) ≡ true
+    fewer q true true s h = h
+    fewer q true false s h = refl
+    fewer q false m s h = h
 
--- The uids to repair after one more was treated. `old` are the uids that were not treated, and f the uids left.
-module _ (old rest : List EntityUID) (k : EntityUID) (is : old ≡ k ∷ rest) (f g : EntityUID → Bool) where
-  abbrev before : EntityUID → Bool
-  before q = is_member same_uid old q || f q
+-- A uid of a list is a member of it.
+pub member_at : (us : List EntityUID) (i : ℕ) (k : EntityUID) → i < length us → k ≡ get_or us i k
+    → is_member same_uid us k ≡ true
+member_at us i k lt is = list_any_at (same_uid k) us i k lt (ap (same_uid k) (sym is) ∙ same_uid_equiv.refl k)
 
-  abbrev after : EntityUID → Bool
-  after q = is_member same_uid rest q || g q
+-- The uids left after one was not repaired.
+pub rest_same : (k : EntityUID) (left : EntityUID → Bool) → IsRest false k left left
+rest_same k left = record { less = λ q h. h; rest = λ q h _. h; all = λ _ q h. h }
 
-  more_before : (q : EntityUID) → is_member same_uid rest q ≡ true → before q ≡ true
-  more_before q m = ap (λ l. is_member same_uid l q || f q) is
-      ∙ ap (λ b. b || f q) (or_second (same_uid q k) (is_member same_uid rest q) m)
+pub left_within : (A : EntityUID → Bool) (q : EntityUID) → A q ≡ is_left A [] q
+left_within A q = sym (and-true (A q))
 
-  rest_or_key : (q : EntityUID) → is_member same_uid old q ≡ true
-      → (same_uid k q ≡ true) ⊎ (is_member same_uid rest q ≡ true)
-  rest_or_key q m = elim (or_parts (same_uid q k) (is_member same_uid rest q) (sym (ap (λ l. is_member same_uid l q) is) ∙ m)) [
-    | inl same ↦ inl (same_uid_equiv.symm k q ∙ same)
-    | inr n ↦ inr n
-  ]
+-- A clone of a list of uids is the list.
+pub cloned : (xs ys : List EntityUID) → AllZip (λ x y. y ≡ x) xs ys → ys ≡ xs
+cloned [] [] h = refl
+cloned [] (y ∷ ys) h = absurd h
+cloned (x ∷ xs) [] h = absurd h
+cloned (x ∷ xs) (y ∷ ys) h = λ i. h.0 i ∷ cloned xs ys h.1 i
 
-  key_before : (q : EntityUID) → same_uid k q ≡ true → before q ≡ true
-  key_before q same = ap (λ l. is_member same_uid l q || f q) is
-      ∙ ap (λ b. (b || is_member same_uid rest q) || f q) (same_uid_equiv.symm q k ∙ same)
-
-  pub key_listed : before k ≡ true
-  key_listed = key_before k (same_uid_equiv.refl k)
-
-  pub rest_done : ((q : EntityUID) → g q ≡ f q) → IsRest true k before after
-  rest_done same = record {
-    less = λ q h. elim (or_parts (is_member same_uid rest q) (g q) h) [
-      | inl m ↦ more_before q m
-      | inr l ↦ or_second (is_member same_uid old q) (f q) (sym (same q) ∙ l)
-    ];
-    rest = λ q h out. elim (or_parts (is_member same_uid old q) (f q) h) [
-      | inl m ↦ elim (rest_or_key q m) [
-        | inl is_key ↦ absurd (false≢true (sym out ∙ is_key))
-        | inr n ↦ ap (λ b. b || g q) n
-      ]
-      | inr l ↦ or_second (is_member same_uid rest q) (g q) (same q ∙ l)
-    ];
-    all = λ no. absurd (false≢true (sym no));
-  }
-
-  pub rest_left : ((q : EntityUID) → g q ≡ cond (same_uid k q) true (f q)) → IsRest false k before after
-  rest_left same =
-      let all : (q : EntityUID) → before q ≡ true → after q ≡ true = λ q h.
-      elim (or_parts (is_member same_uid old q) (f q) h) [
-        | inl m ↦ elim (rest_or_key q m) [
-          | inl is_key ↦ or_second (is_member same_uid rest q) (g q)
-              (same q ∙ ap (λ b. cond b true (f q)) is_key)
-          | inr n ↦ ap (λ b. b || g q) n
-        ]
-        | inr l ↦ or_second (is_member same_uid rest q) (g q)
-            (same q ∙ ap (cond (same_uid k q) true) l ∙ cond_true (same_uid k q))
-      ] in
-      record {
-        less = λ q h. elim (or_parts (is_member same_uid rest q) (g q) h) [
-          | inl m ↦ more_before q m
-          | inr l ↦ elim (cond_parts (same_uid k q) (f q) (sym (same q) ∙ l)) [
-            | inl is_key ↦ key_before q is_key
-            | inr o ↦ or_second (is_member same_uid old q) (f q) o
-          ]
-        ];
-        rest = λ q h _. all q h;
-        all = λ _. all;
-      }
-
-pub none_listed : (rest : List EntityUID) (b : Bool) (q : EntityUID) → length rest ≡ 0 → b ≡ (is_member same_uid rest q || b)
-none_listed [] b q none = refl
-none_listed (r ∷ rest) b q none = absurd (omega (arith, none))
+-- The uids of a set without those of a list, after one more was removed.
+pub left_more : (s t : Bool) (A : EntityUID → Bool) (us : List EntityUID) (i : ℕ) (k q : EntityUID) → i < length us
+    → k ≡ get_or us i k → s ≡ is_left A (take i us) q → t ≡ cond (same_uid k q) false s
+    → t ≡ is_left A (take (i + 1) us) q
+left_more s t A us i k q lt is so step =
+    step ∙ ap (cond (same_uid k q) false) so
+    ∙ at (same_uid k q) (A q) (is_member same_uid (take i us) q)
+    ∙ ap (λ b. A q && not b) (sym (member_more us i k q lt is))
+  where
+    at : (b x m : Bool) → cond b false (x && not m) ≡ (x && not (m || b))
+    at true x true = sym (and_off x false refl)
+    at true x false = sym (and_off x false refl)
+    at false x true = refl
+    at false x false = refl
 
 -- A repair of the entities that are left is a repair of all affected ones.
 module _ (A left : EntityUID → Bool) (D N : EntityMap) (m : IsMerged A left D N) where

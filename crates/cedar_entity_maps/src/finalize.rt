@@ -10,7 +10,7 @@ ghost use Rattle.cedar_entity_maps.specs.EditErrors.{MatchError};
 ghost use Rattle.cedar_entity_maps.specs.laws.Ends.{repairing, Ends, EndsWhole};
 ghost use Rattle.cedar_entity_maps.specs.laws.EntityMap.{entity_at, held_map, UidsMatch};
 
-use crate::merging::merge_rows;
+use crate::merging::{merge_rows, without};
 use crate::modes::{EditRules, TCComputation, rules_of};
 use cedar_entity::err::EntitiesError;
 use cedar_entity::node::SharedEntity;
@@ -94,7 +94,11 @@ fn repair_affected<S: BuildHasher + Clone>(
     ensures ends { Ends (repairing enforce_dag) (contains same_uid affected.now)
         (held_map entities.old) (held_map entities.new) result }
 {
-    let left = merge_rows(alloc, entities, affected)?;
+    let merged = merge_rows(alloc, entities, affected)?;
+    if merged.is_empty() {
+        return close_affected(alloc, entities, affected, enforce_dag);
+    }
+    let left = without(affected, &merged)?;
     close_affected(alloc, entities, &left, enforce_dag)
 }
 

@@ -30,6 +30,9 @@ const SMALL: usize = 40;
 // about as much.
 const WALKS: usize = 16;
 
+// A scan for this many more uids counts as one more scan.
+const UIDS: usize = 4;
+
 /// What a store knows in addition to its entities.
 #[derive(Drop)]
 pub struct Index<S: BuildHasher> {
@@ -137,12 +140,14 @@ fn children_of<S: BuildHasher + Clone>(
     with_all(alloc, none, entities, &keys)
 }
 
-/// Counts a scan of the store. Once the scans have cost about as much as an index of children, builds that index. Does
-/// nothing if the store is small or not known to be plain. If an allocation fails, there is still no index.
+/// Counts a scan of the store for `count` uids. Builds an index of children before the scan if the scans, with this one,
+/// cost about as much. Does nothing if the store is small or not known to be plain. If an allocation fails, there is
+/// still no index.
 pub fn list_if_it_pays<S: BuildHasher + Clone>(
     alloc: Global,
     entities: &HashMap<SharedUid, SharedEntity, S>,
     index: &mut Index<S>,
+    count: usize,
 )
     requires { IsIndexOf index.old (held_map entities.now) }
     ensures index { IsIndexOf index.new (held_map entities.now) }
@@ -151,8 +156,10 @@ pub fn list_if_it_pays<S: BuildHasher + Clone>(
     if !index.plain || index.children.is_some() || entities.len() < SMALL {
         return;
     }
-    if index.walked / WALKS < entities.len() {
-        index.walked = index.walked.saturating_add(entities.len());
+    let cost = entities.len().saturating_mul(1 + count / UIDS);
+    let walked = index.walked.saturating_add(cost);
+    if walked / WALKS <= entities.len() {
+        index.walked = walked;
         return;
     }
     index.walked = 0;

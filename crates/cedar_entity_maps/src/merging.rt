@@ -11,7 +11,7 @@ ghost use Rattle.cedar_entity.specs.declared.err.EntitiesError.TheVariants.{Memo
 ghost use Rattle.cedar_entity_maps.specs.Modes.{is_ancestor_in};
 ghost use Rattle.cedar_entity_maps.specs.Plain.{EntityMap};
 ghost use Rattle.cedar_entity_maps.specs.laws.EntityMap.{entity_at, held_map, UidsMatch};
-ghost use Rattle.cedar_entity_maps.specs.laws.Merging.{IsMerged, IsRest, IsRowAbove, IsRowApart, IsRowOf, widened};
+ghost use Rattle.cedar_entity_maps.specs.laws.Merging.{IsMerged, IsRest, IsRowAbove, IsRowApart, IsRowOf, is_left, widened};
 
 use crate::uid_lookup::has_any_ancestor_of;
 use cedar_children::listed;
@@ -153,8 +153,8 @@ fn merge_at<S: BuildHasher>(
     }
 }
 
-/// Repairs the affected entities none of whose ancestors is affected. Returns the uids of the others, which still need a
-/// repair.
+/// Repairs the affected entities none of whose ancestors is affected. Returns their uids. The other affected entities
+/// still need a repair.
 ///
 /// # Errors
 ///
@@ -162,24 +162,49 @@ fn merge_at<S: BuildHasher>(
 ///
 /// # Complexity
 ///
-/// Proportional to the number of ancestors that the repaired entities get. An entity that is shared is copied first.
-pub fn merge_rows<S: BuildHasher + Clone>(
+/// Looks up the ancestors of each affected entity until one is affected. The further work is proportional to the number
+/// of ancestors that the repaired entities get. An entity that is shared is copied first.
+pub fn merge_rows<S: BuildHasher>(
     alloc: Global,
     entities: &mut HashMap<SharedUid, SharedEntity, S>,
     affected: &HashSet<SharedUid, S>,
-) -> Result<HashSet<SharedUid, S>, EntitiesError>
+) -> Result<Vec<SharedUid>, EntitiesError>
     requires { UidsMatch entities.old }
     ensures keys { OnOk result (UidsMatch entities.new) }
-    ensures ok { IfOk result (λ left. IsMerged (contains same_uid affected.now) (contains same_uid left)
-        (held_map entities.old) (held_map entities.new)) }
+    ensures ok { IfOk result (λ merged. IsMerged (contains same_uid affected.now)
+        (is_left (contains same_uid affected.now) merged.items) (held_map entities.old) (held_map entities.new)) }
     ensures err { IfErr result (λ e. e ≡ Memory) }
 {
-    let mut left = HashSet::with_hasher(alloc, entities.hasher().clone()?);
+    let mut merged = Vec::new(alloc);
     let uids = listed(alloc, affected)?;
-    for uid in uids {
-        if !merge_at(alloc, entities, affected, &uid)? {
-            left.insert(uid)?;
+    for uid in &uids {
+        if merge_at(alloc, entities, affected, uid)? {
+            merged.push(uid.clone()?)?;
         }
+    }
+    Ok(merged)
+}
+
+/// Returns a set without some uids.
+///
+/// # Errors
+///
+/// Returns `Memory` if an allocation fails.
+///
+/// # Complexity
+///
+/// Copies the set without copying a uid, and looks up each of the uids.
+pub fn without<S: BuildHasher + Clone>(
+    uids: &HashSet<SharedUid, S>,
+    removed: &[SharedUid],
+) -> Result<HashSet<SharedUid, S>, EntitiesError>
+    ensures ok { IfOk result (λ s. (q : EntityUID) → contains same_uid s q
+        ≡ is_left (contains same_uid uids.now) removed.now q) }
+    ensures err { IfErr result (λ e. e ≡ Memory) }
+{
+    let mut left = uids.clone()?;
+    for uid in removed {
+        left.remove(uid);
     }
     Ok(left)
 }

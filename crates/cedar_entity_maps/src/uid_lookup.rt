@@ -15,20 +15,18 @@ use std::collections::HashSet;
 use std::hash::BuildHasher;
 use std::marker::Model;
 
-// Up to this number of uids are looked up one by one among an entity's ancestors. For more uids, each ancestor is
-// looked up among the uids.
+// Up to this number of uids are looked up one by one among an entity's ancestors. If there are more uids, and more than
+// the entity has ancestors, each ancestor is looked up among the uids.
 const FEW: usize = 16;
 
-// A set of uids to look up. A small set is stored as a list too, because iterating over a list is faster than iterating
-// over a set.
+// A set of uids to look up, also as a list, because iterating over a list is faster than iterating over a set.
 #[derive(Drop)]
 pub(crate) struct UidLookup<'a, S: BuildHasher> {
     all: &'a HashSet<SharedUid, S>,
-    few: Option<Vec<SharedUid>>,
+    list: Vec<SharedUid>,
 }
 
 impl<'a, S: BuildHasher> Model for UidLookup<'a, S> {
-    ghost use Rattle.std.specs.Option.{IfSome};
     ghost use Rattle.std.specs.Prelude.{◌≡◌, List};
     ghost use Rattle.cedar_ids.specs.declared.entity.EntityUID.{EntityUID};
 
@@ -36,7 +34,7 @@ impl<'a, S: BuildHasher> Model for UidLookup<'a, S> {
 
     ghost view = { λ s. s.all.now.keys };
 
-    ghost invariant = { λ s. IfSome s.few (λ v. v.items ≡ s.all.now.keys) };
+    ghost invariant = { λ s. s.list.items ≡ s.all.now.keys };
 }
 
 impl<'a, S: BuildHasher> UidLookup<'a, S> {
@@ -47,26 +45,23 @@ impl<'a, S: BuildHasher> UidLookup<'a, S> {
     ) -> Result<UidLookup<'a, S>, AllocError>
         ensures { IfOk result (λ s. s ≡ uids.now.keys) }
     {
-        if uids.len() > FEW {
-            return Ok(UidLookup {
-                all: uids,
-                few: None,
-            });
-        }
-        let few = listed(alloc, uids)?;
-        Ok(UidLookup {
-            all: uids,
-            few: Some(few),
-        })
+        let list = listed(alloc, uids)?;
+        Ok(UidLookup { all: uids, list })
+    }
+
+    // Returns whether looking up each uid among the ancestors of an entity costs less than the reverse.
+    fn is_short_for(&self, entity: &Entity) -> bool {
+        self.list.len() <= FEW || self.list.len() <= entity.ancestors_len()
     }
 
     // Checks whether an entity has one of the uids as an ancestor.
     pub(crate) fn has_any(&self, entity: &Entity) -> bool
         ensures { result ≡ list_any (has_ancestor entity.now) self.now }
     {
-        match &self.few {
-            Some(few) => has_any_of(entity, few),
-            None => has_any_ancestor_of(entity, self.all),
+        if self.is_short_for(entity) {
+            has_any_of(entity, &self.list)
+        } else {
+            has_any_ancestor_of(entity, self.all)
         }
     }
 
@@ -85,9 +80,10 @@ impl<'a, S: BuildHasher> UidLookup<'a, S> {
         ensures { IfOk result (λ v. (q : EntityUID) → is_member same_uid v.items q
             ≡ (is_member same_uid self.now q && has_ancestor entity.now q)) }
     {
-        match &self.few {
-            Some(few) => hits_by_uid(alloc, entity, few),
-            None => hits_by_ancestor(alloc, entity, self.all),
+        if self.is_short_for(entity) {
+            hits_by_uid(alloc, entity, &self.list)
+        } else {
+            hits_by_ancestor(alloc, entity, self.all)
         }
     }
 }

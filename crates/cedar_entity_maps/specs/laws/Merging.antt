@@ -1,8 +1,9 @@
 -- A repair that gives entities the ancestors of their ancestors, if none of these is affected.
-use Rattle.std.specs.Prelude.{◌≡◌, Bool, true, false, ◌||◌, ◌&&◌, is_some, Option}
+use Rattle.std.specs.Prelude.{◌≡◌, Bool, true, false, ◌||◌, ◌&&◌, is_some, not, List, Option}
 use Rattle.std.specs.FinSet as set
 use Rattle.std.specs.FinMap as finmap
 use Rattle.std.specs.Option.{option_map}
+use Rattle.std.specs.Set.{is_member}
 use Rattle.cedar_graph.specs.Graph.{AddsOnlyReached, HasNoCycleAt, IsTrusted, KeepsEdges}
 use Rattle.cedar_ids.specs.UidOf.{same_uid}
 use Rattle.cedar_ids.specs.declared.entity.EntityUID.{EntityUID}
@@ -44,6 +45,10 @@ pub record AddsRow (D N : EntityMap) (key : EntityUID) (row : UidValues) : Type 
   pub parts : (q : EntityUID) → option_map unchanged_parts (finmap.get N q) ≡ option_map unchanged_parts (finmap.get D q)
   pub edges : (q b : EntityUID) → ancestry N q b
       ≡ (ancestry D q b || (same_uid key q && (is_some (finmap.get D q) && set.contains row b)))
+
+-- Whether a uid is affected, and is not in the list.
+abbrev pub is_left : (EntityUID → Bool) → List EntityUID → EntityUID → Bool
+is_left affected merged q = affected q && not (is_member same_uid merged q)
 
 -- Holds if N is D after a repair of some affected entities, and only the entities at the uids `left` still need a
 -- repair.

@@ -1,55 +1,49 @@
-use Rattle.std.proofs.Common.{◌≡◌, ◌∙◌, ◌∷◌, ◌||◌, Bool, List, ap, arith, length, refl, subst, sym, true}
+use Rattle.std.proofs.Common.{◌≡◌, ◌∙◌, ◌∷◌, ◌++◌, [], List, ap, refl, subst, sym, true}
 use Rattle.std.specs.HashSet.{contains}
 use Rattle.std.specs.Set.{is_member}
-use Rattle.std.specs.Vec.Iter.{into_iter_items}
 use Rattle.cedar_ids.specs.UidOf.{same_uid}
 use Rattle.cedar_ids.specs.declared.entity.EntityUID.{EntityUID}
 use Rattle.cedar_entity_maps.specs.laws.EntityMap.{held_map}
-use Rattle.cedar_entity_maps.specs.laws.Merging.{IsRest}
-use Rattle.cedar_entity_maps.proofs.MergedRows.{key_listed, merge_same, none_listed, rest_done, rest_left}
+use Rattle.cedar_entity_maps.specs.laws.Merging.{IsMerged, IsRest, is_left}
+use Rattle.cedar_entity_maps.proofs.MergedRows.{left_within, member_at, merge_begin, merge_same, rest_done, rest_same}
 use Rattle.cedar_entity_maps.proofs.merging.merge_rows.Goals as goal
+use Rattle.cedar_entity_maps.proofs.merging.merge_rows.Goals.{then-branch+in_ok-clone+in_ok-push, else-branch}
 
-pub loop-uid-preserved-in_ok-insert : goal.loop-uid-preserved-in_ok-insert
-loop-uid-preserved-in_ok-insert g c =
-    let old = into_iter_items c.loop-uid.uid-iterator in
-    let rest = into_iter_items c.next.new.self in
-    let k = c.in-Some.uid in
-    let is : old ≡ k ∷ rest = c.in-Some.ensures.steps.0 in
-    let f = contains same_uid c.loop-uid.left in
-    let h = contains same_uid c.insert.new.self in
-    let so_far = c.loop-uid.invariant.merged in
+pub loop-uid-init : goal.loop-uid-init
+loop-uid-init g c =
+    let A = contains same_uid c.args.affected.now in
+    let D = held_map c.args.entities.now in
     record {
-      keys = c.in_ok-merge_at.ensures.keys;
-      merged = c.in_ok-merge_at.ensures.merged (λ q. is_member same_uid old q || f q)
-          (λ q. is_member same_uid rest q || h q) (held_map c.args.entities.now) so_far
-          (so_far.within k (key_listed old rest k is f h))
-          (subst (λ b. IsRest b k (λ q. is_member same_uid old q || f q) (λ q. is_member same_uid rest q || h q))
-          (sym c.if-not-branch.true)
-          (rest_left old rest k is f h (λ q. c.in_ok-insert.ensures.updates.0 q)));
+      keys = c.requires;
+      merged = subst (λ (l : List EntityUID). IsMerged A (is_left A l) D D) (sym c.new-merged.ensures.items)
+          (merge_begin A (is_left A []) D (λ q. sym (left_within A q)));
     }
 
 pub loop-uid-preserved : goal.loop-uid-preserved
 loop-uid-preserved g c =
-    let old = into_iter_items c.loop-uid.uid-iterator in
-    let rest = into_iter_items c.next.new.self in
-    let k = c.in-Some.uid in
-    let is : old ≡ k ∷ rest = c.in-Some.ensures.steps.0 in
-    let f = contains same_uid c.loop-uid.left in
+    let A = contains same_uid c.args.affected.now in
+    let D = held_map c.args.entities.now in
+    let N = held_map c.merge_at.new.entities in
+    let old = c.loop-uid.merged.items in
+    let k = c.uid-item.result in
     let so_far = c.loop-uid.invariant.merged in
+    let us : c.deref-uid-items.result.now ≡ c.args.affected.now.keys =
+    c.deref-uid-items.ensures.value ∙ c.in_ok-uids.ensures in
+    let here : A k ≡ true = ap (λ (l : List EntityUID). is_member same_uid l k) (sym us)
+    ∙ member_at c.deref-uid-items.result.now c.loop-uid.uid-index k c.loop-uid-test.true c.uid-item.is in
     record {
       keys = c.in_ok-merge_at.ensures.keys;
-      merged = c.in_ok-merge_at.ensures.merged (λ q. is_member same_uid old q || f q)
-          (λ q. is_member same_uid rest q || f q) (held_map c.args.entities.now) so_far
-          (so_far.within k (key_listed old rest k is f f))
-          (subst (λ b. IsRest b k (λ q. is_member same_uid old q || f q) (λ q. is_member same_uid rest q || f q))
-          (sym c.if-not-branch.false)
-          (rest_done old rest k is f f (λ q. refl)));
+      merged = elim c.if-branch.branch [
+        | then-branch+in_ok-clone+in_ok-push w ↦
+            subst (λ (l : List EntityUID). IsMerged A (is_left A l) D N)
+            (sym (ap (λ v. v.items) w.merged-is ∙ w.in_ok-push.ensures.items ∙ ap (λ (x : EntityUID). old ++ x ∷ []) w.in_ok-clone.ensures.cases))
+            (c.in_ok-merge_at.ensures.merged (is_left A old) (is_left A (old ++ k ∷ [])) D so_far here
+            (subst (λ b. IsRest b k (is_left A old) (is_left A (old ++ k ∷ []))) (sym w.if-branch.true)
+            (rest_done A old k)))
+        | else-branch w ↦
+            subst (λ (l : List EntityUID). IsMerged A (is_left A l) D N) (sym (ap (λ v. v.items) w.merged-is))
+            (c.in_ok-merge_at.ensures.merged (is_left A old) (is_left A old) D so_far here
+            (subst (λ b. IsRest b k (is_left A old) (is_left A old)) (sym w.if-branch.false)
+            (rest_same k (is_left A old))))
+      ];
     }
-
-pub returns-clause-ok : goal.returns-clause-ok
-returns-clause-ok g c =
-    let rest = into_iter_items c.loop-uid.uid-iterator in
-    let f = contains same_uid c.loop-uid.left in
-    merge_same (contains same_uid c.args.affected.now) (λ q. is_member same_uid rest q || f q) f
-    (held_map c.args.entities.now) (held_map c.loop-uid.entities)
-    (λ q. none_listed rest (f q) q (omega (arith, c.in-None.ensures.steps.0))) c.loop-uid.invariant.merged
