@@ -6,6 +6,7 @@ pub mod Edited
 pub mod Editing
 pub mod Ending
 pub mod FirstFaults
+pub mod InPlace
 pub mod Indexes
 pub mod Listed
 pub mod Overwriting

@@ -94,7 +94,7 @@ module _ {D M : EntityMap} {removed : EntityUID → Bool} {put : EntityUID → O
       let p = or_parts (is_member same_uid A q) (list_any (ancestry D q) A) t in
       made_outside q p.0 ∙ remains_same D removed A among (finmap.get D q) p.1
 
-  edge_was : (a b : EntityUID) → is_member same_uid A a ≡ false → ancestry M a b ≡ true → ancestry D a b ≡ true
+  pub edge_was : (a b : EntityUID) → is_member same_uid A a ≡ false → ancestry M a b ≡ true → ancestry D a b ≡ true
   edge_was a b out h = remained D removed A (finmap.get D a) b
       (sym (ap (λ o. is_ancestor_in o b) (made_outside a out)) ∙ h)
 
@@ -133,7 +133,7 @@ module _ (W : InputStore) (S : StoreView) (plain : IsPlainStore W S) where
       ])
 
   -- A uid reached over ancestors is an ancestor.
-  closed : (a b : EntityUID) → Reach (ancestry S.entities) a b → ancestry S.entities a b ≡ true
+  pub closed : (a b : EntityUID) → Reach (ancestry S.entities) a b → ancestry S.entities a b ≡ true
   closed a b r = (ancestry_plain W S plain a b).1
       (reach_over_reach (graph W) (ancestry S.entities) (λ c d h. (ancestry_plain W S plain c d).0 h) a b r)
 

@@ -169,7 +169,7 @@ reversed_push : {X : Type 0} (xs : List X) (x : X) → reversed (xs ++ x ∷ [])
 reversed_push [] x = refl
 reversed_push (y ∷ xs) x = ap (λ l. l ++ y ∷ []) (reversed_push xs x)
 
-last_push : (done : List EntityView) (e : EntityView) (q : EntityUID)
+pub last_push : (done : List EntityView) (e : EntityView) (q : EntityUID)
     → last_entity (done ++ e ∷ []) q ≡ option_or (just e q) (last_entity done q)
 last_push done e q =
     ap (finmap.find uid_order q) (ap reversed (map_append_one keyed done e) ∙ reversed_push (map keyed done) (keyed e))

@@ -21,6 +21,7 @@ ghost use Rattle.cedar_entities.specs.laws.Readings.{IsReadingOf};
 
 use crate::incoming::{Incoming, uids_in};
 use crate::lists::{held_uids, pointers_of};
+use crate::same_parents::{keep_parents, overwrite_in_place};
 use cedar_children::listed;
 use cedar_entity::err::EntitiesError;
 use cedar_entity::node::SharedEntity;
@@ -28,7 +29,7 @@ use cedar_entity_maps::TCComputation;
 use cedar_entity_maps::affected::{StaleAncestors, collect_stale, insert_uids, strip_each};
 use cedar_entity_maps::finalize::finish;
 use cedar_entity_maps::index::{Index, affected_by, join, list_if_it_pays, part};
-use cedar_entity_maps::modes::{EditRules, rules_compute, rules_of, with_repair};
+use cedar_entity_maps::modes::{EditRules, computes, rules_compute, rules_of, with_repair};
 use cedar_ids::entity::EntityUID;
 use cedar_uid_sets::{SharedUid, UidSet};
 use std::alloc::Global;
@@ -124,7 +125,7 @@ fn overwrite<S: BuildHasher>(
 }
 
 // Inserts the entities one after another. Each replaces the entity with its uid.
-fn overwrite_all<S: BuildHasher>(
+pub(crate) fn overwrite_all<S: BuildHasher>(
     entities: &mut HashMap<SharedUid, SharedEntity, S>,
     list: Vec<Incoming>,
 ) -> Result<(), EntitiesError>
@@ -222,7 +223,8 @@ fn edit<S: BuildHasher + Clone>(
     finish(alloc, entities, &affected, row)
 }
 
-// Overwrites entities, and finalizes the edit by the edit rules of the mode.
+// Overwrites entities, and finalizes the edit by the edit rules of the mode. If the store is known to be plain and no
+// parents change, no ancestor changes, and there is nothing to finalize.
 pub(crate) fn overwrite_and_finalize<S: BuildHasher + Clone>(
     alloc: Global,
     entities: &mut HashMap<SharedUid, SharedEntity, S>,
@@ -238,6 +240,9 @@ pub(crate) fn overwrite_and_finalize<S: BuildHasher + Clone>(
     ensures ends { Ends (rules_of tc_computation) (is_affected (held_map entities.old) (uids_of incoming.items))
         (overwrite (held_map entities.old) incoming.items) (held_map entities.new) result }
 {
+    if index.plain && computes(tc_computation) && keep_parents(entities, &incoming) {
+        return overwrite_in_place(alloc, entities, incoming);
+    }
     let uids = uids_in(alloc, &incoming)?;
     let removed = UidSet::new(alloc);
     let change = Change {

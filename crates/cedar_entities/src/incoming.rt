@@ -76,7 +76,7 @@ pub(crate) fn uids_in(alloc: Global, list: &[Incoming]) -> Result<Vec<SharedUid>
 }
 
 // Checks whether an entity has no indirect ancestors.
-fn has_no_indirect(entity: &Entity) -> bool
+pub(crate) fn has_no_indirect(entity: &Entity) -> bool
     ensures { IsTrue result → HasNoIndirect entity.now }
 {
     entity.indirect_ancestors().next().is_none()

@@ -2,6 +2,7 @@
 ghost use Rattle.std.specs.Prelude.{◌≡◌, ◌||◌, OnOk, OnErr};
 ghost use Rattle.std.specs.FinSet as set;
 ghost use Rattle.cedar_ids.specs.declared.entity.EntityUID.{EntityUID};
+ghost use Rattle.cedar_uid_sets.specs.UidSets.{same_uids};
 ghost use Rattle.cedar_entity.specs.View.{has_ancestor};
 
 use crate::entity::Entity;
@@ -14,6 +15,13 @@ impl Entity {
         self.parents
             .len()
             .saturating_add(self.indirect_ancestors.len())
+    }
+
+    /// Returns whether another entity has the same parents. Makes at most one comparison per parent. Does not allocate.
+    pub fn has_same_parents(&self, other: &Entity) -> bool
+        ensures { result ≡ same_uids self.now.parents other.now.parents }
+    {
+        self.parents == other.parents
     }
 
     /// Inserts the ancestors into a set, without copying them.

@@ -37,7 +37,8 @@ use Rattle.cedar_entity_maps.specs.laws.EditErrors.{refusal_cases, refused_for}
 use Rattle.cedar_entity_maps.specs.laws.Ends.{Ends, repairing}
 use Rattle.cedar_entity_maps.specs.laws.EntityMap.{entity_at, held_map}
 use Rattle.cedar_entity_maps.specs.laws.Merging.{AddsRow, IsMerged, IsRest, IsRowAbove, IsRowApart, IsRowOf}
-use Rattle.cedar_entity_maps.specs.laws.Merging.{is_left, widened}
+use Rattle.cedar_entity_maps.specs.laws.Merging.{is_left}
+use Rattle.cedar_entity_maps.specs.laws.WidenedRows.{widened, widened_leads, widened_overlap}
 use Rattle.cedar_entity_maps.specs.laws.Seen.{get_seen, seen_as, stored}
 use Rattle.cedar_entity_maps.specs.laws.AnyOf.{any_found, any_member}
 use Rattle.cedar_entity_maps.specs.laws.Lists.{member_more, member_push}
@@ -87,33 +88,6 @@ pub same_none : (row : UidValues) (b : Bool) (o : Option EntityView) → row ≡
 same_none row true None none = refl
 same_none row true (Some e) none = ap Some (sym (widened_none row e none))
 same_none row false o none = refl
-
-left_out : (p i k : Bool) → (p || (i || (k && not p))) ≡ ((p || i) || k)
-left_out true i k = refl
-left_out false true k = refl
-left_out false false true = refl
-left_out false false false = refl
-
-widened_leads : (row : UidValues) (e : EntityView) (b : EntityUID)
-    → has_ancestor (widened row e) b ≡ (has_ancestor e b || set.contains row b)
-widened_leads row e b =
-    ap (λ x. set.contains e.parents b || x) (set.contains-union uid_order_total e.indirect (set.difference row e.parents) b
-    ∙ ap (λ x. set.contains e.indirect b || x) (set.contains-difference uid_order_total row e.parents b))
-    ∙ left_out (set.contains e.parents b) (set.contains e.indirect b) (set.contains row b)
-
-none_common : (p i k : Bool) → (p && (i || (k && not p))) ≡ (p && i)
-none_common true true k = refl
-none_common true false true = refl
-none_common true false false = refl
-none_common false i k = refl
-
-widened_overlap : (row : UidValues) (e : EntityView) → overlap (widened row e) ≡ overlap e
-widened_overlap row e = set.same_set uid_order_total one_equal _ _ (λ q.
-    set.contains-intersection uid_order_total e.parents (set.union e.indirect (set.difference row e.parents)) q
-    ∙ ap (λ x. set.contains e.parents q && x) (set.contains-union uid_order_total e.indirect (set.difference row e.parents) q
-    ∙ ap (λ x. set.contains e.indirect q || x) (set.contains-difference uid_order_total row e.parents q))
-    ∙ none_common (set.contains e.parents q) (set.contains e.indirect q) (set.contains row q)
-    ∙ sym (set.contains-intersection uid_order_total e.parents e.indirect q))
 
 -- The map after a row was added to the entity at a key.
 module _ {S : Type 0} (m n : HashMap EntityUID SharedEntity S) (key : EntityUID) (row : UidValues)

@@ -13,3 +13,4 @@ pub mod Rows
 pub mod Seen
 pub mod InputStores
 pub mod Merging
+pub mod WidenedRows

@@ -8,7 +8,7 @@
 pub mod affected;
 pub mod finalize;
 pub mod index;
-mod merging;
+pub mod merging;
 pub mod modes;
 mod uid_lookup;
 

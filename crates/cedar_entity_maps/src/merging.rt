@@ -11,7 +11,8 @@ ghost use Rattle.cedar_entity.specs.declared.err.EntitiesError.TheVariants.{Memo
 ghost use Rattle.cedar_entity_maps.specs.Modes.{is_ancestor_in};
 ghost use Rattle.cedar_entity_maps.specs.Plain.{EntityMap};
 ghost use Rattle.cedar_entity_maps.specs.laws.EntityMap.{entity_at, held_map, UidsMatch};
-ghost use Rattle.cedar_entity_maps.specs.laws.Merging.{IsMerged, IsRest, IsRowAbove, IsRowApart, IsRowOf, is_left, widened};
+ghost use Rattle.cedar_entity_maps.specs.laws.Merging.{IsMerged, IsRest, IsRowAbove, IsRowApart, IsRowOf, is_left};
+ghost use Rattle.cedar_entity_maps.specs.laws.WidenedRows.{widened};
 
 use crate::uid_lookup::has_any_ancestor_of;
 use cedar_children::listed;
@@ -30,8 +31,16 @@ const REPEATS: usize = 4;
 // It does not stop if the row has fewer ancestors than this.
 const SHORT: usize = 64;
 
-// Inserts the ancestors of the entity at a uid, if there is one, into a row. Returns their number.
-fn insert_ancestors_at<S: BuildHasher>(
+/// Inserts the ancestors of the entity at a uid, if there is one, into a row. Returns their number.
+///
+/// # Errors
+///
+/// Returns `AllocError` if an allocation fails. After an allocation failure the row may contain some of the ancestors.
+///
+/// # Complexity
+///
+/// As in [`Entity::insert_ancestors_into`].
+pub fn insert_ancestors_at<S: BuildHasher>(
     entities: &HashMap<SharedUid, SharedEntity, S>,
     uid: &SharedUid,
     row: &mut UidSet,

@@ -35,10 +35,6 @@ pub record IsRowAbove (affected : EntityUID → Bool) (D : EntityMap) (key : Ent
       → set.contains row b ≡ true
   pub apart : (q : EntityUID) → same_uid key q ≡ true → set.contains row q ≡ false
 
--- The entity with the uids of a row as indirect ancestors, except its parents.
-abbrev pub widened : UidValues → EntityView → EntityView
-widened row e = record e { indirect = set.union e.indirect (set.difference row e.parents) }
-
 -- Holds if N is D, where the entity at a key, if there is one, has also the uids of the row as ancestors.
 pub record AddsRow (D N : EntityMap) (key : EntityUID) (row : UidValues) : Type 0 where
   pub others : (q : EntityUID) → same_uid key q ≡ false → finmap.get N q ≡ finmap.get D q

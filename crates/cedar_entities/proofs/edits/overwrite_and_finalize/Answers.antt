@@ -1,4 +1,11 @@
-use Rattle.std.proofs.Common.{ap, subst, sym, ◌∙◌, ◌||◌}
+use Rattle.std.proofs.Common.{List, ap, refl, subst, sym, ◌∙◌, ◌||◌}
+use Rattle.std.proofs.lemmas.Result.{on_ok_weaker}
+use Rattle.std.specs.List.{AllByRecursion}
+use Rattle.cedar_entity.specs.View.{EntityView}
+use Rattle.cedar_entity_maps.specs.Modes.{rules_of}
+use Rattle.cedar_entities.specs.laws.SameParents.{KeepsParents}
+use Rattle.cedar_entities.proofs.InPlace.{in_place_ends, in_place_parents}
+use Rattle.cedar_entities.proofs.Indexes.{children_back, if_some}
 use Rattle.std.proofs.lemmas.Bool.{both_ways}
 use Rattle.std.specs.FinSet as set
 use Rattle.std.specs.Set.{is_member}
@@ -13,7 +20,7 @@ use Rattle.cedar_entities.proofs.edits.overwrite_and_finalize.Goals as goal
 
 pub edit-requires-clause-uids : goal.edit-requires-clause-uids
 edit-requires-clause-uids g c q =
-    ap (λ l. is_member same_uid l q) (c.in_ok-uids.ensures ∙ ap uids_of c.deref.ensures.value)
+    ap (λ l. is_member same_uid l q) (c.in_ok-uids.ensures ∙ ap uids_of c.deref-2.ensures.value)
     ∙ or_off (is_member same_uid (uids_of c.args.incoming.items) q)
     ∙ ap (λ b. is_member same_uid (uids_of c.args.incoming.items) q || b)
     (sym (ap (λ s. set.contains s q) c.new-removed.ensures ∙ set.contains-empty uid_order q))
@@ -21,6 +28,28 @@ edit-requires-clause-uids g c q =
 pub edit-requires-clause-removed : goal.edit-requires-clause-removed
 edit-requires-clause-removed g c q t = absurd (both_ways (set.contains c.new-removed.result q)
     (ap (λ s. set.contains s q) c.new-removed.ensures ∙ set.contains-empty uid_order q) t)
+
+pub returns-then-keep_parents-clause-ends : goal.returns-then-keep_parents-clause-ends
+returns-then-keep_parents-clause-ends g c =
+    let D = held_map c.args.entities.now in
+    let L = c.args.incoming.items in
+    in_place_ends D (held_map c.overwrite_in_place.new.entities) L (rules_of c.args.tc_computation)
+    c.overwrite_in_place.result (c.requires.index.plain c.if-index.true) (sym c.computes.ensures ∙ c.if-computes.true)
+    (subst (λ (l : List EntityView). AllByRecursion (KeepsParents D) l) c.deref.ensures.value
+    (c.keep_parents.ensures c.if-keep_parents.true)) c.overwrite_in_place.ensures.ok c.overwrite_in_place.ensures.err
+
+pub returns-then-keep_parents-clause-children : goal.returns-then-keep_parents-clause-children
+returns-then-keep_parents-clause-children g c =
+    let D = held_map c.args.entities.now in
+    let n = c.overwrite_in_place.new.entities in
+    let L = c.args.incoming.items in
+    on_ok_weaker c.overwrite_in_place.result
+    (λ is. children_back n (held_map n) c.args.index.now.children refl
+    (if_some _ _ c.args.index.now.children
+    (λ ch h p q. h p q ∙ sym (in_place_parents (c.requires.index.plain c.if-index.true).1 L (held_map n)
+    (subst (λ (l : List EntityView). AllByRecursion (KeepsParents D) l) c.deref.ensures.value
+    (c.keep_parents.ensures c.if-keep_parents.true)) is p q)) c.requires.index.children))
+    c.overwrite_in_place.ensures.ok
 
 pub returns-clause-ends : goal.returns-clause-ends
 returns-clause-ends g c =
