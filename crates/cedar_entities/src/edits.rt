@@ -241,7 +241,8 @@ pub(crate) fn overwrite_and_finalize<S: BuildHasher + Clone>(
         (overwrite (held_map entities.old) incoming.items) (held_map entities.new) result }
 {
     if index.plain && computes(tc_computation) && keep_parents(entities, &incoming) {
-        return overwrite_in_place(alloc, entities, incoming);
+        overwrite_in_place(alloc, entities, incoming)?;
+        return Ok(());
     }
     let uids = uids_in(alloc, &incoming)?;
     let removed = UidSet::new(alloc);
