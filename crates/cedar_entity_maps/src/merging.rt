@@ -5,8 +5,10 @@ ghost use Rattle.std.specs.Prelude.{◌≡◌, ◌||◌, Bool, true, cond, IfErr
 ghost use Rattle.std.specs.FinSet as set;
 ghost use Rattle.std.specs.HashSet.{contains};
 ghost use Rattle.std.specs.Option.{IfSome, option_map};
+ghost use Rattle.std.specs.Set.{is_member};
 ghost use Rattle.cedar_ids.specs.UidOf.{same_uid};
 ghost use Rattle.cedar_ids.specs.declared.entity.EntityUID.{EntityUID};
+ghost use Rattle.cedar_entity.specs.View.{has_ancestor};
 ghost use Rattle.cedar_entity.specs.declared.err.EntitiesError.TheVariants.{Memory};
 ghost use Rattle.cedar_entity_maps.specs.Modes.{is_ancestor_in};
 ghost use Rattle.cedar_entity_maps.specs.Plain.{EntityMap};
@@ -14,11 +16,11 @@ ghost use Rattle.cedar_entity_maps.specs.laws.EntityMap.{entity_at, held_map, Ui
 ghost use Rattle.cedar_entity_maps.specs.laws.Merging.{IsMerged, IsRest, IsRowAbove, IsRowApart, IsRowOf, is_left};
 ghost use Rattle.cedar_entity_maps.specs.laws.WidenedRows.{widened};
 
-use crate::uid_lookup::has_any_ancestor_of;
-use cedar_children::listed;
+use crate::uid_lookup::UidLookup;
 use cedar_entity::entity::Entity;
 use cedar_entity::err::EntitiesError;
 use cedar_entity::node::SharedEntity;
+use cedar_graph::TCNode;
 use cedar_uid_sets::{SharedUid, UidSet};
 use std::alloc::{AllocError, Global};
 use std::collections::{HashMap, HashSet};
@@ -30,6 +32,18 @@ const REPEATS: usize = 4;
 
 // It does not stop if the row has fewer ancestors than this.
 const SHORT: usize = 64;
+
+// Inserts the ancestors of an entity into a row. Returns their number.
+fn insert_ancestors_of(node: &SharedEntity, row: &mut UidSet) -> Result<usize, AllocError>
+    ensures { OnOk result ((q : EntityUID) → set.contains row.new q
+        ≡ (set.contains row.old q || has_ancestor node.now.0.value q)) }
+{
+    if !TCNode::<SharedUid>::may_have_edges(node) {
+        return Ok(0);
+    }
+    node.0.insert_ancestors_into(row)?;
+    Ok(node.0.ancestors_len())
+}
 
 /// Inserts the ancestors of the entity at a uid, if there is one, into a row. Returns their number.
 ///
@@ -49,10 +63,7 @@ pub fn insert_ancestors_at<S: BuildHasher>(
         ≡ (set.contains row.old q || is_ancestor_in (entity_at entities.now uid.now) q)) }
 {
     match entities.get(uid) {
-        Some(node) => {
-            node.0.insert_ancestors_into(row)?;
-            Ok(node.0.ancestors_len())
-        }
+        Some(node) => insert_ancestors_of(node, row),
         None => Ok(0),
     }
 }
@@ -84,14 +95,14 @@ fn row_of<S: BuildHasher>(
 fn row_apart<S: BuildHasher>(
     alloc: Global,
     entities: &HashMap<SharedUid, SharedEntity, S>,
-    affected: &HashSet<SharedUid, S>,
+    affected: &UidLookup<'_, S>,
     uid: &SharedUid,
     entity: &Entity,
 ) -> Result<Option<UidSet>, AllocError>
     ensures { IfOk result (λ o. IfSome o
-        (IsRowApart (contains same_uid affected.now) (entity_at entities.now) uid.now entity.now)) }
+        (IsRowApart (is_member same_uid affected.now) (entity_at entities.now) uid.now entity.now)) }
 {
-    if has_any_ancestor_of(entity, affected) {
+    if affected.has_any(entity) {
         return Ok(None);
     }
     let Some(row) = row_of(alloc, entities, entity)? else {
@@ -107,10 +118,10 @@ fn row_apart<S: BuildHasher>(
 fn row_above<S: BuildHasher>(
     alloc: Global,
     entities: &HashMap<SharedUid, SharedEntity, S>,
-    affected: &HashSet<SharedUid, S>,
+    affected: &UidLookup<'_, S>,
     uid: &SharedUid,
 ) -> Result<Option<UidSet>, AllocError>
-    ensures { IfOk result (λ o. IfSome o (IsRowAbove (contains same_uid affected.now) (held_map entities.now) uid.now)) }
+    ensures { IfOk result (λ o. IfSome o (IsRowAbove (is_member same_uid affected.now) (held_map entities.now) uid.now)) }
 {
     match entities.get(uid) {
         Some(node) => row_apart(alloc, entities, affected, uid, &node.0),
@@ -141,16 +152,16 @@ fn add_row_at<S: BuildHasher>(
 fn merge_at<S: BuildHasher>(
     alloc: Global,
     entities: &mut HashMap<SharedUid, SharedEntity, S>,
-    affected: &HashSet<SharedUid, S>,
+    affected: &UidLookup<'_, S>,
     uid: &SharedUid,
 ) -> Result<bool, EntitiesError>
     requires { UidsMatch entities.old }
     ensures keys { OnOk result (UidsMatch entities.new) }
     ensures merged { (left after : EntityUID → Bool) (D : EntityMap)
-        → IsMerged (contains same_uid affected.now) left D (held_map entities.old)
-        → contains same_uid affected.now uid.now ≡ true
+        → IsMerged (is_member same_uid affected.now) left D (held_map entities.old)
+        → is_member same_uid affected.now uid.now ≡ true
         → IfOk result (λ done. IsRest done uid.now left after
-        → IsMerged (contains same_uid affected.now) after D (held_map entities.new)) }
+        → IsMerged (is_member same_uid affected.now) after D (held_map entities.new)) }
     ensures err { IfErr result (λ e. e ≡ Memory) }
 {
     match row_above(alloc, entities, affected, uid)? {
@@ -185,9 +196,9 @@ pub fn merge_rows<S: BuildHasher>(
     ensures err { IfErr result (λ e. e ≡ Memory) }
 {
     let mut merged = Vec::new(alloc);
-    let uids = listed(alloc, affected)?;
-    for uid in &uids {
-        if merge_at(alloc, entities, affected, uid)? {
+    let sought = UidLookup::of(alloc, affected)?;
+    for uid in sought.uids() {
+        if merge_at(alloc, entities, &sought, uid)? {
             merged.push(uid.clone()?)?;
         }
     }

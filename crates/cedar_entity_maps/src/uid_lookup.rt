@@ -49,6 +49,13 @@ impl<'a, S: BuildHasher> UidLookup<'a, S> {
         Ok(UidLookup { all: uids, list })
     }
 
+    // Returns the uids.
+    pub(crate) fn uids(&self) -> &[SharedUid]
+        ensures { result.now ≡ self.now }
+    {
+        &self.list
+    }
+
     // Returns whether looking up each uid among the ancestors of an entity costs less than the reverse.
     fn is_short_for(&self, entity: &Entity) -> bool {
         self.list.len() <= FEW || self.list.len() <= entity.ancestors_len()
@@ -101,10 +108,7 @@ fn has_any_of(entity: &Entity, uids: &[SharedUid]) -> bool
 }
 
 // Checks whether an entity has one of the uids as an ancestor, by looking up each ancestor.
-pub(crate) fn has_any_ancestor_of<S: BuildHasher>(
-    entity: &Entity,
-    uids: &HashSet<SharedUid, S>,
-) -> bool
+fn has_any_ancestor_of<S: BuildHasher>(entity: &Entity, uids: &HashSet<SharedUid, S>) -> bool
     ensures { result ≡ list_any (has_ancestor entity.now) uids.now.keys }
 {
     for uid in entity.ancestors() {

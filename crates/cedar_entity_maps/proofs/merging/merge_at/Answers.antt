@@ -1,6 +1,6 @@
 use Rattle.std.proofs.Common.{◌∙◌, ap, subst, sym}
 use Rattle.std.proofs.lemmas.Result.{on_ok_weaker}
-use Rattle.std.specs.HashSet.{contains}
+use Rattle.std.specs.Set.{is_member}
 use Rattle.std.specs.Option.{IfSome}
 use Rattle.cedar_ids.specs.UidOf.{same_uid}
 use Rattle.cedar_ids.specs.laws.UidOfLaws.{same_uid_decides}
@@ -13,7 +13,7 @@ pub returns-in_ok-add_row_at-in-Some-clause-merged : goal.returns-in_ok-add_row_
 returns-in_ok-add_row_at-in-Some-clause-merged g c left after D so_far here remaining =
     let m = c.args.entities.now in
     let n = c.add_row_at.new.entities in
-    let A = contains same_uid c.args.affected.now in
+    let A = is_member same_uid c.args.affected.now in
     let key = c.args.uid.now in
     let above = subst (λ o. IfSome o (IsRowAbove A (held_map m) key)) c.in-Some.is c.in_ok-row.ensures in
     merge_step A left after D (held_map m) (held_map n) key c.in-Some.row

@@ -11,7 +11,7 @@ pub returns : goal.returns
 returns g c = record {
   row_of = subst (λ o. IfSome o (IsRowOf (entity_at c.args.entities.now) c.args.entity.now)) c.in-Some.is c.in_ok-row.ensures;
   outside = λ b h. false_from_ne_true _ (λ m. false≢true
-      (sym c.if-has_any_ancestor_of.false ∙ c.has_any_ancestor_of.ensures
-      ∙ any_member (has_ancestor c.args.entity.now) c.args.affected.now.keys b m h));
+      (sym c.if-has_any.false ∙ c.has_any.ensures
+      ∙ any_member (has_ancestor c.args.entity.now) c.args.affected.now b m h));
   apart = sym c.contains_shared.ensures ∙ c.if-contains_shared.false;
 }
