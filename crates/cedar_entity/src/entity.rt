@@ -348,6 +348,7 @@ impl Entity {
 
     /// Returns whether a shared uid is a parent or an indirect ancestor. Its lookups are cheaper than the lookups of
     /// [`Entity::is_descendant_of`]. Does not allocate.
+    #[inline(always)]
     pub fn is_descendant_of_shared(&self, other: &SharedUid) -> bool
         ensures { result ≡ has_ancestor self.now other.now }
     {

@@ -121,3 +121,10 @@ union_more s us i d lt = same_members _ _ (λ q.
     ∙ in_more (set.contains s q) (is_member same_uid (take i us) q) (same_uid q (get_or us i d))
     ∙ ap (λ b. set.contains s q || b) (sym (list_any_more (same_uid q) us i d lt) ∙ sym (contains_listed (take (i + 1) us) q))
     ∙ sym (set.contains-union uid_order_total s (set.from_list (take (i + 1) us)) q))
+
+-- The union with the empty set.
+pub union_empty : (s t : UidValues) → t ≡ set.empty → s ≡ set.union s t
+union_empty s t none = same_members _ _ (λ q.
+    or_off (set.contains s q)
+    ∙ ap (λ b. set.contains s q || b) (sym (ap (λ (r : UidValues). set.contains r q) none ∙ set.contains-empty uid_order q))
+    ∙ sym (set.contains-union uid_order_total s t q))

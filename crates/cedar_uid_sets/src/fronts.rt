@@ -223,6 +223,7 @@ fn have_one_eid(one: &EntityUID, other: &EntityUID) -> bool
 }
 
 // Checks whether two uids have the same numbers. If not, the uids differ.
+#[inline(always)]
 pub(crate) fn have_same_numbers(one: &Key<'_>, other: &Key<'_>) -> bool
     ensures { result ≡ same_numbers one.now other.now }
 {

@@ -54,6 +54,7 @@ pub(crate) fn place_from_end(uids: &[SharedUid], uid: &Key<'_>) -> Result<usize,
 }
 
 // Checks whether one of the uids has the numbers of the uid. If not, the uid is not among them.
+#[inline(always)]
 fn has_numbers(uids: &[SharedUid], uid: &Key<'_>) -> bool
     ensures { result ≡ list_any (same_numbers uid.now) uids.now }
 {
@@ -63,6 +64,7 @@ fn has_numbers(uids: &[SharedUid], uid: &Key<'_>) -> bool
 
 // Returns `false` only if the uid is not among the uids. If there are few uids, comparing the numbers mostly shows
 // that.
+#[inline(always)]
 pub(crate) fn may_contain(uids: &[SharedUid], uid: &Key<'_>) -> bool
     ensures { (result ≡ false) → is_member same_uid uids.now uid.now ≡ false }
 {

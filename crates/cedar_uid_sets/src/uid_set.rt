@@ -155,6 +155,7 @@ impl UidSet {
 
     // Checks whether the set contains a shared uid. Compares the numbers first, because they mostly show that it does
     // not.
+    #[inline(always)]
     fn holds(&self, shared: &SharedUid) -> bool
         ensures { result ≡ set.contains self.now shared.now }
     {
@@ -163,6 +164,7 @@ impl UidSet {
 
     /// Returns whether one of two sets contains a shared uid. In a set of at most sixteen uids, mostly only the numbers
     /// are compared. Does not allocate.
+    #[inline(always)]
     pub fn either_contains(one: &UidSet, other: &UidSet, shared: &SharedUid) -> bool
         ensures { result ≡ (set.contains one.now shared.now || set.contains other.now shared.now) }
     {
@@ -310,6 +312,9 @@ impl UidSet {
     pub fn extend_from(&mut self, others: &UidSet) -> Result<(), AllocError>
         ensures { OnOk result (self.new ≡ set.union self.old others.now) }
     {
+        if others.is_empty() {
+            return Ok(());
+        }
         if !self.is_empty() && others.len() <= IN_TURN {
             return self.insert_each(others.pointers());
         }
