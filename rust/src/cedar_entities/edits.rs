@@ -6,13 +6,14 @@
 use crate::cedar_children::listed;
 use crate::cedar_entities::incoming::{Incoming, uids_in};
 use crate::cedar_entities::lists::{held_uids, pointers_of};
+use crate::cedar_entities::same_parents::{keep_parents, overwrite_in_place};
 use crate::cedar_entity::err::EntitiesError;
 use crate::cedar_entity::node::SharedEntity;
 use crate::cedar_entity_maps::TCComputation;
 use crate::cedar_entity_maps::affected::{StaleAncestors, collect_stale, insert_uids, strip_each};
 use crate::cedar_entity_maps::finalize::finish;
 use crate::cedar_entity_maps::index::{Index, affected_by, join, list_if_it_pays, part};
-use crate::cedar_entity_maps::modes::{EditRules, rules_compute, rules_of, with_repair};
+use crate::cedar_entity_maps::modes::{EditRules, computes, rules_compute, rules_of, with_repair};
 use crate::cedar_ids::entity::EntityUID;
 use crate::cedar_uid_sets::{SharedUid, UidSet};
 use std::collections::{HashMap, HashSet};
@@ -64,7 +65,7 @@ fn read<S: BuildHasher + Clone>(
 ) -> Reading<S> {
     let mut applied = HashSet::with_hasher(entities.hasher().clone());
     insert_uids(&mut applied, uids);
-    list_if_it_pays(entities, index);
+    list_if_it_pays(entities, index, applied.len());
     let affected = affected_by(entities, index, &applied);
     let stale = collect_stale(entities, &applied, &affected, recompute_all);
     let uids = listed(&applied);
@@ -78,7 +79,7 @@ fn overwrite<S: BuildHasher>(entities: &mut HashMap<SharedUid, SharedEntity, S>,
 }
 
 // Inserts the entities one after another. Each replaces the entity with its uid.
-fn overwrite_all<S: BuildHasher>(entities: &mut HashMap<SharedUid, SharedEntity, S>, list: Vec<Incoming>) {
+pub(crate) fn overwrite_all<S: BuildHasher>(entities: &mut HashMap<SharedUid, SharedEntity, S>, list: Vec<Incoming>) {
     for entity in list {
         overwrite(entities, entity);
     }
@@ -129,13 +130,18 @@ fn edit<S: BuildHasher + Clone>(
     finish(entities, &affected, row)
 }
 
-// Overwrites entities, and finalizes the edit by the edit rules of the mode.
+// Overwrites entities, and finalizes the edit by the edit rules of the mode. If the store is known to be plain and no
+// parents change, no ancestor changes, and there is nothing to finalize.
 pub(crate) fn overwrite_and_finalize<S: BuildHasher + Clone>(
     entities: &mut HashMap<SharedUid, SharedEntity, S>,
     index: &mut Index<S>,
     incoming: Vec<Incoming>,
     tc_computation: TCComputation,
 ) -> Result<(), EntitiesError> {
+    if index.plain && computes(tc_computation) && keep_parents(entities, &incoming) {
+        overwrite_in_place(entities, incoming);
+        return Ok(());
+    }
     let uids = uids_in(&incoming);
     let removed = UidSet::new();
     let change = Change {

@@ -115,7 +115,7 @@ fn add_to<S: BuildHasher + Clone>(
     let mut inserted = HashSet::with_hasher(entities.hasher().clone());
     insert_uids(&mut inserted, fresh);
     let joining = listed(&inserted);
-    list_if_it_pays(entities, index);
+    list_if_it_pays(entities, index, inserted.len());
     insert_each(entities, list)?;
     let affected = affected_by(entities, index, &inserted);
     let recompute_all = renews_adding(index, rules_of(tc_computation));

@@ -37,7 +37,7 @@ pub(crate) fn uids_in(list: &[Incoming]) -> Vec<SharedUid> {
 }
 
 // Checks whether an entity has no indirect ancestors.
-fn has_no_indirect(entity: &Entity) -> bool {
+pub(crate) fn has_no_indirect(entity: &Entity) -> bool {
     entity.indirect_ancestors().next().is_none()
 }
 

@@ -8,6 +8,7 @@ mod edits;
 pub mod entities;
 mod incoming;
 mod lists;
+mod same_parents;
 pub mod store_iters;
 mod store_same;
 mod store_text;

@@ -23,8 +23,8 @@ use std::hash::{Hash, Hasher};
 pub struct Entity {
     uid: EntityUID,
     attrs: BTreeMap<String, PartialValue>,
-    indirect_ancestors: UidSet,
-    parents: UidSet,
+    pub(crate) indirect_ancestors: UidSet,
+    pub(crate) parents: UidSet,
     tags: BTreeMap<String, PartialValue>,
 }
 

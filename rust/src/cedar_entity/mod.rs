@@ -10,6 +10,7 @@ pub mod iters;
 mod least;
 pub mod node;
 mod reserved;
+mod rows;
 mod shared_node;
 
 pub use crate::cedar_uid_sets::SharedUid;

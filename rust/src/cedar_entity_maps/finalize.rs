@@ -5,6 +5,7 @@
 
 use crate::cedar_entity::err::EntitiesError;
 use crate::cedar_entity::node::SharedEntity;
+use crate::cedar_entity_maps::merging::{merge_rows, without};
 use crate::cedar_entity_maps::modes::{EditRules, TCComputation, rules_of};
 use crate::cedar_graph::{close_dag, compute_tc, enforce_tc_and_dag, repair_dag, repair_tc};
 use crate::cedar_uid_sets::SharedUid;
@@ -33,9 +34,9 @@ fn check_if<S: BuildHasher + Clone>(
     if checks { check(entities) } else { Ok(()) }
 }
 
-// Adds to the affected entities the ancestors that they reach. If `enforce_dag` is true, a cycle is reported before any
-// ancestor is written.
-fn repair_affected<S: BuildHasher + Clone>(
+// Adds to the affected entities the ancestors that they reach, by a closure. If `enforce_dag` is true, a cycle is
+// reported before any ancestor is written.
+fn close_affected<S: BuildHasher + Clone>(
     entities: &mut HashMap<SharedUid, SharedEntity, S>,
     affected: &HashSet<SharedUid, S>,
     enforce_dag: bool,
@@ -46,6 +47,21 @@ fn repair_affected<S: BuildHasher + Clone>(
     }
     repair_tc(affected, entities, false)?;
     Ok(())
+}
+
+// Adds to the affected entities the ancestors that they reach. Entities without an affected ancestor are repaired first,
+// without a closure. If `enforce_dag` is true, a cycle is reported.
+fn repair_affected<S: BuildHasher + Clone>(
+    entities: &mut HashMap<SharedUid, SharedEntity, S>,
+    affected: &HashSet<SharedUid, S>,
+    enforce_dag: bool,
+) -> Result<(), EntitiesError> {
+    let merged = merge_rows(entities, affected);
+    if merged.is_empty() {
+        return close_affected(entities, affected, enforce_dag);
+    }
+    let left = without(affected, &merged);
+    close_affected(entities, &left, enforce_dag)
 }
 
 // Adds to all entities the ancestors that they reach. If `enforce_dag` is true, a cycle is reported before any ancestor

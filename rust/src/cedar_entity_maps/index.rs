@@ -17,6 +17,9 @@ const SMALL: usize = 40;
 // about as much.
 const WALKS: usize = 16;
 
+// A scan for this many more uids counts as one more scan.
+const UIDS: usize = 4;
+
 /// What a store knows in addition to its entities.
 pub struct Index<S: BuildHasher> {
     /// Whether the store is known to be plain: the ancestors of each entity are exactly the uids that it reaches over
@@ -99,14 +102,20 @@ fn children_of<S: BuildHasher + Clone>(entities: &HashMap<SharedUid, SharedEntit
     with_all(none, entities, &keys)
 }
 
-/// Counts a scan of the store. Once the scans have cost about as much as an index of children, builds that index. Does
-/// nothing if the store is small or not known to be plain.
-pub fn list_if_it_pays<S: BuildHasher + Clone>(entities: &HashMap<SharedUid, SharedEntity, S>, index: &mut Index<S>) {
+/// Counts a scan of the store for `count` uids. Builds an index of children before the scan if the scans, with this
+/// one, cost about as much. Does nothing if the store is small or not known to be plain.
+pub fn list_if_it_pays<S: BuildHasher + Clone>(
+    entities: &HashMap<SharedUid, SharedEntity, S>,
+    index: &mut Index<S>,
+    count: usize,
+) {
     if !index.plain || index.children.is_some() || entities.len() < SMALL {
         return;
     }
-    if index.walked / WALKS < entities.len() {
-        index.walked = index.walked.saturating_add(entities.len());
+    let cost = entities.len().saturating_mul(1 + count / UIDS);
+    let walked = index.walked.saturating_add(cost);
+    if walked / WALKS <= entities.len() {
+        index.walked = walked;
         return;
     }
     index.walked = 0;

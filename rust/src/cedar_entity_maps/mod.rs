@@ -6,6 +6,7 @@
 pub mod affected;
 pub mod finalize;
 pub mod index;
+pub mod merging;
 pub mod modes;
 mod uid_lookup;
 

@@ -8,35 +8,39 @@ use crate::cedar_uid_sets::SharedUid;
 use std::collections::HashSet;
 use std::hash::BuildHasher;
 
-// Up to this number of uids are looked up one by one among an entity's ancestors. For more uids, each ancestor is
-// looked up among the uids.
+// Up to this number of uids are looked up one by one among an entity's ancestors. If there are more uids, and more than
+// the entity has ancestors, each ancestor is looked up among the uids.
 const FEW: usize = 16;
 
-// A set of uids to look up. A small set is stored as a list too, because iterating over a list is faster than iterating
-// over a set.
+// A set of uids to look up, also as a list, because iterating over a list is faster than iterating over a set.
 pub(crate) struct UidLookup<'a, S: BuildHasher> {
     all: &'a HashSet<SharedUid, S>,
-    few: Option<Vec<SharedUid>>,
+    list: Vec<SharedUid>,
 }
 
 impl<'a, S: BuildHasher> UidLookup<'a, S> {
     // Prepares the uids for lookups.
     pub(crate) fn of(uids: &'a HashSet<SharedUid, S>) -> Self {
-        if uids.len() > FEW {
-            return Self { all: uids, few: None };
-        }
-        let few = listed(uids);
-        Self {
-            all: uids,
-            few: Some(few),
-        }
+        let list = listed(uids);
+        Self { all: uids, list }
+    }
+
+    // Returns the uids.
+    pub(crate) fn uids(&self) -> &[SharedUid] {
+        &self.list
+    }
+
+    // Returns whether looking up each uid among the ancestors of an entity costs less than the reverse.
+    fn is_short_for(&self, entity: &Entity) -> bool {
+        self.list.len() <= FEW || self.list.len() <= entity.ancestors_len()
     }
 
     // Checks whether an entity has one of the uids as an ancestor.
     pub(crate) fn has_any(&self, entity: &Entity) -> bool {
-        match &self.few {
-            Some(few) => has_any_of(entity, few),
-            None => has_any_ancestor_of(entity, self.all),
+        if self.is_short_for(entity) {
+            has_any_of(entity, &self.list)
+        } else {
+            has_any_ancestor_of(entity, self.all)
         }
     }
 
@@ -50,9 +54,10 @@ impl<'a, S: BuildHasher> UidLookup<'a, S> {
 
     // Returns the uids that are ancestors of an entity.
     pub(crate) fn hits(&self, entity: &Entity) -> Vec<SharedUid> {
-        match &self.few {
-            Some(few) => hits_by_uid(entity, few),
-            None => hits_by_ancestor(entity, self.all),
+        if self.is_short_for(entity) {
+            hits_by_uid(entity, &self.list)
+        } else {
+            hits_by_ancestor(entity, self.all)
         }
     }
 }

@@ -179,10 +179,34 @@ impl UidSet {
         let before = mem::take(&mut self.uids);
         self.uids = merge(room, uids, before);
     }
+
+    /// Inserts the uids of another set. The uids are shared, not copied. For a uid that this set contains already, the
+    /// existing pointer is kept.
+    ///
+    /// # Complexity
+    ///
+    /// An empty set takes a copy of the other vector. Up to eight uids are inserted as in [`UidSet::insert`]. More uids
+    /// are merged as in [`UidSet::extend_ascending`].
+    pub fn extend_from(&mut self, others: &Self) {
+        if !self.is_empty() && others.len() <= IN_TURN {
+            return self.insert_each(others.pointers());
+        }
+        self.extend_ascending(others.clone().into_pointers());
+    }
+
+    // Inserts each of the uids.
+    fn insert_each(&mut self, uids: &[SharedUid]) {
+        for shared in uids {
+            self.insert(shared.clone());
+        }
+    }
 }
 
 // Fewer uids than this are removed one by one.
 const FEW: usize = 1000;
+
+// At most this many uids are inserted one by one. More uids are merged.
+const IN_TURN: usize = 8;
 
 impl PartialEq for UidSet {
     /// Returns whether both sets have the same uids. Makes at most one comparison per uid. Does not allocate.

@@ -1,7 +1,7 @@
 // Tests of entities: construction, copying, changes and checks.
 use super::parts::{entity, parts, text_of};
 use super::terms::is_type;
-use super::{has_eids, pointers, shared, uid_of};
+use super::{has_eids, pointers, set_of, shared, uid_of};
 use cedar_alloc_failures::{
     CallOutcome, Calls, Row, both, changed, check_failures, copied_with_text, has_words, judged,
     on, refuse, same_copied, stop_failing, unmade, with,
@@ -140,6 +140,10 @@ const CHANGING: &str = "
     Entity::add_parent | a b / d / /, d | a b d / / /
     Entity::add_parent | a b / d / /, b | a b / d / /
     Entity::add_shared_ancestors | a b / d / k=1 /, e b c d | a b / c d e / k=1 /
+    Entity::add_ancestor_set | a b / d / k=1 /, e b c d | a b / c d e / k=1 /
+    Entity::insert_ancestors_into | a b / d / k=1 /, c d | b c d
+    Entity::insert_ancestors_into | a b / d / k=1 /, | b d
+    - Entity::insert_ancestors_into | a / / /, c d | c d
     Entity::add_shared_parent | a b / d / /, c | a b c / d / /
     Entity::add_shared_parent | a b / d / /, d | a b d / / /
     - Entity::add_shared_parent | a b / d / /, b | a b / d / /
@@ -188,10 +192,47 @@ fn ancestors_shared(alloc: Global, number: usize, row: Row<'_>) -> CallOutcome {
     }
 }
 
+// Runs the insertion of a set of ancestors.
+fn ancestor_set(alloc: Global, number: usize, row: Row<'_>) -> CallOutcome {
+    let (text, names) = row.given.split_once(", ").unwrap_or((row.given, ""));
+    match both(set_of(alloc, names), entity(alloc, text)) {
+        Some((uids, made)) => {
+            changed(alloc, number, Some(made), row.want, text_of, |entity| {
+                entity.add_ancestor_set(uids)
+            })
+        }
+        None => unmade(),
+    }
+}
+
+// Runs the insertion of the ancestors into a set, which may contain some of them after an error.
+fn ancestors_inserted(alloc: Global, number: usize, row: Row<'_>) -> CallOutcome {
+    let (text, names) = row.given.split_once(',').unwrap_or((row.given, ""));
+    match both(set_of(alloc, names), entity(alloc, text)) {
+        Some((uids, made)) => {
+            let mut uids = uids;
+            refuse(alloc, number);
+            let answer = made.insert_ancestors_into(&mut uids);
+            let tried = judged(
+                alloc,
+                answer,
+                row.want,
+                |_| has_eids(alloc, uids.iter(), row.want),
+            );
+            drop(uids);
+            drop(made);
+            tried
+        }
+        None => unmade(),
+    }
+}
+
 impl Calls for OnChanging {
     fn tried(&self, alloc: Global, number: usize, row: Row<'_>) -> CallOutcome {
         match row.call {
             "Entity::add_shared_ancestors" => ancestors_shared(alloc, number, row),
+            "Entity::add_ancestor_set" => ancestor_set(alloc, number, row),
+            "Entity::insert_ancestors_into" => ancestors_inserted(alloc, number, row),
             "Entity::add_shared_parent" => parent_shared(alloc, number, row),
             _ => entity_changed(alloc, number, row),
         }

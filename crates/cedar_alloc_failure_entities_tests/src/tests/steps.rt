@@ -10,7 +10,7 @@ ghost use Rattle.cedar_entity_maps.specs.laws.EntityMap.{held_map, UidsMatch};
 use super::children::{are_found, index_of, uids_of};
 use super::entities::counted;
 use super::stores::mode_of;
-use super::{eids, pointers, set_of};
+use super::{eids, has_eids, pointers, set_of, shared};
 use cedar_alloc_failures::{
     CallOutcome, Calls, Row, both, check_failures, has_words, judged, refuse, unmade, with_last,
     with_word,
@@ -23,9 +23,10 @@ use cedar_entity_maps::affected::{
 };
 use cedar_entity_maps::finalize::{check, finalize_affected, finalize_all, finish};
 use cedar_entity_maps::index::{Index, affected_by};
+use cedar_entity_maps::merging::insert_ancestors_at;
 use cedar_entity_maps::modes::{rules_of, with_repair};
 use cedar_graph::TCNode;
-use cedar_uid_sets::SharedUid;
+use cedar_uid_sets::{SharedUid, UidSet};
 use std::alloc::{AllocError, Global};
 use std::collections::{HashMap, HashSet};
 
@@ -281,6 +282,23 @@ fn touching(alloc: Global, number: usize, row: Row<'_>, map: &Map, uids: &Set) -
     )
 }
 
+// Runs the insertion of the ancestors of an entity into a set, which may contain some of them after an error.
+fn collecting(alloc: Global, number: usize, row: Row<'_>, map: Map, uid: SharedUid) -> CallOutcome {
+    let mut found = UidSet::new(alloc);
+    refuse(alloc, number);
+    let answer = insert_ancestors_at(&map, &uid, &mut found);
+    let tried = judged(
+        alloc,
+        answer,
+        row.want,
+        |_| has_eids(alloc, found.iter(), row.want),
+    );
+    drop(found);
+    drop(map);
+    drop(uid);
+    tried
+}
+
 // Runs the insertion of some uids into a set.
 fn noting(alloc: Global, number: usize, row: Row<'_>, uids: Set) -> CallOutcome {
     let (_word, _names, more) = parts_of(row.given);
@@ -343,6 +361,8 @@ const STEPS: &str = "
     - finalize_all | assume; ; a b, b c, c | a b, b c, c
     forget_each | anew; a b; a b / c, b c, c d / e | a b, b c, c d / e
     - forget_each | ; a; a b / c, b c, c | a b / c, b c, c
+    insert_ancestors_at | ; a; a b / c, b c, d e | b c
+    - insert_ancestors_at | ; x; a b / c, b c, d e |
     affected_by | ; c; a b / c, b c, d e | a b c
     affected_by | listed; c; a b / c, b c, d e | a b c
     affected_by | listed; e x; a b / c, b c, d e | d e x
@@ -376,6 +396,13 @@ impl Calls for OnSteps {
                 Some((map, uids)) => reading(alloc, number, row, map, uids),
                 None => unmade(),
             },
+            "insert_ancestors_at" => {
+                drop(uids);
+                match both(map_of(alloc, texts), shared(alloc, names.trim())) {
+                    Some((map, uid)) => collecting(alloc, number, row, map, uid),
+                    None => unmade(),
+                }
+            }
             "strip_each" => {
                 drop(uids);
                 match both(map_of(alloc, texts), due_of(alloc, row.want)) {

@@ -83,6 +83,10 @@ const SETS: &str = "
     UidSet::extend_ascending | b d, a c e | a b c d e
     - UidSet::extend_ascending | , a b | a b
     - UidSet::extend_ascending | a b, | a b
+    UidSet::extend_from | b d, a c e | a b c d e
+    UidSet::extend_from | b d, a c e f g h i j k l | a b c d e f g h i j k l
+    UidSet::extend_from | , a b | a b
+    - UidSet::extend_from | a b, | a b
     UidSet::clone | a b
     - UidSet::clone
 ";
@@ -102,6 +106,28 @@ fn merged(alloc: Global, number: usize, row: Row<'_>) -> CallOutcome {
             changed(alloc, number, Some(set), row.want, eids_of, |set| {
                 extended(set, uids)
             })
+        }
+        None => unmade(),
+    }
+}
+
+// Runs the insertion of the uids of a set into another one, which may contain some of them after an error.
+fn united(alloc: Global, number: usize, row: Row<'_>) -> CallOutcome {
+    let (set, others) = row.given.split_once(',').unwrap_or((row.given, ""));
+    match both(set_of(alloc, set), set_of(alloc, others)) {
+        Some((set, others)) => {
+            let mut set = set;
+            refuse(alloc, number);
+            let answer = set.extend_from(&others);
+            let tried = judged(
+                alloc,
+                answer,
+                row.want,
+                |_| has_eids(alloc, set.iter(), row.want),
+            );
+            drop(set);
+            drop(others);
+            tried
         }
         None => unmade(),
     }
@@ -139,6 +165,7 @@ impl Calls for OnSets {
             }
             "UidSet::insert" => inserted(alloc, number, row),
             "UidSet::extend_ascending" => merged(alloc, number, row),
+            "UidSet::extend_from" => united(alloc, number, row),
             "UidSet::clone" => same_copied(alloc, number, set_of(alloc, row.given)),
             _ => unmade(),
         }
