@@ -30,8 +30,8 @@ fn part_for<S: BuildHasher + Clone>(
 /// Checks whether [`Entities::add_entities`] of this store and list would fail under [`TCComputation::ComputeNow`]. The
 /// store and the list do not change.
 ///
-/// In a plain store, and if no entity of the list has indirect ancestors, `Ok` means that the edit can fail only
-/// because an allocation fails. Otherwise `Ok` means nothing.
+/// In a plain store, and if no entity of the list has indirect ancestors, the edit succeeds after `Ok`. Only an
+/// allocation failure of the edit is still possible. In any other case `Ok` means nothing.
 ///
 /// # Errors
 ///

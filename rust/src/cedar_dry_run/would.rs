@@ -17,7 +17,8 @@ fn part_for<S: BuildHasher + Clone>(store: &Entities<S>, list: &[Arc<Entity>]) -
 /// Checks whether [`Entities::add_entities`] of this store and list would fail under [`TCComputation::ComputeNow`]. The
 /// store and the list do not change.
 ///
-/// Otherwise `Ok` means nothing.
+/// In a plain store, and if no entity of the list has indirect ancestors, the edit succeeds after `Ok`. In any other
+/// case `Ok` means nothing.
 ///
 /// # Errors
 ///

@@ -33,14 +33,19 @@ pub use crate::cedar_entity_maps::TCComputation;
 ///
 /// # Complexity
 ///
-/// An edit finds the affected entities by scanning all entities. It makes up to 16 lookups in each entity, or one
-/// lookup for each of its ancestors.
+/// An edit finds the affected entities by scanning all entities. In each entity it looks up the edit's uids, or its
+/// ancestors among these, whichever are fewer.
 ///
 /// A store of 40 or more entities uses an index instead, if all of its edits were calls with `ComputeNow`, of entities
 /// without indirect ancestors, or removals. Such a store is known to be plain: its ancestors are exactly what the
-/// parents imply. After edits have scanned it sixteen times, it lists the children of each uid. From then on an edit
-/// searches down from its own uids. The list needs 8 to 16 bytes for each parent of each entity, and a set for each uid
-/// that is a parent. A copy of the store has no list at first.
+/// parents imply. After sixteen scans it lists the children of each uid. A scan for more uids counts more: an edit of
+/// 64 uids lists the children at once. From then on an edit searches down from its own uids. The list needs 8 to 16
+/// bytes for each parent of each entity, and a set for each uid that is a parent. A copy of the store has no list at
+/// first.
+///
+/// In such a store, an edit that overwrites entities with the same parents changes no ancestor. It copies the pointers
+/// to the ancestors of these entities, and affects no other entity. In every store, an affected entity none of whose
+/// parents is affected gets the ancestors of its parents. The other affected entities are closed together.
 ///
 /// # Hashing
 ///

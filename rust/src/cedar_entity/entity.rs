@@ -504,6 +504,7 @@ impl Entity {
 
     /// Returns whether a shared uid is a parent or an indirect ancestor. Its lookups are cheaper than the lookups of
     /// [`Entity::is_descendant_of`]. Does not allocate.
+    #[inline(always)]
     pub(crate) fn is_descendant_of_shared(&self, other: &SharedUid) -> bool {
         UidSet::either_contains(&self.parents, &self.indirect_ancestors, other)
     }

@@ -115,14 +115,10 @@ fn merge_at<S: BuildHasher>(
     }
 }
 
-/// Repairs the affected entities none of whose ancestors is affected. Returns their uids. The other affected entities
-/// still need a repair.
-///
-/// # Complexity
-///
-/// Looks up the ancestors of each affected entity until one is affected. The further work is proportional to the number
-/// of ancestors that the repaired entities get. An entity that is shared is copied first.
-pub fn merge_rows<S: BuildHasher>(
+// Repairs the affected entities none of whose ancestors is affected. Returns their uids. The other affected entities
+// still need a repair. The work is proportional to the number of ancestors that the repaired entities get. A shared
+// entity is copied first.
+pub(crate) fn merge_rows<S: BuildHasher>(
     entities: &mut HashMap<SharedUid, SharedEntity, S>,
     affected: &HashSet<SharedUid, S>,
 ) -> Vec<SharedUid> {
@@ -136,12 +132,11 @@ pub fn merge_rows<S: BuildHasher>(
     merged
 }
 
-/// Returns a set without some uids.
-///
-/// # Complexity
-///
-/// Copies the set without copying a uid, and looks up each of the uids.
-pub fn without<S: BuildHasher + Clone>(uids: &HashSet<SharedUid, S>, removed: &[SharedUid]) -> HashSet<SharedUid, S> {
+// Returns a copy of a set without some uids.
+pub(crate) fn without<S: BuildHasher + Clone>(
+    uids: &HashSet<SharedUid, S>,
+    removed: &[SharedUid],
+) -> HashSet<SharedUid, S> {
     let mut left = uids.clone();
     for uid in removed {
         left.remove(uid);

@@ -31,11 +31,13 @@ impl<'a, S: BuildHasher> UidLookup<'a, S> {
     }
 
     // Returns whether looking up each uid among the ancestors of an entity costs less than the reverse.
+    #[inline(always)]
     fn is_short_for(&self, entity: &Entity) -> bool {
         self.list.len() <= FEW || self.list.len() <= entity.ancestors_len()
     }
 
     // Checks whether an entity has one of the uids as an ancestor.
+    #[inline(always)]
     pub(crate) fn has_any(&self, entity: &Entity) -> bool {
         if self.is_short_for(entity) {
             has_any_of(entity, &self.list)
@@ -63,6 +65,7 @@ impl<'a, S: BuildHasher> UidLookup<'a, S> {
 }
 
 // Checks whether an entity has one of the uids as an ancestor, by looking up each uid.
+#[inline(always)]
 fn has_any_of(entity: &Entity, uids: &[SharedUid]) -> bool {
     for uid in uids {
         if entity.is_descendant_of_shared(uid) {

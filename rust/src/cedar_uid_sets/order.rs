@@ -38,12 +38,14 @@ pub(crate) fn place_from_end(uids: &[SharedUid], uid: &Key<'_>) -> Result<usize,
 }
 
 // Checks whether one of the uids has the numbers of the uid. If not, the uid is not among them.
+#[inline(always)]
 fn has_numbers(uids: &[SharedUid], uid: &Key<'_>) -> bool {
     uids.iter().any(|shared| have_same_numbers(uid, &shared.key()))
 }
 
 // Returns `false` only if the uid is not among the uids. If there are few uids, comparing the numbers mostly shows
 // that.
+#[inline(always)]
 pub(crate) fn may_contain(uids: &[SharedUid], uid: &Key<'_>) -> bool {
     uids.len() > FEW || has_numbers(uids, uid)
 }

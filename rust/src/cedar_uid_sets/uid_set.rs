@@ -85,12 +85,14 @@ impl UidSet {
 
     // Checks whether the set contains a shared uid. Compares the numbers first, because they mostly show that it does
     // not.
+    #[inline(always)]
     fn holds(&self, shared: &SharedUid) -> bool {
         may_contain(&self.uids, &shared.key()) && self.contains_shared(shared)
     }
 
     /// Returns whether one of two sets contains a shared uid. In a set of at most sixteen uids, mostly only the numbers
     /// are compared. Does not allocate.
+    #[inline(always)]
     pub fn either_contains(one: &Self, other: &Self, shared: &SharedUid) -> bool {
         one.holds(shared) || other.holds(shared)
     }
@@ -188,6 +190,9 @@ impl UidSet {
     /// An empty set takes a copy of the other vector. Up to eight uids are inserted as in [`UidSet::insert`]. More uids
     /// are merged as in [`UidSet::extend_ascending`].
     pub fn extend_from(&mut self, others: &Self) {
+        if others.is_empty() {
+            return;
+        }
         if !self.is_empty() && others.len() <= IN_TURN {
             return self.insert_each(others.pointers());
         }
