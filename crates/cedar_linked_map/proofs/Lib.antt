@@ -1,0 +1,12 @@
+pub mod Paths
+pub mod Nodes
+pub mod Orders
+pub mod Removed
+pub mod Taken
+pub mod Pushed
+pub mod Seen
+pub mod Replaced
+pub mod Lent
+pub mod Ends
+pub mod Copied
+pub mod Sets

@@ -1,0 +1,16 @@
+use Rattle.std.proofs.Common.{◌∙◌, ap}
+use Rattle.std.specs.Map.{keys_of}
+use Rattle.indexmap.specs.IndexSet.{insert_key}
+use Rattle.indexmap.proofs.SetLemmas.{keys_insert_entry}
+use Rattle.cedar_linked_map.proofs.set.LinkedSet.insert.Goals as goal
+use Rattle.cedar_linked_map.proofs.set.LinkedSet.insert.Goals.{in-Err, in-Ok}
+
+pub returns-clause-keys : goal.returns-clause-keys
+returns-clause-keys g c =
+    let eq = g.T.PartialEq.eq in
+    let k = c.args.value in
+    elim c.match-insert.branch [
+      | in-Err w ↦ rw w.result-is tt
+      | in-Ok w ↦ rw w.result-is (ap keys_of w.in-Ok.ensures.entries ∙ keys_insert_entry eq c.self.inside.map.entries k tt
+          ∙ ap (λ s. insert_key eq s.keys k) c.self.view_is)
+    ]
