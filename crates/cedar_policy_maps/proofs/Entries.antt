@@ -2,7 +2,7 @@
 use Rattle.std.specs.Prelude.{◌≡◌, ℕ, ◌+◌, ◌<◌, suc, length, List, [], ◌∷◌, ◌++◌, Bool, true, false, not, ◌||◌, ◌&&◌}
 use Rattle.std.specs.Prelude.{Option, Some, None, refl, map, is_some}
 use Rattle.std.proofs.Common.{cond, sym, ap, ◌∙◌, subst, take, drop, get_or, Bor}
-use Rattle.std.specs.List.{filter, find, list_any, AllZip}
+use Rattle.std.specs.List.{filter, find, list_any, AllByRecursion, AllZip, IsDistinct}
 use Rattle.std.specs.Map.{keys_of, values_of, lookup, set_value, remove_entry}
 use Rattle.std.specs.Option.{option_map, option_copied}
 use Rattle.std.specs.declared.rc.Rc.{Rc}
@@ -411,6 +411,13 @@ module _ {S : Type 0} where
       ap lists_of p ∙ map-append (λ (e : List ℕ × IndexSet (List ℕ) S). (e.0, e.1.keys)) es ((k, s) ∷ [])
       ∙ (λ j. lists_of es ++ (q j, e j) ∷ []) ∙ ap (λ ls. lists_of es ++ ls) h
 
+  -- A list of ids is appended, in front of the remaining lists.
+  pub listed_last : (es : List (List ℕ × IndexSet (List ℕ) S)) (i : List ℕ) (s : IndexSet (List ℕ) S) (ks : List (List ℕ))
+      (ls : List (List ℕ × List (List ℕ))) → s.keys ≡ ks
+      → lists_of (es ++ (i, s) ∷ []) ++ ls ≡ lists_of es ++ (i, ks) ∷ ls
+  listed_last [] i s ks ls e = ap (λ ks. (i, ks) ∷ ls) e
+  listed_last (e ∷ es) i s ks ls k = ap (λ ls. (e.0, e.1.keys) ∷ ls) (listed_last es i s ks ls k)
+
   -- The lists that remain are those under ids that no policy has.
   pub lists_kept : (es fs : List (List ℕ × IndexSet (List ℕ) S)) (qs : List (List ℕ × PolicyParts))
       → IsKeyed policy_id qs → fs ≡ filter (λ e. not (is_some (lookup (same_text e.0) qs))) es →
@@ -481,3 +488,16 @@ lists_copied [] [] h = refl
 lists_copied [] (f ∷ fs) h = absurd h
 lists_copied (e ∷ es) [] h = absurd h
 lists_copied (e ∷ es) (f ∷ fs) h = λ i. (h.0.0 i, ids_copied e.1.keys f.1.keys h.0.1 i) ∷ lists_copied es fs h.1 i
+
+-- Keys that differ are distinct.
+apart_from : (i : List ℕ) (ks : List (List ℕ)) → list_any (same_text i) ks ≡ false
+    → AllByRecursion (λ k. same_text i k ≡ false) ks
+apart_from i [] h = tt
+apart_from i (k ∷ ks) h =
+    let parts = or_parts (same_text i k) (list_any (same_text i) ks) h in
+    (parts.0, apart_from i ks parts.1)
+
+pub once_distinct : (ks : List (List ℕ)) → AreOnce (λ (k : List ℕ). k) ks → IsDistinct same_text ks
+unfolding IsDistinct
+once_distinct [] h = tt
+once_distinct (k ∷ ks) h = (apart_from k ks h.0, once_distinct ks h.1)

@@ -1,5 +1,5 @@
 //! Lookups in the three maps, insertions and removals.
-ghost use Rattle.std.specs.Prelude.{◌≡◌, OnOk, OnErr, IfSome, None, Some, false, length, ◌<◌, is_some, not, slice_get};
+ghost use Rattle.std.specs.Prelude.{◌≡◌, ◌^◌, OnOk, OnErr, None, Some, false, length, ◌<◌, not};
 ghost use Rattle.std.specs.List.{find, list_any};
 ghost use Rattle.std.specs.Option.{option_copied, option_map};
 ghost use Rattle.cedar_policy_maps.specs.PolicySets.{bound_at, is_bound, is_body_at, is_policy_at, has_links};
@@ -7,12 +7,11 @@ ghost use Rattle.cedar_policy_maps.specs.PolicySets.{template_bound};
 ghost use Rattle.cedar_policy_maps.specs.PolicySets.{with_template, with_policy, with_body_and_policy, without_id, last_policy};
 ghost use Rattle.cedar_policy_maps.specs.Lists.{ids_in};
 ghost use Rattle.cedar_policy_maps.specs.Maps.{templates_in};
-ghost use Rattle.cedar_policy_maps.specs.Views.{bodies_of};
 ghost use Rattle.cedar_policy_maps.specs.Founds.{found_binding};
 ghost use Rattle.cedar_policy_maps.specs.Insertions.{CanInsert, CanInsertWithBody};
 ghost use Rattle.cedar_policy_maps.specs.laws.MapLaws.{has_ids};
 
-use crate::iters::LinkedIds;
+use crate::iters::{LinkedIds, SharedBodies};
 use crate::lists::{has_no_slots, is_link};
 use crate::maps::{
     insert_reserved, list_policy, reserve_with_body, room_for_body, room_for_list, unlist,
@@ -20,26 +19,34 @@ use crate::maps::{
 use crate::policy_maps::PolicyMaps;
 use crate::policy_or_template::PolicyOrTemplate;
 use cedar_ids::policy_id::PolicyID;
+use cedar_linked_map::LinkedSet;
 use cedar_policy::{Policy, Template};
-use indexmap::IndexSet;
 use std::alloc::AllocError;
 use std::hash::BuildHasher;
 use std::rc::Rc;
-use std::slice;
 
 impl<S: BuildHasher + Copy> PolicyMaps<S> {
-    /// Returns the shared bodies, in order. Does not allocate.
-    pub fn shared_bodies(&self) -> &[Rc<Template>]
-        ensures { bodies_of result.now ≡ self.now.bodies }
+    /// Iterates over the shared bodies, in insertion order. Does not allocate.
+    pub fn shared_bodies(&self) -> SharedBodies<'_>
+        ensures { result ≡ self.now.bodies }
     {
-        self.templates.values().as_slice()
+        SharedBodies::of(self.templates.values())
     }
 
-    /// Returns the policies, in order. Does not allocate.
-    pub fn all_policies(&self) -> &[Policy]
-        ensures { result.now ≡ self.now.policies }
+    /// Returns the number of bodies, of static policies and of templates. Does not allocate.
+    pub fn body_count(&self) -> usize
+        ensures count { result ≡ length self.now.bodies }
+        ensures small { result < 2 ^ 63 }
     {
-        self.links.values().as_slice()
+        self.templates.len()
+    }
+
+    /// Returns the number of policies, static policies and links. Does not allocate.
+    pub fn policy_count(&self) -> usize
+        ensures count { result ≡ length self.now.policies }
+        ensures small { result < 2 ^ 63 }
+    {
+        self.links.len()
     }
 
     /// Returns the shared body with this id, if there is one. Does not allocate.
@@ -66,14 +73,23 @@ impl<S: BuildHasher + Copy> PolicyMaps<S> {
         self.links.get(id)
     }
 
-    /// Returns the index of the policy with this id, if there is one. Does not allocate.
-    pub fn place_of_policy(&self, id: &PolicyID) -> Option<usize>
-        ensures within { IfSome result (λ k. k < length self.now.policies) }
-        ensures found { is_some result ≡ is_some (find (is_policy_at id.now) self.now.policies) }
-        ensures policy { IfSome result (λ k. slice_get self.now.policies k
-            ≡ find (is_policy_at id.now) self.now.policies) }
+    /// Returns the shared body with this id, if there is one. Tries the place `next` first, and sets it to the place after
+    /// the body. Lookups in the order of the bodies do not hash. Does not allocate.
+    pub fn body_near(&self, id: &PolicyID, next: &mut usize) -> Option<&Rc<Template>>
+        ensures { option_map (λ t. t.now.value) result ≡ find (is_body_at id.now) self.now.bodies }
     {
-        self.links.get_index_of(id)
+        match self.templates.get_near(id, next) {
+            None => None,
+            Some((_, template)) => Some(template),
+        }
+    }
+
+    /// Returns the policy with this id and its place, if there is one. Tries the place `next` first, and sets it to the
+    /// place after the policy. Lookups in the order of the policies do not hash. Does not allocate.
+    pub fn policy_near(&self, id: &PolicyID, next: &mut usize) -> Option<(usize, &Policy)>
+        ensures { option_map (λ p. p.1.now) result ≡ find (is_policy_at id.now) self.now.policies }
+    {
+        self.links.get_near(id, next)
     }
 
     /// Returns whether a body has this id. Does not allocate.
@@ -91,34 +107,11 @@ impl<S: BuildHasher + Copy> PolicyMaps<S> {
     }
 
     // Returns the ids of the links of the template with this id, if there is one.
-    fn links_of(&self, id: &PolicyID) -> Option<&IndexSet<PolicyID, S>>
+    fn links_of(&self, id: &PolicyID) -> Option<&LinkedSet<PolicyID, S>>
         ensures { option_map (λ s. s.now.keys) result ≡ option_map (λ t. ids_in t.id self.now.policies)
             (find (is_body_at id.now) (templates_in self.now.policies self.now.bodies)) }
     {
         self.template_to_links_map.get(id)
-    }
-
-    // Returns the ids of the policies that use the body with this id, if there is one. A static policy is the only
-    // policy of its body.
-    fn ids_on(&self, id: &PolicyID) -> Option<&[PolicyID]>
-        ensures { option_copied result ≡ option_map (λ t. ids_in t.id self.now.policies)
-            (find (is_body_at id.now) self.now.bodies) }
-    {
-        // No effect at run time: for the proof, this borrow states that the maps contain a policy set.
-        let _ = &self.templates;
-        match self.policy_at(id) {
-            None => match self.links_of(id) {
-                None => None,
-                Some(ids) => Some(ids.as_slice()),
-            },
-            Some(policy) => {
-                if is_link(policy) {
-                    None
-                } else {
-                    Some(slice::from_ref(policy.id()))
-                }
-            }
-        }
     }
 
     /// Returns the ids of the policies that use the body with this id, if there is one. For a template these are its
@@ -126,9 +119,20 @@ impl<S: BuildHasher + Copy> PolicyMaps<S> {
     pub fn linked_ids(&self, id: &PolicyID) -> Option<LinkedIds<'_>>
         ensures { result ≡ option_map (λ t. ids_in t.id self.now.policies) (find (is_body_at id.now) self.now.bodies) }
     {
-        match self.ids_on(id) {
-            None => None,
-            Some(ids) => Some(LinkedIds::of(ids)),
+        // No effect at run time: for the proof, this borrow states that the maps contain a policy set.
+        let _ = &self.templates;
+        match self.policy_at(id) {
+            None => match self.links_of(id) {
+                None => None,
+                Some(ids) => Some(LinkedIds::of(ids.iter())),
+            },
+            Some(policy) => {
+                if is_link(policy) {
+                    None
+                } else {
+                    Some(LinkedIds::of_one(policy.id()))
+                }
+            }
         }
     }
 
@@ -211,7 +215,7 @@ impl<S: BuildHasher + Copy> PolicyMaps<S> {
             &mut self.template_to_links_map,
             &template,
         )?;
-        let ids = IndexSet::with_hasher(*self.templates.allocator(), *self.templates.hasher());
+        let ids = LinkedSet::with_hasher(*self.templates.allocator(), *self.templates.hasher());
         insert_reserved(&mut self.templates, id, template);
         insert_reserved(&mut self.template_to_links_map, listed, ids);
         Ok(())
@@ -307,13 +311,17 @@ impl<S: BuildHasher + Copy> PolicyMaps<S> {
         requires { 0 < length self.now.policies }
         ensures { Some result.now ≡ last_policy self.now }
     {
-        let policies = self.all_policies();
-        &policies[policies.len() - 1]
+        // No effect at run time: for the proof, this call states the number of policies.
+        let _count = self.policy_count();
+        match self.links.last() {
+            None => unreachable!(),
+            Some((_, policy)) => policy,
+        }
     }
 }
 
 // Returns whether there are ids.
-fn has_ids<S: BuildHasher + Copy>(ids: Option<&IndexSet<PolicyID, S>>) -> bool
+fn has_ids<S: BuildHasher + Copy>(ids: Option<&LinkedSet<PolicyID, S>>) -> bool
     ensures { result ≡ has_ids (option_map (λ s. s.now.keys) ids.entry) }
 {
     match ids {

@@ -18,8 +18,9 @@ ghost use Rattle.indexmap.specs.IndexSet as sets;
 use crate::maps::{EnteringLists, bodies_by_id, ids_by_template, policies_by_id};
 use crate::policy_maps::PolicyMaps;
 use cedar_ids::policy_id::PolicyID;
+use cedar_linked_map::{LinkedMap, LinkedSet};
 use cedar_policy::{Policy, Template, share_template};
-use indexmap::{IndexMap, IndexSet};
+use indexmap::IndexMap;
 use std::alloc::{AllocError, Global};
 use std::hash::BuildHasher;
 use std::rc::Rc;
@@ -51,8 +52,8 @@ impl<T: Drop> SharedAndNew<T> {
 struct Entering<S: BuildHasher> {
     templates: IndexMap<PolicyID, Rc<Template>, S>,
     links: IndexMap<PolicyID, Policy, S>,
-    listed: IndexMap<PolicyID, IndexSet<PolicyID, S>, S>,
-    grown: IndexMap<PolicyID, IndexSet<PolicyID, S>, S>,
+    listed: IndexMap<PolicyID, LinkedSet<PolicyID, S>, S>,
+    grown: IndexMap<PolicyID, LinkedSet<PolicyID, S>, S>,
 }
 
 impl<S: BuildHasher + Copy> PolicyMaps<S> {
@@ -88,7 +89,7 @@ impl<S: BuildHasher + Copy> PolicyMaps<S> {
         self.push_new(entering, stand, alike)
     }
 
-    /// Replaces the templates of the policies at some indices by shared ones, each if the two are equal. The content of
+    /// Replaces the templates of the policies at some places by shared ones, each if the two are equal. The content of
     /// the maps does not change. Does not allocate.
     pub fn share_templates(&mut self, templates: Vec<(usize, Rc<Template>)>)
         ensures { self.new ≡ self.old }
@@ -169,9 +170,9 @@ fn new_entries<S: BuildHasher + Copy>(
 
 // Reserves space in the three maps, and in the lists that grow.
 fn make_room<S: BuildHasher + Copy>(
-    templates: &mut IndexMap<PolicyID, Rc<Template>, S>,
-    links: &mut IndexMap<PolicyID, Policy, S>,
-    map: &mut IndexMap<PolicyID, IndexSet<PolicyID, S>, S>,
+    templates: &mut LinkedMap<PolicyID, Rc<Template>, S>,
+    links: &mut LinkedMap<PolicyID, Policy, S>,
+    map: &mut LinkedMap<PolicyID, LinkedSet<PolicyID, S>, S>,
     entering: &Entering<S>,
 ) -> Result<(), AllocError>
     ensures bodies { templates.new.entries ≡ templates.old.entries }
@@ -191,20 +192,19 @@ fn make_room<S: BuildHasher + Copy>(
 
 // Appends entries with new keys. The space must be reserved.
 pub(crate) fn push_all<V: Drop, S: BuildHasher + Copy>(
-    map: &mut IndexMap<PolicyID, V, S>,
+    map: &mut LinkedMap<PolicyID, V, S>,
     entries: IndexMap<PolicyID, V, S>,
 )
     requires room { length entries.entries ≤ spare map.old }
     requires new { HaveOwnKeys (map.old.entries ++ entries.entries) }
     ensures { map.new.entries ≡ map.old.entries ++ entries.entries }
 {
-    let mut entries = entries;
-    map.append(&mut entries).unwrap();
+    map.extend_new(entries);
 }
 
 // Reserves space in the list under a key, if there is one.
 fn room_in_list<S: BuildHasher + Copy>(
-    map: &mut IndexMap<PolicyID, IndexSet<PolicyID, S>, S>,
+    map: &mut LinkedMap<PolicyID, LinkedSet<PolicyID, S>, S>,
     body: &PolicyID,
     count: usize,
 ) -> Result<(), AllocError>
@@ -221,7 +221,7 @@ fn room_in_list<S: BuildHasher + Copy>(
 
 // Reserves space in a set.
 fn room_in_set<S: BuildHasher + Copy>(
-    ids: &mut IndexSet<PolicyID, S>,
+    ids: &mut LinkedSet<PolicyID, S>,
     count: usize,
 ) -> Result<(), AllocError>
     ensures keys { ids.new.keys ≡ ids.old.keys }
@@ -233,8 +233,8 @@ fn room_in_set<S: BuildHasher + Copy>(
 
 // Reserves space in lists for the ids to append to each.
 pub(crate) fn room_in_lists<S: BuildHasher + Copy>(
-    map: &mut IndexMap<PolicyID, IndexSet<PolicyID, S>, S>,
-    grown: &IndexMap<PolicyID, IndexSet<PolicyID, S>, S>,
+    map: &mut LinkedMap<PolicyID, LinkedSet<PolicyID, S>, S>,
+    grown: &IndexMap<PolicyID, LinkedSet<PolicyID, S>, S>,
 ) -> Result<(), AllocError>
     ensures lists { lists_of map.new.entries ≡ lists_of map.old.entries }
     ensures room { OnOk result (HaveRoom map.new.entries (lists_of grown.now.entries)) }
@@ -246,7 +246,7 @@ pub(crate) fn room_in_lists<S: BuildHasher + Copy>(
 }
 
 // Appends ids to a set. The space must be reserved.
-fn append_ids<S: BuildHasher + Copy>(ids: &mut IndexSet<PolicyID, S>, more: IndexSet<PolicyID, S>)
+fn append_ids<S: BuildHasher + Copy>(ids: &mut LinkedSet<PolicyID, S>, more: LinkedSet<PolicyID, S>)
     requires { length more.keys ≤ sets.spare ids.old }
     ensures { ids.new.keys ≡ insert_all same_text ids.old.keys more.keys }
 {
@@ -256,9 +256,9 @@ fn append_ids<S: BuildHasher + Copy>(ids: &mut IndexSet<PolicyID, S>, more: Inde
 
 // Appends ids to the list under a key, if there is one. The space must be reserved.
 fn grow_list<S: BuildHasher + Copy>(
-    map: &mut IndexMap<PolicyID, IndexSet<PolicyID, S>, S>,
+    map: &mut LinkedMap<PolicyID, LinkedSet<PolicyID, S>, S>,
     body: &PolicyID,
-    more: IndexSet<PolicyID, S>,
+    more: LinkedSet<PolicyID, S>,
 )
     requires { HasRoom (lookup (same_text body.now) map.old.entries) (length more.keys) }
     ensures lists { lists_of map.new.entries ≡ changed (same_text body.now) (λ ks. insert_all same_text ks more.keys)
@@ -275,8 +275,8 @@ fn grow_list<S: BuildHasher + Copy>(
 
 // Appends ids to lists. The space must be reserved.
 pub(crate) fn grow_lists<S: BuildHasher + Copy>(
-    map: &mut IndexMap<PolicyID, IndexSet<PolicyID, S>, S>,
-    grown: IndexMap<PolicyID, IndexSet<PolicyID, S>, S>,
+    map: &mut LinkedMap<PolicyID, LinkedSet<PolicyID, S>, S>,
+    grown: IndexMap<PolicyID, LinkedSet<PolicyID, S>, S>,
 )
     requires room { HaveRoom map.old.entries (lists_of grown.entries) }
     requires once { HaveOwnKeys grown.entries }
@@ -290,7 +290,7 @@ pub(crate) fn grow_lists<S: BuildHasher + Copy>(
 
 // Replaces existing bodies by equal ones with the same ids.
 fn replace_equal_bodies<S: BuildHasher + Copy>(
-    templates: &mut IndexMap<PolicyID, Rc<Template>, S>,
+    templates: &mut LinkedMap<PolicyID, Rc<Template>, S>,
     bodies: Vec<Rc<Template>>,
 )
     ensures { shared_of templates.new.entries ≡ shared_of templates.old.entries }
@@ -302,7 +302,7 @@ fn replace_equal_bodies<S: BuildHasher + Copy>(
 
 // Replaces the body with the same id, if it is equal.
 fn replace_equal_body<S: BuildHasher + Copy>(
-    templates: &mut IndexMap<PolicyID, Rc<Template>, S>,
+    templates: &mut LinkedMap<PolicyID, Rc<Template>, S>,
     template: Rc<Template>,
 )
     ensures { shared_of templates.new.entries ≡ shared_of templates.old.entries }
@@ -336,9 +336,9 @@ fn is_body(template: &Template, other: &Template) -> bool
     template == other
 }
 
-// Replaces the templates of the policies at some indices, each if the two are equal.
+// Replaces the templates of the policies at some places, each if the two are equal.
 fn share_all<S: BuildHasher + Copy>(
-    links: &mut IndexMap<PolicyID, Policy, S>,
+    links: &mut LinkedMap<PolicyID, Policy, S>,
     templates: Vec<(usize, Rc<Template>)>,
 )
     ensures { links.new.entries ≡ links.old.entries }
@@ -348,15 +348,15 @@ fn share_all<S: BuildHasher + Copy>(
     }
 }
 
-// Replaces the template of the policy at an index, if the two are equal.
+// Replaces the template of the policy at a place, if the two are equal.
 fn share_at<S: BuildHasher + Copy>(
-    links: &mut IndexMap<PolicyID, Policy, S>,
+    links: &mut LinkedMap<PolicyID, Policy, S>,
     place: usize,
     template: Rc<Template>,
 )
     ensures { links.new.entries ≡ links.old.entries }
 {
-    match links.get_index_mut(place) {
+    match links.get_at_mut(place) {
         None => drop(template),
         Some(policy) => share_template(policy, template),
     }
@@ -364,7 +364,7 @@ fn share_at<S: BuildHasher + Copy>(
 
 // Replaces existing policies by equal ones with the same ids.
 fn replace_equal_policies<S: BuildHasher + Copy>(
-    links: &mut IndexMap<PolicyID, Policy, S>,
+    links: &mut LinkedMap<PolicyID, Policy, S>,
     policies: Vec<Policy>,
 )
     ensures { links.new.entries ≡ links.old.entries }
@@ -376,7 +376,7 @@ fn replace_equal_policies<S: BuildHasher + Copy>(
 
 // Replaces the policy with the same id, if it is equal.
 fn replace_equal_policy<S: BuildHasher + Copy>(
-    links: &mut IndexMap<PolicyID, Policy, S>,
+    links: &mut LinkedMap<PolicyID, Policy, S>,
     policy: Policy,
 )
     ensures { links.new.entries ≡ links.old.entries }

@@ -1,30 +1,27 @@
 //! The iterators of a policy set. Contracts see each as the list of its remaining items.
-ghost use Rattle.std.specs.Prelude.{◌≡◌};
+ghost use Rattle.std.specs.Prelude.{◌≡◌, ◌∷◌, []};
 ghost use Rattle.std.specs.Iterator.{YieldsFirst, YieldsFirstBy, YieldsFirstRef, item_count};
 ghost use Rattle.std.specs.Map.{values_of};
-ghost use Rattle.std.specs.Slice.Iter.{iter_rest};
-ghost use Rattle.cedar_policy_maps.specs.Views.{bodies_of};
+ghost use Rattle.cedar_policy_maps.specs.Views.{bodies_of, ids_left};
 ghost use Rattle.cedar_policy_maps.specs.Lists.{slotted_in, statics_in};
 
 use crate::lists::{has_no_slots, is_link};
 use cedar_ids::policy_id::PolicyID;
+use cedar_linked_map::{IntoValues, Keys, LinkedMap, Values};
 use cedar_policy::{Policy, Template};
-use indexmap::{IndexMap, map};
-use std::hash::BuildHasher;
+use std::hash::{BuildHasher, BuildHasherDefault, FoldHasher};
 use std::marker::Model;
 use std::rc::Rc;
-use std::slice;
 
 /// An iterator over the policies of a set, static policies and links, in insertion order.
 #[derive(Drop)]
 pub struct Policies<'a> {
-    inner: slice::Iter<'a, Policy>,
+    inner: Values<'a, PolicyID, Policy>,
 }
 
 impl<'a> Model for Policies<'a> {
     ghost use Rattle.std.specs.Prelude.{List};
     ghost use Rattle.std.specs.Coded.{coded_list};
-    ghost use Rattle.std.specs.Slice.Iter.{iter_rest};
     ghost use Rattle.cedar_policy.specs.Codes.{policy_code};
     ghost use Rattle.cedar_policy.specs.Policies.{PolicyParts};
 
@@ -32,16 +29,14 @@ impl<'a> Model for Policies<'a> {
 
     ghost coded = { coded_list policy_code };
 
-    ghost view = { λ s. iter_rest s.inner };
+    ghost view = { λ s. s.inner };
 }
 
 impl<'a> Policies<'a> {
-    pub(crate) fn of(policies: &'a [Policy]) -> Policies<'a>
-        ensures { result ≡ policies.now }
+    pub(crate) fn of(inner: Values<'a, PolicyID, Policy>) -> Policies<'a>
+        ensures { result ≡ inner.entry }
     {
-        Policies {
-            inner: policies.iter(),
-        }
+        Policies { inner }
     }
 }
 
@@ -59,11 +54,11 @@ impl<'a> Iterator for Policies<'a> {
 
 /// An owning iterator over the policies of a set, in insertion order.
 #[derive(Drop)]
-pub struct IntoPolicies {
-    inner: map::IntoValues<PolicyID, Policy>,
+pub struct IntoPolicies<S: BuildHasher = BuildHasherDefault<FoldHasher>> {
+    inner: IntoValues<PolicyID, Policy, S>,
 }
 
-impl Model for IntoPolicies {
+impl<S: BuildHasher> Model for IntoPolicies<S> {
     ghost use Rattle.std.specs.Prelude.{List};
     ghost use Rattle.std.specs.Coded.{coded_list};
     ghost use Rattle.cedar_policy.specs.Codes.{policy_code};
@@ -76,8 +71,8 @@ impl Model for IntoPolicies {
     ghost view = { λ s. s.inner };
 }
 
-impl IntoPolicies {
-    pub(crate) fn of<S: BuildHasher + Drop>(links: IndexMap<PolicyID, Policy, S>) -> IntoPolicies
+impl<S: BuildHasher> IntoPolicies<S> {
+    pub(crate) fn of(links: LinkedMap<PolicyID, Policy, S>) -> IntoPolicies<S>
         ensures { result ≡ values_of links.entries }
     {
         IntoPolicies {
@@ -86,7 +81,7 @@ impl IntoPolicies {
     }
 }
 
-impl Iterator for IntoPolicies {
+impl<S: BuildHasher + Drop> Iterator for IntoPolicies<S> {
     type Item = Policy;
 
     ghost next_gives = { YieldsFirst (λ s. s) };
@@ -98,16 +93,15 @@ impl Iterator for IntoPolicies {
     }
 }
 
-/// An iterator over the bodies of a set, of static policies and of templates, in insertion order.
+/// An iterator over the shared bodies of a set, of static policies and of templates, in insertion order.
 #[derive(Drop)]
-pub struct AllTemplates<'a> {
-    inner: slice::Iter<'a, Rc<Template>>,
+pub struct SharedBodies<'a> {
+    inner: Values<'a, PolicyID, Rc<Template>>,
 }
 
-impl<'a> Model for AllTemplates<'a> {
+impl<'a> Model for SharedBodies<'a> {
     ghost use Rattle.std.specs.Prelude.{List};
     ghost use Rattle.std.specs.Coded.{coded_list};
-    ghost use Rattle.std.specs.Slice.Iter.{iter_rest};
     ghost use Rattle.cedar_body.specs.Bodies.{BodyParts};
     ghost use Rattle.cedar_body.specs.Codes.{body_code};
     ghost use Rattle.cedar_policy_maps.specs.Views.{bodies_of};
@@ -116,16 +110,53 @@ impl<'a> Model for AllTemplates<'a> {
 
     ghost coded = { coded_list body_code };
 
-    ghost view = { λ s. bodies_of (iter_rest s.inner) };
+    ghost view = { λ s. bodies_of s.inner };
+}
+
+impl<'a> SharedBodies<'a> {
+    pub(crate) fn of(inner: Values<'a, PolicyID, Rc<Template>>) -> SharedBodies<'a>
+        ensures { result ≡ bodies_of inner.entry }
+    {
+        SharedBodies { inner }
+    }
+}
+
+impl<'a> Iterator for SharedBodies<'a> {
+    type Item = &'a Rc<Template>;
+
+    ghost next_gives = { YieldsFirstBy (λ t. t.now.value) (λ s. s) };
+
+    ghost remaining = { item_count (λ s. s) };
+
+    fn next(&mut self) -> Option<&'a Rc<Template>> {
+        self.inner.next()
+    }
+}
+
+/// An iterator over the bodies of a set, of static policies and of templates, in insertion order.
+#[derive(Drop)]
+pub struct AllTemplates<'a> {
+    inner: SharedBodies<'a>,
+}
+
+impl<'a> Model for AllTemplates<'a> {
+    ghost use Rattle.std.specs.Prelude.{List};
+    ghost use Rattle.std.specs.Coded.{coded_list};
+    ghost use Rattle.cedar_body.specs.Bodies.{BodyParts};
+    ghost use Rattle.cedar_body.specs.Codes.{body_code};
+
+    ghost Value = { List BodyParts };
+
+    ghost coded = { coded_list body_code };
+
+    ghost view = { λ s. s.inner };
 }
 
 impl<'a> AllTemplates<'a> {
-    pub(crate) fn of(bodies: &'a [Rc<Template>]) -> AllTemplates<'a>
-        ensures { result ≡ bodies_of bodies.now }
+    pub(crate) fn of(inner: SharedBodies<'a>) -> AllTemplates<'a>
+        ensures { result ≡ inner.entry }
     {
-        AllTemplates {
-            inner: bodies.iter(),
-        }
+        AllTemplates { inner }
     }
 }
 
@@ -165,8 +196,8 @@ impl<'a> Model for Templates<'a> {
 }
 
 impl<'a> Templates<'a> {
-    pub(crate) fn of(bodies: &'a [Rc<Template>]) -> Templates<'a>
-        ensures { result ≡ slotted_in (bodies_of bodies.now) }
+    pub(crate) fn of(bodies: SharedBodies<'a>) -> Templates<'a>
+        ensures { result ≡ slotted_in bodies.entry }
     {
         Templates {
             inner: AllTemplates::of(bodies),
@@ -223,12 +254,10 @@ impl<'a> Model for StaticPolicies<'a> {
 }
 
 impl<'a> StaticPolicies<'a> {
-    pub(crate) fn of(policies: &'a [Policy]) -> StaticPolicies<'a>
-        ensures { result ≡ statics_in policies.now }
+    pub(crate) fn of(inner: Policies<'a>) -> StaticPolicies<'a>
+        ensures { result ≡ statics_in inner.entry }
     {
-        StaticPolicies {
-            inner: Policies::of(policies),
-        }
+        StaticPolicies { inner }
     }
 }
 
@@ -263,23 +292,36 @@ fn next_static<'a>(inner: &mut Policies<'a>) -> Option<&'a Policy>
 /// An iterator over the ids of the policies that use a body, in insertion order.
 #[derive(Drop)]
 pub struct LinkedIds<'a> {
-    inner: slice::Iter<'a, PolicyID>,
+    // The id of a static policy. It comes before the other ids.
+    first: Option<&'a PolicyID>,
+    rest: Keys<'a, PolicyID, ()>,
 }
 
 impl<'a> Model for LinkedIds<'a> {
     ghost use Rattle.std.specs.Prelude.{List, ℕ};
-    ghost use Rattle.std.specs.Slice.Iter.{iter_rest};
+    ghost use Rattle.cedar_policy_maps.specs.Views.{ids_left};
 
     ghost Value = { List (List ℕ) };
 
-    ghost view = { λ s. iter_rest s.inner };
+    ghost view = { λ s. ids_left s.first s.rest };
 }
 
 impl<'a> LinkedIds<'a> {
-    pub(crate) fn of(ids: &'a [PolicyID]) -> LinkedIds<'a>
-        ensures { result ≡ ids.now }
+    // Iterates over the ids of the links of a template.
+    pub(crate) fn of(rest: Keys<'a, PolicyID, ()>) -> LinkedIds<'a>
+        ensures { result ≡ rest.entry }
     {
-        LinkedIds { inner: ids.iter() }
+        LinkedIds { first: None, rest }
+    }
+
+    // Iterates over the id of a static policy.
+    pub(crate) fn of_one(id: &'a PolicyID) -> LinkedIds<'a>
+        ensures { result ≡ id.now ∷ [] }
+    {
+        LinkedIds {
+            first: Some(id),
+            rest: Keys::empty(),
+        }
     }
 }
 
@@ -291,6 +333,12 @@ impl<'a> Iterator for LinkedIds<'a> {
     ghost remaining = { item_count (λ s. s) };
 
     fn next(&mut self) -> Option<&'a PolicyID> {
-        self.inner.next()
+        match self.first {
+            None => self.rest.next(),
+            Some(id) => {
+                self.first = None;
+                Some(id)
+            }
+        }
     }
 }

@@ -16,7 +16,9 @@ pub mod policy_maps;
 mod policy_or_template;
 
 pub use bulk_insert::SharedAndNew;
-pub use iters::{AllTemplates, IntoPolicies, LinkedIds, Policies, StaticPolicies, Templates};
+pub use iters::{
+    AllTemplates, IntoPolicies, LinkedIds, Policies, SharedBodies, StaticPolicies, Templates,
+};
 pub use lists::{has_no_slots, is_link};
 pub use policy_maps::PolicyMaps;
 pub use policy_or_template::PolicyOrTemplate;

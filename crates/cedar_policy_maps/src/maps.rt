@@ -1,5 +1,5 @@
 //! Operations on one map: appending entries, changing lists of ids, and creating maps from lists.
-ghost use Rattle.std.specs.Prelude.{◌≡◌, ◌<◌, ◌++◌, ◌∷◌, [], None, not, is_some, OnOk, OnErr, IfOk};
+ghost use Rattle.std.specs.Prelude.{◌≡◌, ◌<◌, ◌≤◌, length, ◌++◌, ◌∷◌, [], None, not, is_some, OnOk, OnErr, IfOk};
 ghost use Rattle.std.specs.List.{filter, list_any};
 ghost use Rattle.std.specs.Map.{keys_of, values_of};
 ghost use Rattle.cedar_ids.specs.Texts.{same_text};
@@ -17,6 +17,7 @@ ghost use Rattle.indexmap.specs.IndexSet.{insert_key, remove_key};
 
 use crate::lists::{is_link, template_of};
 use cedar_ids::policy_id::PolicyID;
+use cedar_linked_map::{LinkedMap, LinkedSet};
 use cedar_policy::{Policy, Template};
 use indexmap::{IndexMap, IndexSet};
 use std::alloc::{AllocError, Global};
@@ -25,7 +26,7 @@ use std::rc::Rc;
 
 // Appends a value with a new key. The space must be reserved.
 pub(crate) fn insert_reserved<V: Drop, S: BuildHasher + Copy>(
-    map: &mut IndexMap<PolicyID, V, S>,
+    map: &mut LinkedMap<PolicyID, V, S>,
     key: PolicyID,
     value: V,
 )
@@ -33,7 +34,7 @@ pub(crate) fn insert_reserved<V: Drop, S: BuildHasher + Copy>(
     requires absent { get same_text map.old key ≡ None }
     ensures { map.new.entries ≡ map.old.entries ++ (key, value) ∷ [] }
 {
-    map.insert(key, value).unwrap();
+    map.push(key, value);
 }
 
 // Appends a value with a new key.
@@ -45,8 +46,7 @@ fn insert_new<V: Drop, S: BuildHasher + Copy>(
     requires { get same_text map.old key ≡ None }
     ensures { OnOk result (map.new.entries ≡ map.old.entries ++ (key, value) ∷ []) }
 {
-    map.reserve(1)?;
-    insert_reserved(map, key, value);
+    map.insert(key, value)?;
     Ok(())
 }
 
@@ -63,8 +63,8 @@ pub(crate) struct Joining {
 
 // Reserves space for one more body and its list, and returns two copies of its id.
 pub(crate) fn room_for_body<S: BuildHasher + Copy>(
-    templates: &mut IndexMap<PolicyID, Rc<Template>, S>,
-    map: &mut IndexMap<PolicyID, IndexSet<PolicyID, S>, S>,
+    templates: &mut LinkedMap<PolicyID, Rc<Template>, S>,
+    map: &mut LinkedMap<PolicyID, LinkedSet<PolicyID, S>, S>,
     template: &Template,
 ) -> Result<(PolicyID, PolicyID), AllocError>
     ensures bodies { templates.new.entries ≡ templates.old.entries }
@@ -81,8 +81,8 @@ pub(crate) fn room_for_body<S: BuildHasher + Copy>(
 
 // Reserves space for one more policy, appends its id to the list of its template, and returns a copy of the id.
 pub(crate) fn list_policy<S: BuildHasher + Copy>(
-    links: &mut IndexMap<PolicyID, Policy, S>,
-    map: &mut IndexMap<PolicyID, IndexSet<PolicyID, S>, S>,
+    links: &mut LinkedMap<PolicyID, Policy, S>,
+    map: &mut LinkedMap<PolicyID, LinkedSet<PolicyID, S>, S>,
     policy: &Policy,
 ) -> Result<PolicyID, AllocError>
     ensures policies { links.new.entries ≡ links.old.entries }
@@ -101,8 +101,8 @@ pub(crate) fn list_policy<S: BuildHasher + Copy>(
 
 // Reserves space for one more policy and its body, and returns their keys and the shared body.
 pub(crate) fn reserve_with_body<S: BuildHasher + Copy>(
-    templates: &mut IndexMap<PolicyID, Rc<Template>, S>,
-    links: &mut IndexMap<PolicyID, Policy, S>,
+    templates: &mut LinkedMap<PolicyID, Rc<Template>, S>,
+    links: &mut LinkedMap<PolicyID, Policy, S>,
     policy: &Policy,
 ) -> Result<Joining, AllocError>
     ensures bodies { templates.new.entries ≡ templates.old.entries }
@@ -126,9 +126,9 @@ pub(crate) fn reserve_with_body<S: BuildHasher + Copy>(
 
 // Reserves space for one more list. Returns a copy of the id of a link's template, and the list of the link's id.
 pub(crate) fn room_for_list<S: BuildHasher + Copy>(
-    map: &mut IndexMap<PolicyID, IndexSet<PolicyID, S>, S>,
+    map: &mut LinkedMap<PolicyID, LinkedSet<PolicyID, S>, S>,
     policy: &Policy,
-) -> Result<(PolicyID, IndexSet<PolicyID, S>), AllocError>
+) -> Result<(PolicyID, LinkedSet<PolicyID, S>), AllocError>
     ensures lists { map.new.entries ≡ map.old.entries }
     ensures room { OnOk result (0 < spare map.new) }
     ensures list { IfOk result (λ r. (r.0 ≡ policy.now.template.id) × (r.1.keys ≡ policy_id policy.now ∷ [])) }
@@ -144,17 +144,17 @@ fn set_of<S: BuildHasher + Copy>(
     alloc: Global,
     hasher: S,
     id: &PolicyID,
-) -> Result<IndexSet<PolicyID, S>, AllocError>
+) -> Result<LinkedSet<PolicyID, S>, AllocError>
     ensures { IfOk result (λ s. s.keys ≡ id.now ∷ []) }
 {
-    let mut ids = IndexSet::with_hasher(alloc, hasher);
+    let mut ids = LinkedSet::with_hasher(alloc, hasher);
     insert_id_copy(&mut ids, id)?;
     Ok(ids)
 }
 
 // Appends a copy of an id to a set, unless the set contains it.
 fn insert_id_copy<S: BuildHasher + Copy>(
-    ids: &mut IndexSet<PolicyID, S>,
+    ids: &mut LinkedSet<PolicyID, S>,
     id: &PolicyID,
 ) -> Result<(), AllocError>
     ensures { OnOk result (ids.new.keys ≡ insert_key same_text ids.old.keys id.now) }
@@ -164,7 +164,7 @@ fn insert_id_copy<S: BuildHasher + Copy>(
 
 // Appends an id to a set, unless the set contains it.
 fn insert_id<S: BuildHasher + Copy>(
-    ids: &mut IndexSet<PolicyID, S>,
+    ids: &mut LinkedSet<PolicyID, S>,
     id: PolicyID,
 ) -> Result<(), AllocError>
     ensures ok { OnOk result (ids.new.keys ≡ insert_key same_text ids.old.keys id) }
@@ -175,7 +175,7 @@ fn insert_id<S: BuildHasher + Copy>(
 }
 
 // Removes an id from a set. The order of the other ids does not change.
-fn remove_id<S: BuildHasher + Copy>(ids: &mut IndexSet<PolicyID, S>, id: &PolicyID)
+fn remove_id<S: BuildHasher + Copy>(ids: &mut LinkedSet<PolicyID, S>, id: &PolicyID)
     ensures { ids.new.keys ≡ remove_key (same_text id.now) ids.old.keys }
 {
     ids.shift_remove(id);
@@ -183,7 +183,7 @@ fn remove_id<S: BuildHasher + Copy>(ids: &mut IndexSet<PolicyID, S>, id: &Policy
 
 // Appends an id to the list of a template, if there is one.
 pub(crate) fn list_link<S: BuildHasher + Copy>(
-    map: &mut IndexMap<PolicyID, IndexSet<PolicyID, S>, S>,
+    map: &mut LinkedMap<PolicyID, LinkedSet<PolicyID, S>, S>,
     body: &PolicyID,
     id: PolicyID,
 ) -> Result<(), AllocError>
@@ -198,7 +198,7 @@ pub(crate) fn list_link<S: BuildHasher + Copy>(
 
 // Removes an id from the list of a body, if there is one.
 fn unlist_id<S: BuildHasher + Copy>(
-    map: &mut IndexMap<PolicyID, IndexSet<PolicyID, S>, S>,
+    map: &mut LinkedMap<PolicyID, LinkedSet<PolicyID, S>, S>,
     body: &PolicyID,
     id: &PolicyID,
 )
@@ -212,7 +212,7 @@ fn unlist_id<S: BuildHasher + Copy>(
 
 // Removes the id of a removed policy, if there is one, from the list of its template.
 pub(crate) fn unlist<S: BuildHasher + Copy>(
-    map: &mut IndexMap<PolicyID, IndexSet<PolicyID, S>, S>,
+    map: &mut LinkedMap<PolicyID, LinkedSet<PolicyID, S>, S>,
     policy: &Option<Policy>,
     id: &PolicyID,
 )
@@ -314,9 +314,9 @@ fn insert_policy<S: BuildHasher + Copy>(
 #[derive(Drop)]
 pub(crate) struct EnteringLists<S: BuildHasher> {
     // The ids of the links of each new template.
-    pub(crate) listed: IndexMap<PolicyID, IndexSet<PolicyID, S>, S>,
+    pub(crate) listed: IndexMap<PolicyID, LinkedSet<PolicyID, S>, S>,
     // The ids of the new links of each existing template.
-    pub(crate) grown: IndexMap<PolicyID, IndexSet<PolicyID, S>, S>,
+    pub(crate) grown: IndexMap<PolicyID, LinkedSet<PolicyID, S>, S>,
 }
 
 // Returns the ids of new links by the ids of their templates. A new body is a template if no new policy has its id.
@@ -344,7 +344,7 @@ fn no_ids<S: BuildHasher + Copy>(
     alloc: Global,
     bodies: &[Rc<Template>],
     known: &IndexMap<PolicyID, Policy, S>,
-) -> Result<IndexMap<PolicyID, IndexSet<PolicyID, S>, S>, AllocError>
+) -> Result<IndexMap<PolicyID, LinkedSet<PolicyID, S>, S>, AllocError>
     requires bodies { AreOnce (λ (t : BodyParts). t.id) (bodies_of bodies.now) }
     requires keyed { IsKeyed policy_id known.now.entries }
     ensures { IfOk result (λ m. lists_of m.entries ≡ ids_by_body
@@ -359,7 +359,7 @@ fn no_ids<S: BuildHasher + Copy>(
 
 // Appends an empty list for a template, unless a policy has its id.
 fn push_empty_list<S: BuildHasher + Copy>(
-    map: &mut IndexMap<PolicyID, IndexSet<PolicyID, S>, S>,
+    map: &mut IndexMap<PolicyID, LinkedSet<PolicyID, S>, S>,
     template: &Rc<Template>,
     known: &IndexMap<PolicyID, Policy, S>,
 ) -> Result<(), AllocError>
@@ -371,15 +371,15 @@ fn push_empty_list<S: BuildHasher + Copy>(
     if known.contains_key(template.id()) {
         return Ok(());
     }
-    let ids = IndexSet::with_hasher(*map.allocator(), *map.hasher());
+    let ids = LinkedSet::with_hasher(*map.allocator(), *map.hasher());
     insert_new(map, template.id().clone()?, ids)
 }
 
 // Appends each link's id to the list of its template: in the first map if the template has a list there, else in the
 // second.
 fn list_links<S: BuildHasher + Copy>(
-    listed: &mut IndexMap<PolicyID, IndexSet<PolicyID, S>, S>,
-    grown: &mut IndexMap<PolicyID, IndexSet<PolicyID, S>, S>,
+    listed: &mut IndexMap<PolicyID, LinkedSet<PolicyID, S>, S>,
+    grown: &mut IndexMap<PolicyID, LinkedSet<PolicyID, S>, S>,
     policies: &[Policy],
 ) -> Result<(), AllocError>
     ensures listed { OnOk result (lists_of listed.new.entries
@@ -395,8 +395,8 @@ fn list_links<S: BuildHasher + Copy>(
 
 // Appends the id of a policy to a list in one of two maps, if it is a link.
 fn list_if_link<S: BuildHasher + Copy>(
-    listed: &mut IndexMap<PolicyID, IndexSet<PolicyID, S>, S>,
-    grown: &mut IndexMap<PolicyID, IndexSet<PolicyID, S>, S>,
+    listed: &mut IndexMap<PolicyID, LinkedSet<PolicyID, S>, S>,
+    grown: &mut IndexMap<PolicyID, LinkedSet<PolicyID, S>, S>,
     policy: &Policy,
 ) -> Result<(), AllocError>
     ensures listed { OnOk result (lists_of listed.new.entries
@@ -414,8 +414,8 @@ fn list_if_link<S: BuildHasher + Copy>(
 // Appends a copy of an id to the list of a template: in the first map if the template has a list there, else in the
 // second.
 fn list_in_either<S: BuildHasher + Copy>(
-    listed: &mut IndexMap<PolicyID, IndexSet<PolicyID, S>, S>,
-    grown: &mut IndexMap<PolicyID, IndexSet<PolicyID, S>, S>,
+    listed: &mut IndexMap<PolicyID, LinkedSet<PolicyID, S>, S>,
+    grown: &mut IndexMap<PolicyID, LinkedSet<PolicyID, S>, S>,
     body: &PolicyID,
     id: &PolicyID,
 ) -> Result<(), AllocError>
@@ -432,7 +432,7 @@ fn list_in_either<S: BuildHasher + Copy>(
 
 // Appends a copy of an id to the list of a template. Appends the list first if there is none.
 fn gather_id<S: BuildHasher + Copy>(
-    map: &mut IndexMap<PolicyID, IndexSet<PolicyID, S>, S>,
+    map: &mut IndexMap<PolicyID, LinkedSet<PolicyID, S>, S>,
     body: &PolicyID,
     id: &PolicyID,
 ) -> Result<(), AllocError>
@@ -446,7 +446,7 @@ fn gather_id<S: BuildHasher + Copy>(
 
 // Appends the list of one id with a new key. Both are copied.
 fn push_list<S: BuildHasher + Copy>(
-    map: &mut IndexMap<PolicyID, IndexSet<PolicyID, S>, S>,
+    map: &mut IndexMap<PolicyID, LinkedSet<PolicyID, S>, S>,
     body: &PolicyID,
     id: &PolicyID,
 ) -> Result<(), AllocError>
@@ -467,10 +467,39 @@ pub(crate) fn filter_templates<S: BuildHasher + Copy>(
     map.retain(|id, _| !links.contains_key(id));
 }
 
+// Returns the map of lists whose removals take constant time.
+pub(crate) fn linked_lists<S: BuildHasher + Copy>(
+    alloc: Global,
+    map: IndexMap<PolicyID, IndexSet<PolicyID, S>, S>,
+) -> Result<LinkedMap<PolicyID, LinkedSet<PolicyID, S>, S>, AllocError>
+    ensures { IfOk result (λ m. lists_of m.entries ≡ lists_of map.entries) }
+{
+    let mut lists = LinkedMap::with_capacity_and_hasher(alloc, map.len(), *map.hasher())?;
+    link_lists(alloc, &mut lists, map)?;
+    Ok(lists)
+}
+
+// Appends lists to an empty map. The space must be reserved.
+fn link_lists<S: BuildHasher + Copy>(
+    alloc: Global,
+    lists: &mut LinkedMap<PolicyID, LinkedSet<PolicyID, S>, S>,
+    map: IndexMap<PolicyID, IndexSet<PolicyID, S>, S>,
+) -> Result<(), AllocError>
+    requires empty { lists.old.entries ≡ [] }
+    requires room { length map.entries ≤ spare lists.old }
+    ensures { OnOk result (lists_of lists.new.entries ≡ lists_of map.entries) }
+{
+    for (body, ids) in map {
+        let ids = LinkedSet::from_index_set(alloc, ids)?;
+        lists.push(body, ids);
+    }
+    Ok(())
+}
+
 // Copies the map of bodies. The bodies are shared.
 pub(crate) fn copy_of_bodies<S: BuildHasher + Copy>(
-    templates: &IndexMap<PolicyID, Rc<Template>, S>,
-) -> Result<IndexMap<PolicyID, Rc<Template>, S>, AllocError>
+    templates: &LinkedMap<PolicyID, Rc<Template>, S>,
+) -> Result<LinkedMap<PolicyID, Rc<Template>, S>, AllocError>
     ensures { IfOk result (λ m. shared_of m.entries ≡ shared_of templates.now.entries) }
 {
     let copies = templates.clone()?;
@@ -479,8 +508,8 @@ pub(crate) fn copy_of_bodies<S: BuildHasher + Copy>(
 
 // Copies the map of policies.
 pub(crate) fn copy_of_policies<S: BuildHasher + Copy>(
-    links: &IndexMap<PolicyID, Policy, S>,
-) -> Result<IndexMap<PolicyID, Policy, S>, AllocError>
+    links: &LinkedMap<PolicyID, Policy, S>,
+) -> Result<LinkedMap<PolicyID, Policy, S>, AllocError>
     ensures { IfOk result (λ m. m.entries ≡ links.now.entries) }
 {
     let copies = links.clone()?;
@@ -489,8 +518,8 @@ pub(crate) fn copy_of_policies<S: BuildHasher + Copy>(
 
 // Copies the map of lists.
 pub(crate) fn copy_of_ids<S: BuildHasher + Copy>(
-    map: &IndexMap<PolicyID, IndexSet<PolicyID, S>, S>,
-) -> Result<IndexMap<PolicyID, IndexSet<PolicyID, S>, S>, AllocError>
+    map: &LinkedMap<PolicyID, LinkedSet<PolicyID, S>, S>,
+) -> Result<LinkedMap<PolicyID, LinkedSet<PolicyID, S>, S>, AllocError>
     ensures { IfOk result (λ m. lists_of m.entries ≡ lists_of map.now.entries) }
 {
     let copies = map.clone()?;

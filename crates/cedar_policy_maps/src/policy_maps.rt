@@ -1,13 +1,14 @@
 //! The type of the three maps, with its constructors and iterators.
-ghost use Rattle.std.specs.Prelude.{◌≡◌, ◌↔◌, [], IsTrue};
+ghost use Rattle.std.specs.Prelude.{◌≡◌, ◌↔◌, [], IfOk, IsTrue};
 ghost use Rattle.cedar_policy_maps.specs.PolicySets.{empty_set, IsPolicySet};
 ghost use Rattle.cedar_policy_maps.specs.Lists.{slotted_in, statics_in};
 ghost use Rattle.cedar_policy_maps.specs.Maps.{set_in, maps_of, CanMakeSet};
 
-use crate::iters::{AllTemplates, IntoPolicies, Policies, StaticPolicies, Templates};
+use crate::iters::{AllTemplates, IntoPolicies, Policies, SharedBodies, StaticPolicies, Templates};
 use crate::lists::read_policies;
-use crate::maps::{copy_of_bodies, copy_of_ids, copy_of_policies, filter_templates};
+use crate::maps::{copy_of_bodies, copy_of_ids, copy_of_policies, filter_templates, linked_lists};
 use cedar_ids::policy_id::PolicyID;
+use cedar_linked_map::{LinkedMap, LinkedSet};
 use cedar_policy::{Policy, Template};
 use indexmap::{IndexMap, IndexSet};
 use std::alloc::{AllocError, Global};
@@ -19,15 +20,16 @@ use std::rc::Rc;
 /// The maps of a policy set. They contain the bodies of templates and static policies by id, the policies by id, and
 /// the ids of the links of each template. `S` builds the hashers for ids.
 ///
-/// `clone` copies the three maps and the policies. Lookups use hashing. A removal keeps the order of the other entries.
+/// `clone` copies the three maps and the policies. Lookups use hashing. A removal takes constant time and keeps the order
+/// of the other entries.
 /// Contracts see two lists: the bodies and the policies, each in insertion order.
 #[derive(Drop)]
 pub struct PolicyMaps<S: BuildHasher> {
-    pub(crate) templates: IndexMap<PolicyID, Rc<Template>, S>,
-    pub(crate) links: IndexMap<PolicyID, Policy, S>,
+    pub(crate) templates: LinkedMap<PolicyID, Rc<Template>, S>,
+    pub(crate) links: LinkedMap<PolicyID, Policy, S>,
     // The ids of the links of each template. Bodies of static policies are not keys, because each has only its own
     // policy.
-    pub(crate) template_to_links_map: IndexMap<PolicyID, IndexSet<PolicyID, S>, S>,
+    pub(crate) template_to_links_map: LinkedMap<PolicyID, LinkedSet<PolicyID, S>, S>,
 }
 
 impl<S: BuildHasher> Model for PolicyMaps<S> {
@@ -50,9 +52,9 @@ impl<S: BuildHasher + Copy> PolicyMaps<S> {
         ensures { result ≡ empty_set }
     {
         PolicyMaps {
-            templates: IndexMap::with_hasher(alloc, hasher),
-            links: IndexMap::with_hasher(alloc, hasher),
-            template_to_links_map: IndexMap::with_hasher(alloc, hasher),
+            templates: LinkedMap::with_hasher(alloc, hasher),
+            links: LinkedMap::with_hasher(alloc, hasher),
+            template_to_links_map: LinkedMap::with_hasher(alloc, hasher),
         }
     }
 
@@ -63,7 +65,7 @@ impl<S: BuildHasher + Copy> PolicyMaps<S> {
 
     /// Creates the maps of a set from three maps. `templates` contains the bodies of templates and static policies, and
     /// `links` the policies. The third map contains the ids of the policies that use each body. From the third map only
-    /// the lists of templates are kept. All maps use the first map's builder of hashers. Does not allocate.
+    /// the lists of templates are kept. All maps use the first map's builder of hashers.
     ///
     /// The caller must ensure that the maps agree:
     ///
@@ -73,16 +75,21 @@ impl<S: BuildHasher + Copy> PolicyMaps<S> {
     /// - The third map has the ids of all bodies as keys, in their order.
     /// - Each list has the ids of the policies that use the body, in the order of the policies.
     ///
+    /// # Errors
+    ///
+    /// Returns `AllocError` if an allocation fails.
+    ///
     /// # Complexity
     ///
-    /// O(n), where n is the number of policies and bodies. The scan of the policies is only needed by the proof.
+    /// O(n), where n is the number of policies and bodies. Allocates three maps, and the lists of templates.
     pub fn from_raw_components(
         templates: IndexMap<PolicyID, Rc<Template>, S>,
         links: IndexMap<PolicyID, Policy, S>,
         template_to_links_map: IndexMap<PolicyID, IndexSet<PolicyID, S>, S>,
-    ) -> PolicyMaps<S>
+    ) -> Result<PolicyMaps<S>, AllocError>
         requires { CanMakeSet (maps_of templates.entries links.entries template_to_links_map.entries) }
-        ensures { result ≡ set_in (maps_of templates.entries links.entries template_to_links_map.entries) }
+        ensures { IfOk result (λ s. s ≡ set_in (maps_of templates.entries links.entries
+            template_to_links_map.entries)) }
     {
         // No effect at run time: the contracts of these calls state that no two keys of a map are equal, and the
         // invariant of each policy.
@@ -91,11 +98,15 @@ impl<S: BuildHasher + Copy> PolicyMaps<S> {
         read_policies(links.values().as_slice());
         let mut template_to_links_map = template_to_links_map;
         filter_templates(&mut template_to_links_map, &links);
-        PolicyMaps {
+        let alloc = *templates.allocator();
+        let template_to_links_map = linked_lists(alloc, template_to_links_map)?;
+        let templates = LinkedMap::from_index_map(alloc, templates)?;
+        let links = LinkedMap::from_index_map(alloc, links)?;
+        Ok(PolicyMaps {
             templates,
             links,
             template_to_links_map,
-        }
+        })
     }
 
     /// Returns whether the set is empty. Does not allocate.
@@ -105,19 +116,19 @@ impl<S: BuildHasher + Copy> PolicyMaps<S> {
     {
         // No effect at run time: for the proof, this borrow states that the maps contain a policy set.
         let _ = &self.templates;
-        are_empty(self.shared_bodies(), self.all_policies())
+        are_empty(self.shared_bodies(), self.policies())
     }
 
     /// Iterates over all policies, static policies and links, in insertion order. Does not allocate.
     pub fn policies(&self) -> Policies<'_>
         ensures { result ≡ self.now.policies }
     {
-        Policies::of(self.all_policies())
+        Policies::of(self.links.values())
     }
 
     /// Consumes the maps and iterates over all policies, static policies and links, in insertion order. Does not
     /// allocate.
-    pub fn into_policies(self) -> IntoPolicies
+    pub fn into_policies(self) -> IntoPolicies<S>
         ensures { result ≡ self.policies }
     {
         let PolicyMaps {
@@ -148,15 +159,15 @@ impl<S: BuildHasher + Copy> PolicyMaps<S> {
     pub fn static_policies(&self) -> StaticPolicies<'_>
         ensures { result ≡ statics_in self.now.policies }
     {
-        StaticPolicies::of(self.all_policies())
+        StaticPolicies::of(self.policies())
     }
 }
 
-// Returns whether both lists are empty.
-fn are_empty(bodies: &[Rc<Template>], policies: &[Policy]) -> bool
-    ensures { IsTrue result ↔ ((bodies.now ≡ []) × (policies.now ≡ [])) }
+// Returns whether both iterators have no items.
+fn are_empty(mut bodies: SharedBodies<'_>, mut policies: Policies<'_>) -> bool
+    ensures { IsTrue result ↔ ((bodies.entry ≡ []) × (policies.entry ≡ [])) }
 {
-    bodies.is_empty() && policies.is_empty()
+    bodies.next().is_none() && policies.next().is_none()
 }
 
 impl<S: BuildHasher + Copy> Clone for PolicyMaps<S> {

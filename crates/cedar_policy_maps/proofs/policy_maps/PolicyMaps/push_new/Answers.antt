@@ -1,4 +1,4 @@
-use Rattle.std.specs.Prelude.{◌++◌}
+use Rattle.std.specs.Prelude.{◌≡◌, ◌++◌, OnErr, Result, Ok, Err}
 use Rattle.std.proofs.Common.{◌∙◌, sym, ap, subst, refl}
 use Rattle.std.specs.Map.{keys_of, values_of}
 use Rattle.cedar_policy_maps.specs.PolicySets.{SetParts}
@@ -9,6 +9,11 @@ use Rattle.cedar_policy_maps.specs.laws.BulkInsertSteps.{grown_by}
 use Rattle.cedar_policy_maps.specs.BulkInsert.{CanBulkInsert, bulk_inserted}
 use Rattle.cedar_policy_maps.proofs.Entered.{bodies_new, policies_new, grown_once, lists_new, entered}
 use Rattle.cedar_policy_maps.proofs.policy_maps.PolicyMaps.push_new.Goals as goal
+
+-- A fact that holds of every result holds of an error.
+on_err : {A E P : Type 0} (r : Result A E) → P → OnErr r P
+on_err (Ok x) p = tt
+on_err (Err e) p = p
 
 pub push_all-requires-clause-new : goal.push_all-requires-clause-new
 push_all-requires-clause-new g c =
@@ -99,3 +104,16 @@ returns-clause-ok g c =
     (c.grow_lists.ensures.lists ∙ ap (λ ls. grown_by ls (lists_of gs)) c.make_room.ensures.lists)
     c.push_all-3.ensures).1
     ∙ ap (λ (b : SetParts). bulk_inserted b (bodies_of (values_of es)) (values_of fs)) c.self.view_is
+
+pub returns-in_err-make_room-clause-err : goal.returns-in_err-make_room-clause-err
+returns-in_err-make_room-clause-err g c =
+    let new : SetParts = set_in (maps_of c.make_room.new.templates.entries c.make_room.new.links.entries
+    c.make_room.new.map.entries) in
+    let same : new ≡ c.args.self.now =
+    (λ j. set_in (record {
+      bodies = shared_of (c.make_room.ensures.bodies j);
+      policies = c.make_room.ensures.policies j;
+      listed = c.make_room.ensures.lists j;
+    }))
+    ∙ c.self.view_is in
+    on_err c.from_residual.result same

@@ -6,5 +6,5 @@ use Rattle.cedar_policy_maps.proofs.policy_maps.PolicyMaps.shared_bodies.Goals a
 
 pub returns : goal.returns
 returns g c =
-    ap bodies_of (c.as_slice.ensures ∙ c.values.ensures.rest) ∙ shared_values c.self.inside.templates.entries
+    c.of.ensures ∙ ap bodies_of c.values.ensures.rest ∙ shared_values c.self.inside.templates.entries
     ∙ ap (λ (b : SetParts). b.bodies) c.self.view_is

@@ -1,8 +1,0 @@
-use Rattle.std.proofs.Common.{◌∙◌}
-use Rattle.cedar_ids.specs.Texts.{same_text}
-use Rattle.indexmap.proofs.CallerLemmas.{insert_entry-new}
-use Rattle.cedar_policy_maps.proofs.maps.insert_reserved.Goals as goal
-
-pub returns : goal.returns
-returns g c = (rw c.unwrap.ensures at c.insert.ensures.entries)
-    ∙ insert_entry-new same_text c.args.map.now c.args.key c.args.value c.requires.absent
