@@ -1,6 +1,6 @@
 //! Lookups of bodies and policies in order. A lookup first tries the place after the last one found, because two sets
-//! mostly have the same order.
-ghost use Rattle.std.specs.Prelude.{◌≡◌, ◌<◌, IfSome, Some, length, is_some, slice_get};
+//! mostly have the same order. The place of the next entry is in the map.
+ghost use Rattle.std.specs.Prelude.{◌≡◌, IfSome, Some};
 ghost use Rattle.std.specs.List.{find, list_any};
 ghost use Rattle.std.specs.Option.{option_copied};
 ghost use Rattle.cedar_body.specs.Bodies.{BodyParts};
@@ -21,7 +21,7 @@ pub(crate) struct Places {
     pub(crate) other: usize,
 }
 
-// Returns the body with this id, and advances the place by one if a body is found.
+// Returns the body with this id, and moves the place behind it.
 pub(crate) fn body_at<'a, S: BuildHasher + Copy>(
     maps: &'a PolicyMaps<S>,
     id: &PolicyID,
@@ -29,29 +29,13 @@ pub(crate) fn body_at<'a, S: BuildHasher + Copy>(
 ) -> Option<&'a Template>
     ensures { option_copied result ≡ find (is_body_at id.now) maps.now.bodies }
 {
-    // No effect at run time: this call shows the prover that the maps satisfy the invariant of a policy set.
-    let _policy_set = maps.is_empty();
-    let bodies = maps.shared_bodies();
-    let place = *next;
-    if place < bodies.len() {
-        let template = &bodies[place];
-        if template.id() == id {
-            *next = place + 1;
-            return Some(&**template);
-        }
-    }
-    match maps.template_at(id) {
+    match maps.body_near(id, next) {
         None => None,
-        Some(template) => {
-            if place < bodies.len() {
-                *next = place + 1;
-            }
-            Some(template)
-        }
+        Some(template) => Some(&**template),
     }
 }
 
-// Returns whether a body has this id, and advances the place by one if so.
+// Returns whether a body has this id, and moves the place behind it.
 #[tactic(auto, using(crate::specs::laws::LookedAtLaws::found_any))]
 pub(crate) fn has_body<S: BuildHasher + Copy>(
     maps: &PolicyMaps<S>,
@@ -71,9 +55,9 @@ pub(crate) fn policy_at<'a, S: BuildHasher + Copy>(
 ) -> Option<&'a Policy>
     ensures { option_copied result ≡ find (is_policy_at id.now) maps.now.policies }
 {
-    match place_of_policy(maps, id, next) {
+    match maps.policy_near(id, next) {
         None => None,
-        Some(place) => Some(&maps.all_policies()[place]),
+        Some((_, policy)) => Some(policy),
     }
 }
 
@@ -86,38 +70,7 @@ pub(crate) fn has_policy<S: BuildHasher + Copy>(
 ) -> bool
     ensures { result ≡ list_any (is_policy_at id.now) maps.now.policies }
 {
-    place_of_policy(maps, id, next).is_some()
-}
-
-// Returns the place of the policy with this id, and moves the place to try behind it.
-pub(crate) fn place_of_policy<S: BuildHasher + Copy>(
-    maps: &PolicyMaps<S>,
-    id: &PolicyID,
-    next: &mut usize,
-) -> Option<usize>
-    ensures within { IfSome result (λ k. k < length maps.now.policies) }
-    ensures found { is_some result ≡ is_some (find (is_policy_at id.now) maps.now.policies) }
-    ensures policy { IfSome result (λ k. slice_get maps.now.policies k
-        ≡ find (is_policy_at id.now) maps.now.policies) }
-{
-    // No effect at run time: this call shows the prover that the maps satisfy the invariant of a policy set.
-    let _policy_set = maps.is_empty();
-    let policies = maps.all_policies();
-    let place = *next;
-    if place < policies.len() {
-        let policy = &policies[place];
-        if policy.id() == id {
-            *next = place + 1;
-            return Some(place);
-        }
-    }
-    match maps.place_of_policy(id) {
-        None => None,
-        Some(place) => {
-            *next = place + 1;
-            Some(place)
-        }
-    }
+    policy_at(maps, id, next).is_some()
 }
 
 // Returns the body with this id from the index `*next` on, if there is one. `*next` is then the index after it, and

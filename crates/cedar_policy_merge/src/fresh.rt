@@ -160,7 +160,7 @@ fn size<S: BuildHasher + Copy>(set: &PolicyMaps<S>) -> u128
     ensures size { result ≡ length set.now.policies + length set.now.bodies }
     ensures small { result < 2 ^ 65 }
 {
-    set.all_policies().len() as u128 + set.shared_bodies().len() as u128
+    set.policy_count() as u128 + set.body_count() as u128
 }
 
 // Returns the renaming of `ids` to the first free ids, in order.

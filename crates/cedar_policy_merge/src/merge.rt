@@ -27,15 +27,13 @@ ghost use Rattle.cedar_policy_merge.specs.laws.SharedLaws.{IsOnBody, IsOnJoined}
 ghost use Rattle.cedar_policy_merge.specs.laws.TemplatesAlike.{AllStandUnless, AreSameUnless, StandsUnless};
 ghost use Rattle.cedar_policy_maps.specs.Views.{bodies_of};
 
-use crate::cursor_lookup::{
-    Places, body_at, has_body, has_policy, new_body_at, place_of_policy, policy_at,
-};
+use crate::cursor_lookup::{Places, body_at, has_body, has_policy, new_body_at, policy_at};
 use crate::fresh::fresh_ids;
 use crate::places::are_placed_as;
 use cedar_binding::same_bindings;
 use cedar_ids::policy_id::PolicyID;
 use cedar_policy::{LinkingError, Policy, Template};
-use cedar_policy_maps::{PolicyMaps, SharedAndNew, is_link};
+use cedar_policy_maps::{PolicyMaps, SharedAndNew, is_link, iters};
 use cedar_policy_set_errors::err::PolicySetError;
 use indexmap::{IndexMap, IndexSet};
 use std::alloc::{AllocError, Global};
@@ -233,7 +231,7 @@ fn gather_policies<S: BuildHasher + Copy>(
     // No effect at run time: these calls show the prover that both maps satisfy the invariant of a policy set.
     let _policy_sets = (here.is_empty(), other.is_empty());
     let mut next = 0;
-    for policy in other.all_policies() {
+    for policy in other.policies() {
         gather_policy(ids, templates, here, policy, &mut next)?;
     }
     Ok(())
@@ -427,20 +425,19 @@ fn is_bound_in_target<S: BuildHasher + Copy>(
     }
 }
 
-// Returns the place of this set's policy with this id after renaming. This set uses no new id.
-fn position_of<S: BuildHasher + Copy>(
-    here: &PolicyMaps<S>,
+// Returns this set's policy with this id after renaming, and its place. This set uses no new id.
+fn policy_in_target<'a, S: BuildHasher + Copy>(
+    here: &'a PolicyMaps<S>,
     new: Option<&PolicyID>,
     id: &PolicyID,
     next: &mut usize,
-) -> Option<usize>
+) -> Option<(usize, &'a Policy)>
     requires { IfSome (option_copied new) (λ v. is_bound here.now v ≡ false) }
-    ensures within { IfSome result (λ k. k < length here.now.policies) }
-    ensures found { is_some result ≡ has_policy here.now (unwrap_or (option_copied new.entry) id.now) }
+    ensures { is_some result ≡ has_policy here.now (unwrap_or (option_copied new.entry) id.now) }
 {
     match new {
         Some(_new) => None,
-        None => place_of_policy(here, id, next),
+        None => here.policy_near(id, next),
     }
 }
 
@@ -498,16 +495,16 @@ fn part_bodies<S: BuildHasher + Copy>(
     alloc: Global,
     parted: &mut SharedAndNew<Rc<Template>>,
     here: &PolicyMaps<S>,
-    theirs: &[Rc<Template>],
+    theirs: iters::SharedBodies<'_>,
     renaming: &IndexMap<PolicyID, PolicyID, S>,
 ) -> Result<(), AllocError>
     requires { AreFreeHere here.now renaming.now.entries }
     ensures stand { OnOk result (bodies_of parted.new.stand.items
         ≡ bodies_of parted.old.stand.items ++ standing_bodies here.now (new_id renaming.now.entries)
-        (bodies_of theirs.now)) }
+        theirs.entry) }
     ensures join { OnOk result (bodies_of parted.new.join.items
         ≡ bodies_of parted.old.join.items ++ merged_bodies here.now (new_id renaming.now.entries)
-        (bodies_of theirs.now)) }
+        theirs.entry) }
 {
     let mut next = 0;
     for template in theirs {
@@ -586,7 +583,7 @@ fn parted_policies<S: BuildHasher + Copy>(
         next: 0,
         joined: 0,
     };
-    let theirs = other.all_policies();
+    let theirs = other.policies();
     part_policies(alloc, &mut parted, here, theirs, renaming, joined)?;
     Ok((parted.policies, parted.shares))
 }
@@ -596,15 +593,15 @@ fn part_policies<S: BuildHasher + Copy>(
     alloc: Global,
     parted: &mut SharedAndNewPolicies,
     here: &PolicyMaps<S>,
-    theirs: &[Policy],
+    theirs: iters::Policies<'_>,
     renaming: &IndexMap<PolicyID, PolicyID, S>,
     joined: &[Rc<Template>],
 ) -> Result<(), AllocError>
     requires free { AreFreeHere here.now renaming.now.entries }
     requires once { AreOnce (λ (t : BodyParts). t.id) (bodies_of joined.now) }
-    requires on { AreAll (IsOnJoined (bodies_of joined.now) (new_id renaming.now.entries)) theirs.now }
+    requires on { AreAll (IsOnJoined (bodies_of joined.now) (new_id renaming.now.entries)) theirs }
     ensures { OnOk result (parted.new.policies.join.items ≡ parted.old.policies.join.items
-        ++ merged_policies here.now (new_id renaming.now.entries) theirs.now) }
+        ++ merged_policies here.now (new_id renaming.now.entries) theirs.entry) }
 {
     for policy in theirs {
         part_policy(alloc, parted, here, policy, renaming, joined)?;
@@ -629,8 +626,7 @@ fn part_policy<S: BuildHasher + Copy>(
         ++ merged_policies here.now (new_id renaming.now.entries) (policy.now ∷ [])) }
 {
     let new = new_of(renaming, policy.id());
-    if let Some(place) = position_of(here, new, policy.id(), &mut parted.next) {
-        let stands = &here.all_policies()[place];
+    if let Some((place, stands)) = policy_in_target(here, new, policy.id(), &mut parted.next) {
         push_shared(parted, place, stands, policy)?;
         return Ok(());
     }

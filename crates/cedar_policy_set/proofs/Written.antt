@@ -1,46 +1,52 @@
--- The text of a body and of the bodies after it.
+-- The text of lists of bodies and policies.
 use Rattle.std.specs.Prelude.{◌≡◌, ◌↔◌, ℕ, List, [], ◌∷◌, ◌++◌, Bool, true, false, ◌&&◌, refl, codes, IsTrue}
-use Rattle.std.specs.declared.rc.Rc.{Rc}
-use Rattle.std.specs.declared.alloc.Global.{Global}
 use Rattle.std.specs.declared.fmt.Formatter.{Formatter}
 use Rattle.std.specs.Fmt.{HasWritten, IsPlainFormatter}
 use Rattle.std.specs.List.{flat_map, list_all}
-use Rattle.std.proofs.Common.{ap, ◌∙◌}
+use Rattle.std.proofs.Common.{ap, ◌∙◌, sym}
 use Rattle.std.proofs.lemmas.Bool.{false≢true}
-use Rattle.std.proofs.lemmas.Grind.{put_two}
+use Rattle.std.proofs.lemmas.Grind.{flat_map-append, put_two}
+use Rattle.std.proofs.lemmas.List.{append-nil}
 use Rattle.cedar_body.specs.Bodies.{BodyParts}
-use Rattle.cedar_policy_set.specs.SetTexts.{is_known_body, known_body, body_line, orders_text, titled_text}
 use Rattle.cedar_policy.specs.Policies.{PolicyParts}
-use Rattle.cedar_policy_maps.specs.Views.{bodies_of}
-use Rattle.cedar_policy_set.proofs.Told.{lines_told, known_told}
+use Rattle.cedar_policy_set.specs.SetTexts.{orders_text, titled_text}
+use Rattle.cedar_policy_maps.specs.PolicySets.{SetParts, empty_set}
 
-both : (a b : Bool) → (a && b) ≡ true → (a ≡ true) × (b ≡ true)
+pub both : (a b : Bool) → (a && b) ≡ true → (a ≡ true) × (b ≡ true)
 both true b h = (refl, h)
 both false b h = absurd (false≢true h)
 
-pub body_then : {W : Type 0} (took : W → List ℕ → W → Type 0) (first : BodyParts) (rest : List (Rc BodyParts Global))
-    (f g h : Formatter W) →
-    (is_known_body first ≡ true → IsPlainFormatter f → HasWritten took f (known_body first) g) →
-    (list_all (λ t. is_known_body t.value) rest ≡ true → IsPlainFormatter g
-    → HasWritten took g (flat_map (λ t. body_line t.value) rest) h) →
-    (is_known_body first && list_all is_known_body (bodies_of rest)) ≡ true → IsPlainFormatter f →
-    HasWritten took f (known_body first ++ flat_map body_line (bodies_of rest)) h
-body_then took first rest f g h p q k plain =
-    let b = both (is_known_body first) _ k in
+-- The first text and the other texts.
+pub first_then : {W X : Type 0} (took : W → List ℕ → W → Type 0) (known : X → Bool) (text : X → List ℕ) (line : X → List ℕ)
+    (x : X) (xs : List X) (f g h : Formatter W) →
+    (known x ≡ true → IsPlainFormatter f → HasWritten took f (text x) g) →
+    (list_all known xs ≡ true → IsPlainFormatter g → HasWritten took g (flat_map line xs) h) →
+    (known x && list_all known xs) ≡ true → IsPlainFormatter f →
+    HasWritten took f (text x ++ flat_map line xs) h
+first_then took known text line x xs f g h p q k plain =
+    let b = both (known x) (list_all known xs) k in
     let one = p b.0 plain in
-    let more = q (known_told rest ∙ b.1) one.plain in
-    put_two took f g h _ _ _ one more (ap (λ x. known_body first ++ x) (lines_told rest))
+    put_two took f g h _ _ _ one (q b.1 one.plain) refl
+
+-- One more line.
+pub line_more : {W X : Type 0} (took : W → List ℕ → W → Type 0) (line : X → List ℕ) (done : List X) (x : X) (f g h : Formatter W) →
+    HasWritten took f (flat_map line done) g → HasWritten took g (line x) h → HasWritten took f (flat_map line (done ++ x ∷ [])) h
+line_more took line done x f g h p q =
+    put_two took f g h _ _ _ p q
+    (sym (flat_map-append line done (x ∷ []) ∙ ap (λ t. flat_map line done ++ t) (append-nil (line x))))
 
 -- The text of an empty set.
-pub empty_text : (ts : List (Rc BodyParts Global)) (ps : List PolicyParts) (v : Bool)
-    → (IsTrue v ↔ ((ts ≡ []) × (ps ≡ []))) → v ≡ true → orders_text (bodies_of ts) ps ≡ codes "<empty policyset>"
-empty_text ts ps true h e = let b = h.0 refl in (λ i. orders_text (bodies_of (b.0 i)) (b.1 i))
-empty_text ts ps false h e = absurd (false≢true e)
+pub empty_text : (b : SetParts) (v : Bool) → (IsTrue v ↔ (b ≡ empty_set)) → v ≡ true
+    → orders_text b.bodies b.policies ≡ codes "<empty policyset>"
+empty_text b true h e = ap (λ (b : SetParts). orders_text b.bodies b.policies) (h.0 refl)
+empty_text b false h e = absurd (false≢true e)
 
-pub full_text : (ts : List (Rc BodyParts Global)) (ps : List PolicyParts) (v : Bool)
-    → (IsTrue v ↔ ((ts ≡ []) × (ps ≡ []))) → v ≡ false → orders_text (bodies_of ts) ps ≡ titled_text (bodies_of ts) ps
-full_text [] [] true h e = absurd (false≢true (cc))
-full_text [] [] false h e = absurd (cc (h.1 (refl, refl)))
-full_text [] (p ∷ ps) v h e = refl
-full_text (t ∷ ts) [] v h e = refl
-full_text (t ∷ ts) (p ∷ ps) v h e = refl
+pub full_text : (b : SetParts) (v : Bool) → (IsTrue v ↔ (b ≡ empty_set)) → v ≡ false
+    → orders_text b.bodies b.policies ≡ titled_text b.bodies b.policies
+full_text b v h e = by b.bodies b.policies (λ q. absurd (false≢true (sym e ∙ h.1 q)))
+  where
+    by : (ts : List BodyParts) (ps : List PolicyParts) → (◌≡◌ {A = SetParts} (record { bodies = ts; policies = ps }) empty_set → ⊥) → orders_text ts ps ≡ titled_text ts ps
+    by [] [] none = absurd (none refl)
+    by [] (p ∷ ps) none = refl
+    by (t ∷ ts) [] none = refl
+    by (t ∷ ts) (p ∷ ps) none = refl

@@ -1,5 +1,5 @@
 //! The type of policy sets, and its readers.
-ghost use Rattle.std.specs.Prelude.{◌≡◌, ◌↔◌, IfErr, IsErr, IsTrue};
+ghost use Rattle.std.specs.Prelude.{◌≡◌, ◌↔◌, IfErr, IfOk, IsErr, IsTrue};
 ghost use Rattle.std.specs.List.{find};
 ghost use Rattle.std.specs.Option.{option_copied, option_map};
 ghost use Rattle.cedar_policy_maps.specs.PolicySets.{empty_set, is_body_at, is_policy_at, IsPolicySet};
@@ -15,7 +15,7 @@ use cedar_policy_maps::{
 };
 use cedar_policy_set_errors::err::PolicySetGetLinksError;
 use indexmap::{IndexMap, IndexSet};
-use std::alloc::Global;
+use std::alloc::{AllocError, Global};
 use std::fmt;
 use std::hash::{BuildHasher, BuildHasherDefault, FoldHasher};
 use std::marker::Model;
@@ -88,10 +88,13 @@ impl<S: BuildHasher + Copy> PolicySet<S> {
     /// - The third map has the ids of all bodies as keys, in their order.
     /// - Each list has the ids of the policies that use the body, in the order of the policies.
     ///
+    /// # Errors
+    ///
+    /// Returns `AllocError` if an allocation fails.
+    ///
     /// # Complexity
     ///
-    /// O(n), where n is the number of policies and bodies. Does not allocate. The scan of the policies is only needed
-    /// by the proof.
+    /// O(n), where n is the number of policies and bodies. Allocates three maps, and the lists of templates.
     ///
     /// # Differences from cedar-policy-core
     ///
@@ -100,13 +103,13 @@ impl<S: BuildHasher + Copy> PolicySet<S> {
         templates: IndexMap<PolicyID, Rc<Template>, S>,
         links: IndexMap<PolicyID, Policy, S>,
         template_to_links_map: IndexMap<PolicyID, IndexSet<PolicyID, S>, S>,
-    ) -> PolicySet<S>
+    ) -> Result<PolicySet<S>, AllocError>
         requires { CanMakeSet (maps_of templates.entries links.entries template_to_links_map.entries) }
-        ensures { result ≡ set_in (maps_of templates.entries links.entries template_to_links_map.entries) }
+        ensures { IfOk result (λ s. s ≡ set_in (maps_of templates.entries links.entries
+            template_to_links_map.entries)) }
     {
-        PolicySet {
-            maps: PolicyMaps::from_raw_components(templates, links, template_to_links_map),
-        }
+        let maps = PolicyMaps::from_raw_components(templates, links, template_to_links_map)?;
+        Ok(PolicySet { maps })
     }
 
     /// Returns whether nothing is bound. Does not allocate.
@@ -150,7 +153,7 @@ impl<S: BuildHasher + Copy> PolicySet<S> {
     }
 
     /// Iterates over the policies, static policies and links, in insertion order. Consumes the set. Does not allocate.
-    pub fn into_policies(self) -> IntoPolicies
+    pub fn into_policies(self) -> IntoPolicies<S>
         ensures { result ≡ self.policies }
     {
         let PolicySet { maps } = self;

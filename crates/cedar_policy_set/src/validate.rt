@@ -4,16 +4,14 @@ ghost use Rattle.std.specs.List.{find};
 ghost use Rattle.std.specs.Option.{option_copied};
 ghost use Rattle.cedar_policy_set.specs.Validity.{is_slotless_link, HasSlottedLinks, IsSetFault, IsValidBody};
 ghost use Rattle.cedar_policy_set.specs.Validity.{ValidatesSet};
-ghost use Rattle.cedar_policy_maps.specs.Views.{bodies_of};
 ghost use Rattle.cedar_policy_set.specs.laws.BodyFaults.{IsBodyFault, IsFirstFault};
 
 use crate::policy_set::PolicySet;
 use cedar_policy::{Policy, Template, TemplateValidationError};
-use cedar_policy_maps::{has_no_slots, is_link};
+use cedar_policy_maps::{AllTemplates, Policies, has_no_slots, is_link};
 use cedar_policy_set_errors::err::PolicySetValidationError;
 use std::alloc::Global;
 use std::hash::BuildHasher;
-use std::rc::Rc;
 
 impl<S: BuildHasher + Copy> PolicySet<S> {
     /// Returns the set itself, if its links and bodies are valid.
@@ -43,22 +41,27 @@ impl<S: BuildHasher + Copy> PolicySet<S> {
         ensures ok { OnOk result (HasSlottedLinks self.now × All IsValidBody self.now.bodies) }
         ensures err { IfErr result (λ e. IsSetFault e self.now) }
     {
-        if let Some(link) = first_slotless(self.maps.all_policies()) {
+        if let Some(link) = first_slotless(self.maps.policies()) {
             return Err(PolicySetValidationError::LinkToSlotlessTemplate {
                 link_id: link.id().clone()?,
                 template_id: link.template().id().clone()?,
             });
         }
-        validate_bodies(alloc, self.maps.shared_bodies())?;
+        validate_bodies(alloc, self.maps.all_templates())?;
         Ok(())
     }
 }
 
 // Returns the first link of a template without slots.
-fn first_slotless(policies: &[Policy]) -> Option<&Policy>
-    ensures { option_copied result ≡ find is_slotless_link policies.now }
+fn first_slotless<'a>(policies: Policies<'a>) -> Option<&'a Policy>
+    ensures { option_copied result ≡ find is_slotless_link policies.entry }
 {
-    policies.iter().find(|p| is_slotless_link(p))
+    for policy in policies {
+        if is_slotless_link(policy) {
+            return Some(policy);
+        }
+    }
+    None
 }
 
 fn is_slotless_link(policy: &Policy) -> bool
@@ -68,10 +71,12 @@ fn is_slotless_link(policy: &Policy) -> bool
 }
 
 // Returns an error for the first invalid body.
-#[tactic(auto, using(crate::specs::laws::ListSteps::all_bodies))]
-fn validate_bodies(alloc: Global, bodies: &[Rc<Template>]) -> Result<(), PolicySetValidationError>
-    ensures ok { OnOk result (All IsValidBody (bodies_of bodies.now)) }
-    ensures err { IfErr result (λ e. IsFirstFault e (bodies_of bodies.now)) }
+fn validate_bodies(
+    alloc: Global,
+    bodies: AllTemplates<'_>,
+) -> Result<(), PolicySetValidationError>
+    ensures ok { OnOk result (All IsValidBody bodies.entry) }
+    ensures err { IfErr result (λ e. IsFirstFault e bodies.entry) }
 {
     for template in bodies {
         validate_body(alloc, template)?;

@@ -1,7 +1,7 @@
 -- The steps of the two scans for ids in conflict. Each body and each policy is found under its own id.
-use Rattle.std.specs.Prelude.{◌≡◌, ℕ, ◌+◌, ◌<◌, length, List, [], ◌∷◌, ◌++◌, Bool, false, not, ◌&&◌, Some}
+use Rattle.std.specs.Prelude.{◌≡◌, ℕ, ◌<◌, length, List, [], ◌∷◌, ◌++◌, Bool, false, not, ◌&&◌, Some}
 use Rattle.std.specs.Prelude.{map, suc, zero}
-use Rattle.std.proofs.Common.{sym, ap, ◌∙◌, take, get_or, arith, subst, cond}
+use Rattle.std.proofs.Common.{sym, ap, ◌∙◌, get_or, arith, subst, cond}
 use Rattle.std.specs.declared.rc.Rc.{Rc}
 use Rattle.std.specs.declared.alloc.Global.{Global}
 use Rattle.std.specs.List.{find, list_any}
@@ -13,10 +13,9 @@ use Rattle.cedar_ids.specs.Texts.{same_text}
 use Rattle.cedar_ids.specs.laws.TextLaws.{same_text_equiv}
 use Rattle.cedar_body.specs.Bodies.{BodyParts}
 use Rattle.cedar_policy.specs.Policies.{PolicyParts, policy_id}
-use Rattle.cedar_policy_maps.specs.PolicySets.{SetParts, AreOnce, IsPolicySet, is_body_at, is_policy_at}
+use Rattle.cedar_policy_maps.specs.PolicySets.{SetParts, AreOnce, is_body_at, is_policy_at}
 use Rattle.cedar_policy_maps.specs.Views.{bodies_of}
 use Rattle.cedar_policy_maps.specs.laws.OnceLaws.{is_at}
-use Rattle.cedar_policy_maps.specs.laws.Walks.{bodies_more, policies_more}
 use Rattle.cedar_policy_merge.specs.Merge.{conflicting, is_same_at}
 use Rattle.cedar_policy_merge.specs.laws.GatherLaws.{Group, looked_at, conflicting_bodies, conflicting_policies}
 use Rattle.cedar_policy_merge.specs.laws.MergeSteps.{gathered-append}
@@ -28,22 +27,17 @@ more_conflict : (h o : SetParts) (stands : List ℕ → Bool) (xs : List (List �
     conflicting h o stands (xs ++ x ∷ []) ≡ conflicting h o stands xs ++ conflicting h o stands (x ∷ [])
 more_conflict h o stands xs x = filter-append (λ i. stands i && not (is_same_at h o i)) xs (x ∷ [])
 
-more_bodies_conflict : (g : Group) (h o : SetParts) (ts : List (Rc BodyParts Global)) (k : ℕ) (t : Rc BodyParts Global)
-    → k < length ts → t ≡ get_or ts k t → conflicting_bodies g h o (bodies_of (take (k + 1) ts))
-    ≡ conflicting_bodies g h o (bodies_of (take k ts)) ++ conflicting_bodies g h o (t.value ∷ [])
-more_bodies_conflict g h o ts k t l e =
-    ap (conflicting_bodies g h o) (bodies_more ts k t l e)
-    ∙ ap (conflicting h o (looked_at g h o))
-    (map-append (λ (b : BodyParts). b.id) (bodies_of (take k ts)) (t.value ∷ []))
-    ∙ more_conflict h o (looked_at g h o) (map (λ (b : BodyParts). b.id) (bodies_of (take k ts))) t.value.id
+more_bodies_conflict : (g : Group) (h o : SetParts) (ts : List BodyParts) (t : BodyParts)
+    → conflicting_bodies g h o (ts ++ t ∷ []) ≡ conflicting_bodies g h o ts ++ conflicting_bodies g h o (t ∷ [])
+more_bodies_conflict g h o ts t =
+    ap (conflicting h o (looked_at g h o)) (map-append (λ (b : BodyParts). b.id) ts (t ∷ []))
+    ∙ more_conflict h o (looked_at g h o) (map (λ (b : BodyParts). b.id) ts) t.id
 
-more_policies_conflict : (g : Group) (h o : SetParts) (ps : List PolicyParts) (k : ℕ) (p : PolicyParts)
-    → k < length ps → p ≡ get_or ps k p → conflicting_policies g h o (take (k + 1) ps)
-    ≡ conflicting_policies g h o (take k ps) ++ conflicting_policies g h o (p ∷ [])
-more_policies_conflict g h o ps k p l e =
-    ap (conflicting_policies g h o) (policies_more ps k p l e)
-    ∙ ap (conflicting h o (looked_at g h o)) (map-append policy_id (take k ps) (p ∷ []))
-    ∙ more_conflict h o (looked_at g h o) (map policy_id (take k ps)) (policy_id p)
+more_policies_conflict : (g : Group) (h o : SetParts) (ps : List PolicyParts) (p : PolicyParts)
+    → conflicting_policies g h o (ps ++ p ∷ []) ≡ conflicting_policies g h o ps ++ conflicting_policies g h o (p ∷ [])
+more_policies_conflict g h o ps p =
+    ap (conflicting h o (looked_at g h o)) (map-append policy_id ps (p ∷ []))
+    ∙ more_conflict h o (looked_at g h o) (map policy_id ps) (policy_id p)
 
 gathered_more : (old now new xs ys zs : List (List ℕ)) → now ≡ insert_all same_text old xs → new ≡ insert_all same_text now ys → zs ≡ xs ++ ys
     → new ≡ insert_all same_text old zs
@@ -56,44 +50,38 @@ listed_more old now new xs ys zs n m e =
     m ∙ ap (λ is. is ++ ys) n ∙ append_assoc old xs ys ∙ ap (λ is. old ++ is) (sym e)
 
 -- The step of one body.
-pub gathered_body_step : (g : Group) (h o : SetParts) (ts : List (Rc BodyParts Global)) (k : ℕ) (t : Rc BodyParts Global)
-    (old now new : List (List ℕ)) → k < length ts → t ≡ get_or ts k t
-    → now ≡ insert_all same_text old (conflicting_bodies g h o (bodies_of (take k ts)))
-    → new ≡ insert_all same_text now (conflicting_bodies g h o (t.value ∷ []))
-    → new ≡ insert_all same_text old (conflicting_bodies g h o (bodies_of (take (k + 1) ts)))
-gathered_body_step g h o ts k t old now new l e n m =
-    gathered_more old now new (conflicting_bodies g h o (bodies_of (take k ts)))
-    (conflicting_bodies g h o (t.value ∷ [])) (conflicting_bodies g h o (bodies_of (take (k + 1) ts))) n m
-    (more_bodies_conflict g h o ts k t l e)
+pub gathered_body_step : (g : Group) (h o : SetParts) (ts : List BodyParts) (t : BodyParts)
+    (old now new : List (List ℕ))
+    → now ≡ insert_all same_text old (conflicting_bodies g h o ts)
+    → new ≡ insert_all same_text now (conflicting_bodies g h o (t ∷ []))
+    → new ≡ insert_all same_text old (conflicting_bodies g h o (ts ++ t ∷ []))
+gathered_body_step g h o ts t old now new n m =
+    gathered_more old now new (conflicting_bodies g h o ts) (conflicting_bodies g h o (t ∷ []))
+    (conflicting_bodies g h o (ts ++ t ∷ [])) n m (more_bodies_conflict g h o ts t)
 
-pub listed_body_step : (g : Group) (h o : SetParts) (ts : List (Rc BodyParts Global)) (k : ℕ) (t : Rc BodyParts Global)
-    (old now new : List (List ℕ)) → k < length ts → t ≡ get_or ts k t
-    → now ≡ old ++ conflicting_bodies g h o (bodies_of (take k ts))
-    → new ≡ now ++ conflicting_bodies g h o (t.value ∷ [])
-    → new ≡ old ++ conflicting_bodies g h o (bodies_of (take (k + 1) ts))
-listed_body_step g h o ts k t old now new l e n m =
-    listed_more old now new (conflicting_bodies g h o (bodies_of (take k ts)))
-    (conflicting_bodies g h o (t.value ∷ [])) (conflicting_bodies g h o (bodies_of (take (k + 1) ts))) n m
-    (more_bodies_conflict g h o ts k t l e)
+pub listed_body_step : (g : Group) (h o : SetParts) (ts : List BodyParts) (t : BodyParts)
+    (old now new : List (List ℕ)) → now ≡ old ++ conflicting_bodies g h o ts
+    → new ≡ now ++ conflicting_bodies g h o (t ∷ []) → new ≡ old ++ conflicting_bodies g h o (ts ++ t ∷ [])
+listed_body_step g h o ts t old now new n m =
+    listed_more old now new (conflicting_bodies g h o ts) (conflicting_bodies g h o (t ∷ []))
+    (conflicting_bodies g h o (ts ++ t ∷ [])) n m (more_bodies_conflict g h o ts t)
 
 -- The step of one policy.
-pub gathered_policy_step : (g : Group) (h o : SetParts) (ps : List PolicyParts) (k : ℕ) (p : PolicyParts)
-    (old now new : List (List ℕ)) → k < length ps → p ≡ get_or ps k p
-    → now ≡ insert_all same_text old (conflicting_policies g h o (take k ps))
+pub gathered_policy_step : (g : Group) (h o : SetParts) (ps : List PolicyParts) (p : PolicyParts)
+    (old now new : List (List ℕ))
+    → now ≡ insert_all same_text old (conflicting_policies g h o ps)
     → new ≡ insert_all same_text now (conflicting_policies g h o (p ∷ []))
-    → new ≡ insert_all same_text old (conflicting_policies g h o (take (k + 1) ps))
-gathered_policy_step g h o ps k p old now new l e n m =
-    gathered_more old now new (conflicting_policies g h o (take k ps)) (conflicting_policies g h o (p ∷ []))
-    (conflicting_policies g h o (take (k + 1) ps)) n m (more_policies_conflict g h o ps k p l e)
+    → new ≡ insert_all same_text old (conflicting_policies g h o (ps ++ p ∷ []))
+gathered_policy_step g h o ps p old now new n m =
+    gathered_more old now new (conflicting_policies g h o ps) (conflicting_policies g h o (p ∷ []))
+    (conflicting_policies g h o (ps ++ p ∷ [])) n m (more_policies_conflict g h o ps p)
 
-pub listed_policy_step : (g : Group) (h o : SetParts) (ps : List PolicyParts) (k : ℕ) (p : PolicyParts)
-    (old now new : List (List ℕ)) → k < length ps → p ≡ get_or ps k p
-    → now ≡ old ++ conflicting_policies g h o (take k ps)
-    → new ≡ now ++ conflicting_policies g h o (p ∷ [])
-    → new ≡ old ++ conflicting_policies g h o (take (k + 1) ps)
-listed_policy_step g h o ps k p old now new l e n m =
-    listed_more old now new (conflicting_policies g h o (take k ps)) (conflicting_policies g h o (p ∷ []))
-    (conflicting_policies g h o (take (k + 1) ps)) n m (more_policies_conflict g h o ps k p l e)
+pub listed_policy_step : (g : Group) (h o : SetParts) (ps : List PolicyParts) (p : PolicyParts)
+    (old now new : List (List ℕ)) → now ≡ old ++ conflicting_policies g h o ps
+    → new ≡ now ++ conflicting_policies g h o (p ∷ []) → new ≡ old ++ conflicting_policies g h o (ps ++ p ∷ [])
+listed_policy_step g h o ps p old now new n m =
+    listed_more old now new (conflicting_policies g h o ps) (conflicting_policies g h o (p ∷ []))
+    (conflicting_policies g h o (ps ++ p ∷ [])) n m (more_policies_conflict g h o ps p)
 
 -- ---- Lookups by id
 
@@ -129,22 +117,29 @@ body_found o ts k t s h l e =
     (subst (AreOnce (λ (b : BodyParts). b.id)) (sym s) h)
     (omega (arith, length-map ts (λ (r : Rc BodyParts Global). r.value))) (value_at ts k t l e)
 
-pub policy_found : (o : SetParts) (ps : List PolicyParts) (k : ℕ) (p : PolicyParts) → ps ≡ o.policies
-    → AreOnce policy_id o.policies → k < length ps → p ≡ get_or ps k p
+-- An element of a list is found under its own id.
+passes_none : {A : Type 0} (t : A → Bool) (xs : List A) (x : A) (ys : List A) → list_any t (xs ++ x ∷ ys) ≡ false → t x ≡ false
+passes_none t [] x ys h = (or_parts _ _ h).0
+passes_none t (y ∷ xs) x ys h = passes_none t xs x ys (or_parts _ _ h).1
+
+found_within : {A : Type 0} (id : A → List ℕ) (xs : List A) (x : A) (ys : List A) → AreOnce id (xs ++ x ∷ ys)
+    → find (is_at id (id x)) (xs ++ x ∷ ys) ≡ Some x
+found_within id [] x ys h = ap (λ v. cond v (Some x) (find (is_at id (id x)) ys)) (itself (id x))
+found_within id (y ∷ xs) x ys h =
+    ap (λ v. cond v (Some y) (find (is_at id (id x)) (xs ++ x ∷ ys)))
+    (same_text_equiv.symm (id x) (id y) ∙ passes_none (λ z. same_text (id y) (id z)) xs x ys h.0)
+    ∙ found_within id xs x ys h.1
+
+pub body_within : (o : SetParts) (ts : List BodyParts) (t : BodyParts) (us : List BodyParts)
+    → ts ++ t ∷ us ≡ o.bodies → AreOnce (λ (b : BodyParts). b.id) o.bodies
+    → find (is_body_at t.id) o.bodies ≡ Some t
+body_within o ts t us e h =
+    ap (find (is_body_at t.id)) (sym e)
+    ∙ found_within (λ (b : BodyParts). b.id) ts t us (subst (AreOnce (λ (b : BodyParts). b.id)) (sym e) h)
+
+pub policy_within : (o : SetParts) (ps : List PolicyParts) (p : PolicyParts) (qs : List PolicyParts)
+    → ps ++ p ∷ qs ≡ o.policies → AreOnce policy_id o.policies
     → find (is_policy_at (policy_id p)) o.policies ≡ Some p
-policy_found o ps k p s h l e =
-    ap (find (is_policy_at (policy_id p))) (sym s)
-    ∙ found_own policy_id ps k p (subst (AreOnce policy_id) (sym s) h) l e
-
--- The body at a place is found under its id.
-pub body_at_place : (o : SetParts) (ts : List (Rc BodyParts Global)) (k : ℕ) (t : Rc BodyParts Global) (i : List ℕ)
-    → bodies_of ts ≡ o.bodies → IsPolicySet o → k < length ts → t ≡ get_or ts k t → t.value.id ≡ i
-    → find (is_body_at i) o.bodies ≡ Some t.value
-body_at_place o ts k t i s h l e q =
-    ap (λ j. find (is_body_at j) o.bodies) (sym q) ∙ body_found o ts k t s h.bodies_once l e
-
-pub policy_at_place : (o : SetParts) (ps : List PolicyParts) (k : ℕ) (p : PolicyParts) (i : List ℕ) → ps ≡ o.policies
-    → IsPolicySet o → k < length ps → p ≡ get_or ps k p → policy_id p ≡ i
-    → find (is_policy_at i) o.policies ≡ Some p
-policy_at_place o ps k p i s h l e q =
-    ap (λ j. find (is_policy_at j) o.policies) (sym q) ∙ policy_found o ps k p s h.policies_once l e
+policy_within o ps p qs e h =
+    ap (find (is_policy_at (policy_id p))) (sym e)
+    ∙ found_within policy_id ps p qs (subst (AreOnce policy_id) (sym e) h)

@@ -1,13 +1,11 @@
 -- The maps of a policy set can insert the new bodies and policies of a merge.
-use Rattle.std.specs.Prelude.{◌≡◌, ℕ, ◌+◌, ◌<◌, length, List, [], ◌∷◌, ◌++◌, Bool, true, false, not, ◌||◌, Option, Some}
+use Rattle.std.specs.Prelude.{◌≡◌, ℕ, List, [], ◌∷◌, ◌++◌, Bool, true, false, not, ◌||◌, Option, Some}
 use Rattle.std.specs.Prelude.{None, refl, map}
-use Rattle.std.proofs.Common.{cond, sym, ap, ◌∙◌, take, get_or}
+use Rattle.std.proofs.Common.{cond, sym, ap, ◌∙◌}
 use Rattle.std.specs.List.{filter, find, list_any}
 use Rattle.std.proofs.lemmas.Bool.{false≢true}
 use Rattle.std.proofs.lemmas.List.{map-append, append_assoc}
 use Rattle.std.proofs.lemmas.List.Elements.{filter-append}
-use Rattle.std.specs.declared.rc.Rc.{Rc}
-use Rattle.std.specs.declared.alloc.Global.{Global}
 use Rattle.cedar_ids.specs.Texts.{same_text}
 use Rattle.cedar_ids.specs.laws.TextLaws.{same_text_decides}
 use Rattle.cedar_body.specs.Bodies.{BodyParts}
@@ -21,8 +19,6 @@ use Rattle.cedar_policy_maps.specs.BulkInsert.{HaveIdsFreeOf, AreOnly, AreUnused
 use Rattle.cedar_policy_maps.specs.laws.MapLaws.{none_on_it}
 use Rattle.cedar_policy_merge.specs.laws.MergeLaws.{Renames, AreAll, bodies_bound, body_bound, body_new, found_there}
 use Rattle.cedar_policy_merge.specs.laws.MergeLaws.{any_renamed, once_renamed, merged_is_set}
-use Rattle.cedar_policy_maps.specs.Views.{bodies_of}
-use Rattle.cedar_policy_maps.specs.laws.Walks.{bodies_more}
 use Rattle.cedar_policy_maps.specs.laws.TemplateLaws.{none-filter}
 use Rattle.cedar_policy_maps.specs.laws.OnceLaws.{once-filter, any-filter_none, find-filter, find-unless, none_is}
 
@@ -44,15 +40,13 @@ standing_more h c xs x =
     ap (filter (λ (t : BodyParts). is_bound h t.id)) (map-append (renamed_body c) xs (x ∷ []))
     ∙ filter-append (λ (t : BodyParts). is_bound h t.id) (map (renamed_body c) xs) (map (renamed_body c) (x ∷ []))
 
-pub standing_body_step : (h : SetParts) (c : List ℕ → List ℕ) (ts : List (Rc BodyParts Global)) (k : ℕ)
-    (t : Rc BodyParts Global) (old now new : List BodyParts) → k < length ts → t ≡ get_or ts k t →
-    now ≡ old ++ standing_bodies h c (bodies_of (take k ts)) → new ≡ now ++ standing_bodies h c (t.value ∷ [])
-    → new ≡ old ++ standing_bodies h c (bodies_of (take (k + 1) ts))
-standing_body_step h c ts k t old now new l e n m =
-    m ∙ ap (λ x. x ++ standing_bodies h c (t.value ∷ [])) n
-    ∙ append_assoc old (standing_bodies h c (bodies_of (take k ts))) (standing_bodies h c (t.value ∷ []))
-    ∙ ap (λ x. old ++ x) (sym (standing_more h c (bodies_of (take k ts)) t.value))
-    ∙ ap (λ x. old ++ standing_bodies h c x) (sym (bodies_more ts k t l e))
+pub standing_body_step : (h : SetParts) (c : List ℕ → List ℕ) (ts : List BodyParts) (t : BodyParts)
+    (old now new : List BodyParts) → now ≡ old ++ standing_bodies h c ts → new ≡ now ++ standing_bodies h c (t ∷ [])
+    → new ≡ old ++ standing_bodies h c (ts ++ t ∷ [])
+standing_body_step h c ts t old now new n m =
+    m ∙ ap (λ x. x ++ standing_bodies h c (t ∷ [])) n
+    ∙ append_assoc old (standing_bodies h c ts) (standing_bodies h c (t ∷ []))
+    ∙ ap (λ x. old ++ x) (sym (standing_more h c ts t))
 
 -- ---- The conditions of the insertion
 

@@ -1,5 +1,5 @@
 -- The merged set satisfies the invariant of policy sets.
-use Rattle.std.specs.Prelude.{◌≡◌, ℕ, List, [], ◌∷◌, ◌++◌, Bool, true, false, not, ◌||◌, ◌&&◌, Option, Some, None, refl}
+use Rattle.std.specs.Prelude.{◌≡◌, ℕ, List, [], ◌∷◌, ◌++◌, Bool, true, false, not, ◌||◌, Option, Some, None, refl}
 use Rattle.std.specs.Prelude.{map}
 use Rattle.std.proofs.Common.{sym, ap, ◌∙◌, cond, arith}
 use Rattle.std.specs.List.{filter, find, list_any}
@@ -18,7 +18,7 @@ use Rattle.cedar_policy_merge.specs.Merge.{has_body, has_policy, same_binding, i
 use Rattle.cedar_policy_merge.specs.Merge.{merged_bodies}
 use Rattle.cedar_policy_merge.specs.Merge.{merged_policies, merged}
 use Rattle.cedar_policy_maps.specs.laws.SetLaws.{template_at}
-use Rattle.cedar_policy_maps.specs.laws.OnceLaws.{is_at, once-filter, none_is, find-unless}
+use Rattle.cedar_policy_maps.specs.laws.OnceLaws.{is_at, once-filter, find-unless}
 
 -- The conditions on a renaming for a merge. Different ids of the other set get different ids. An id whose new id is in
 -- use in this set is not renamed, and is bound equally in both sets.

@@ -1,9 +1,7 @@
 -- The steps of a merge: one id, one body, one policy.
-use Rattle.std.specs.Prelude.{◌≡◌, ℕ, ◌+◌, ◌<◌, length, List, [], ◌∷◌, ◌++◌, Bool, true, false, not, Option, Some}
+use Rattle.std.specs.Prelude.{◌≡◌, ℕ, List, [], ◌∷◌, ◌++◌, Bool, true, false, not, Option, Some}
 use Rattle.std.specs.Prelude.{None, refl, map, if◌then◌else◌}
-use Rattle.std.proofs.Common.{sym, ap, ◌∙◌, take, get_or}
-use Rattle.std.specs.declared.rc.Rc.{Rc}
-use Rattle.std.specs.declared.alloc.Global.{Global}
+use Rattle.std.proofs.Common.{sym, ap, ◌∙◌}
 use Rattle.std.specs.List.{filter, list_any}
 use Rattle.std.specs.Option.{option_map, unwrap_or}
 use Rattle.std.proofs.lemmas.List.{map-append, append_assoc}
@@ -15,9 +13,7 @@ use Rattle.cedar_policy.specs.Policies.{PolicyParts, policy_id, renamed, with_po
 use Rattle.cedar_policy_maps.specs.PolicySets.{SetParts, AreOnce, is_bound}
 use Rattle.cedar_policy_merge.specs.Merge.{has_body, has_policy, body_ids, policy_ids, conflicting, conflicts}
 use Rattle.cedar_policy_merge.specs.Merge.{renamed_body, renamed_policy, merged_bodies, merged_policies}
-use Rattle.cedar_policy_maps.specs.Views.{bodies_of}
 use Rattle.cedar_policy_maps.specs.laws.OnceLaws.{once-push}
-use Rattle.cedar_policy_maps.specs.laws.Walks.{bodies_more, policies_more}
 
 -- Whether the first of some ids is reported exactly if renaming is not allowed.
 abbrev pub Refuses : Option (List ℕ) → List (List ℕ) → Bool → Type 0
@@ -111,25 +107,21 @@ pub same_id_kept : (p : PolicyParts) → with_policy_id (policy_id p) p ≡ p
 same_id_kept p = own_id p.link p refl
 
 -- The step of one body in the list of new bodies.
-pub joined_body_step : (h : SetParts) (c : List ℕ → List ℕ) (ts : List (Rc BodyParts Global)) (k : ℕ)
-    (t : Rc BodyParts Global) (old now new : List BodyParts) → k < length ts → t ≡ get_or ts k t →
-    now ≡ old ++ merged_bodies h c (bodies_of (take k ts)) → new ≡ now ++ merged_bodies h c (t.value ∷ [])
-    → new ≡ old ++ merged_bodies h c (bodies_of (take (k + 1) ts))
-joined_body_step h c ts k t old now new l e n m =
-    m ∙ ap (λ x. x ++ merged_bodies h c (t.value ∷ [])) n
-    ∙ append_assoc old (merged_bodies h c (bodies_of (take k ts))) (merged_bodies h c (t.value ∷ []))
-    ∙ ap (λ x. old ++ x) (sym (joined_body_more h c (bodies_of (take k ts)) t.value))
-    ∙ ap (λ x. old ++ merged_bodies h c x) (sym (bodies_more ts k t l e))
+pub joined_body_step : (h : SetParts) (c : List ℕ → List ℕ) (ts : List BodyParts) (t : BodyParts)
+    (old now new : List BodyParts) → now ≡ old ++ merged_bodies h c ts → new ≡ now ++ merged_bodies h c (t ∷ [])
+    → new ≡ old ++ merged_bodies h c (ts ++ t ∷ [])
+joined_body_step h c ts t old now new n m =
+    m ∙ ap (λ x. x ++ merged_bodies h c (t ∷ [])) n
+    ∙ append_assoc old (merged_bodies h c ts) (merged_bodies h c (t ∷ []))
+    ∙ ap (λ x. old ++ x) (sym (joined_body_more h c ts t))
 
-pub joined_policy_step : (h : SetParts) (c : List ℕ → List ℕ) (ps : List PolicyParts) (k : ℕ) (p : PolicyParts)
-    (old now new : List PolicyParts) → k < length ps → p ≡ get_or ps k p →
-    now ≡ old ++ merged_policies h c (take k ps) → new ≡ now ++ merged_policies h c (p ∷ [])
-    → new ≡ old ++ merged_policies h c (take (k + 1) ps)
-joined_policy_step h c ps k p old now new l e n m =
-    m ∙ ap (λ x. x ++ merged_policies h c (p ∷ [])) n ∙ append_assoc old (merged_policies h c (take k ps))
+pub joined_policy_step : (h : SetParts) (c : List ℕ → List ℕ) (ps : List PolicyParts) (p : PolicyParts)
+    (old now new : List PolicyParts) → now ≡ old ++ merged_policies h c ps
+    → new ≡ now ++ merged_policies h c (p ∷ []) → new ≡ old ++ merged_policies h c (ps ++ p ∷ [])
+joined_policy_step h c ps p old now new n m =
+    m ∙ ap (λ x. x ++ merged_policies h c (p ∷ [])) n ∙ append_assoc old (merged_policies h c ps)
     (merged_policies h c (p ∷ []))
-    ∙ ap (λ x. old ++ x) (sym (joined_policy_more h c (take k ps) p))
-    ∙ ap (λ x. old ++ merged_policies h c x) (sym (policies_more ps k p l e))
+    ∙ ap (λ x. old ++ x) (sym (joined_policy_more h c ps p))
 
 -- The ids in conflict are different.
 pub once_conflicts : (h o : SetParts) → AreOnce (λ (i : List ℕ). i) (conflicts h o)

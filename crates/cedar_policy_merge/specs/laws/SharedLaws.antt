@@ -1,7 +1,7 @@
 -- A renamed static policy shares the new body with its new id.
 use Rattle.std.specs.Prelude.{◌≡◌, ℕ, ◌<◌, length, List, [], ◌∷◌, Bool, true, false, not}
-use Rattle.std.specs.Prelude.{Option, Some, None, is_some, IfSome, suc, zero, map, refl}
-use Rattle.std.proofs.Common.{sym, ap, ◌∙◌, subst, arith, get_or}
+use Rattle.std.specs.Prelude.{Option, Some, None, is_some, IfSome, map, refl}
+use Rattle.std.proofs.Common.{sym, ap, ◌∙◌, get_or}
 use Rattle.std.specs.List.{find}
 use Rattle.std.specs.Option.{unwrap_or}
 use Rattle.std.proofs.lemmas.Bool.{false≢true}
@@ -87,13 +87,6 @@ once_joined h o c r y =
     once-filter (λ (t : BodyParts). t.id) (λ t. not (is_bound h t.id)) (map (renamed_body c) o.bodies)
     (once_renamed h o c (λ (t : BodyParts). t.id) (renamed_body c) r (body_new c) o.bodies (bodies_bound o)
     y.bodies_once)
-
--- A property of all elements is a property of each.
-pub one_of_all : {X : Type 0} (P : X → Type 0) (xs : List X) (k : ℕ) (x : X) → AreAll P xs → k < length xs
-    → x ≡ get_or xs k x → P x
-one_of_all P [] k x a l e = absurd (omega arith)
-one_of_all P (y ∷ ys) zero x a l e = subst P (sym e) a.0
-one_of_all P (y ∷ ys) (suc k) x a l e = one_of_all P ys k x a.1 (omega arith) e
 
 -- The body at a place is found under its id.
 pub found_at : (ts : List (Rc BodyParts Global)) (k : ℕ) (t : Rc BodyParts Global) (i : List ℕ)

@@ -23,8 +23,8 @@ got r p i j o e k l =
     ap (unwrap_or o) k ∙ ap (λ o. unwrap_or o (policy_id p)) (l ∙ ap (λ i. lookup (same_text i) r) e)
     ∙ sym (policy_new (new_id r) p)
 
-pub position_of-requires : goal.position_of-requires
-position_of-requires g c =
+pub policy_in_target-requires : goal.policy_in_target-requires
+policy_in_target-requires g c =
     free_here c.args.here.now c.args.renaming.now.entries c.args.policy.now c.id.result.now
     (option_copied c.new_of-new.result) c.requires.free c.id.ensures c.new_of-new.ensures
 
@@ -45,7 +45,7 @@ returns-in-Some g c =
     let r = c.args.renaming.now.entries in
     let q = renamed_policy (new_id r) p in
     let stands : has_policy h (policy_id q) ≡ true =
-    sym (c.in-Some.ensures.found ∙ ap (has_policy h) (got r p c.id.result.now c.id-2.result.now
+    sym (c.in-Some.ensures ∙ ap (has_policy h) (got r p c.id.result.now c.id-2.result.now
     (option_copied c.new_of-new.result) c.id.ensures c.id-2.ensures c.new_of-new.ensures)) in
     let bound : is_bound h (policy_id q) ≡ true = first_of (has_policy h (policy_id q)) (has_body h (policy_id q)) stands in
     let old = c.args.parted.now.policies.join.items in
@@ -71,7 +71,7 @@ returns g c =
     let r = c.args.renaming.now.entries in
     let q = renamed_policy (new_id r) p in
     let no_policy : has_policy h (policy_id q) ≡ false =
-    sym (c.in_default.ensures.found ∙ ap (has_policy h) (got r p c.id.result.now c.id-2.result.now
+    sym (c.in_default.ensures ∙ ap (has_policy h) (got r p c.id.result.now c.id-2.result.now
     (option_copied c.new_of-new.result) c.id.ensures c.id-2.ensures c.new_of-new.ensures)) in
     let no_body : has_body h (policy_id q) ≡ false =
     sym (c.contains_body.ensures ∙ ap (has_body h) (got r p c.id.result.now c.id-3.result.now
