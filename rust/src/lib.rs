@@ -71,7 +71,7 @@ mod cedar_terms;
 mod cedar_uid_sets;
 mod handwritten;
 
-use handwritten::ordered_map;
+use handwritten::{linked_map, ordered_map};
 
 pub use cedar_dry_run::{have_no_indirect, would_add, would_upsert};
 pub use cedar_keyed_hash::{KeyedHasher, KeyedState};

@@ -120,6 +120,8 @@ def resolved(path, crate, crates):
         return ['std', 'error', 'Error']
     if joined.startswith('std::rc'):
         return ['std', 'sync', 'Arc']
+    if path[0] == 'cedar_linked_map':
+        return ['crate', 'linked_map'] + path[1:]
     if path[0] == 'indexmap':
         return ['crate', 'ordered_map'] + [dict(TYPES).get(p, p) for p in path[1:]]
     return path

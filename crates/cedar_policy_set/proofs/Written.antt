@@ -28,6 +28,11 @@ first_then took known text line x xs f g h p q k plain =
     let one = p b.0 plain in
     put_two took f g h _ _ _ one (q b.1 one.plain) refl
 
+-- Nothing is written.
+pub nothing_written : {W : Type 0} (took : W → List ℕ → W → Type 0) (f : Formatter W) → IsPlainFormatter f
+    → HasWritten took f [] f
+nothing_written took f plain = record { wrote = record { parts = []; calls = refl; whole = refl }; plain = plain }
+
 -- One more line.
 pub line_more : {W X : Type 0} (took : W → List ℕ → W → Type 0) (line : X → List ℕ) (done : List X) (x : X) (f g h : Formatter W) →
     HasWritten took f (flat_map line done) g → HasWritten took g (line x) h → HasWritten took f (flat_map line (done ++ x ∷ [])) h

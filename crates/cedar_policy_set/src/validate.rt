@@ -71,10 +71,7 @@ fn is_slotless_link(policy: &Policy) -> bool
 }
 
 // Returns an error for the first invalid body.
-fn validate_bodies(
-    alloc: Global,
-    bodies: AllTemplates<'_>,
-) -> Result<(), PolicySetValidationError>
+fn validate_bodies(alloc: Global, bodies: AllTemplates<'_>) -> Result<(), PolicySetValidationError>
     ensures ok { OnOk result (All IsValidBody bodies.entry) }
     ensures err { IfErr result (λ e. IsFirstFault e bodies.entry) }
 {

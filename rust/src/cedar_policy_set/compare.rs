@@ -2,10 +2,10 @@
 
 //! Clone and equality of policy sets.
 
-use crate::cedar_policy::Template;
+use crate::cedar_policy::{Policy, Template};
+use crate::cedar_policy_maps::{AllTemplates, Policies};
 use crate::cedar_policy_set::policy_set::PolicySet;
 use std::hash::BuildHasher;
-use std::sync::Arc;
 
 impl<S: BuildHasher + Copy> Clone for PolicySet<S> {
     fn clone(&self) -> Self {
@@ -16,14 +16,45 @@ impl<S: BuildHasher + Copy> Clone for PolicySet<S> {
 
 impl<S: BuildHasher + Copy> PartialEq for PolicySet<S> {
     fn eq(&self, other: &Self) -> bool {
-        same_bodies(self.maps.shared_bodies(), other.maps.shared_bodies())
-            && self.maps.all_policies() == other.maps.all_policies()
+        same_bodies(self.maps.all_templates(), other.maps.all_templates())
+            && same_policies(self.maps.policies(), other.maps.policies())
     }
 }
 
 impl<S: BuildHasher + Copy> Eq for PolicySet<S> {}
 
 // Returns whether two lists of bodies are equal, element by element.
-fn same_bodies(bodies: &[Arc<Template>], others: &[Arc<Template>]) -> bool {
-    bodies == others
+fn same_bodies(bodies: AllTemplates<'_>, mut others: AllTemplates<'_>) -> bool {
+    for body in bodies {
+        if !is_same_body(body, others.next()) {
+            return false;
+        }
+    }
+    others.next().is_none()
+}
+
+// Returns whether a body is equal to an optional one.
+fn is_same_body(body: &Template, other: Option<&Template>) -> bool {
+    match other {
+        None => false,
+        Some(other) => body == other,
+    }
+}
+
+// Returns whether two lists of policies are equal, element by element.
+fn same_policies(policies: Policies<'_>, mut others: Policies<'_>) -> bool {
+    for policy in policies {
+        if !is_same_policy(policy, others.next()) {
+            return false;
+        }
+    }
+    others.next().is_none()
+}
+
+// Returns whether a policy is equal to an optional one.
+fn is_same_policy(policy: &Policy, other: Option<&Policy>) -> bool {
+    match other {
+        None => false,
+        Some(other) => policy == other,
+    }
 }

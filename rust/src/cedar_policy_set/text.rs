@@ -3,34 +3,29 @@
 //! `Display` of policy sets.
 
 use crate::cedar_policy::{Policy, Template};
+use crate::cedar_policy_maps::{AllTemplates, Policies, PolicyMaps};
 use crate::cedar_policy_set::policy_set::PolicySet;
 use std::fmt;
 use std::hash::BuildHasher;
-use std::sync::Arc;
 
 impl<S: BuildHasher + Copy> fmt::Display for PolicySet<S> {
     /// Writes all bodies and then all policies, separated by line feeds. Writes `<empty policyset>` for an empty set.
     /// Does not allocate.
     fn fmt(&self, f: &mut fmt::Formatter<'_>) -> fmt::Result {
-        write_orders(self.maps.shared_bodies(), self.maps.all_policies(), f)
+        write_orders(&self.maps, f)
     }
 }
 
 // Writes the bodies and the policies of a set.
-fn write_orders(bodies: &[Arc<Template>], policies: &[Policy], f: &mut fmt::Formatter<'_>) -> fmt::Result {
-    if are_empty(bodies, policies) {
+fn write_orders<S: BuildHasher + Copy>(maps: &PolicyMaps<S>, f: &mut fmt::Formatter<'_>) -> fmt::Result {
+    if maps.is_empty() {
         return f.write_str("<empty policyset>");
     }
-    write_titled(bodies, policies, f)
-}
-
-// Returns whether there are no bodies and no policies.
-fn are_empty(bodies: &[Arc<Template>], policies: &[Policy]) -> bool {
-    bodies.is_empty() && policies.is_empty()
+    write_titled(maps.all_templates(), maps.policies(), f)
 }
 
 // Writes the bodies and the policies, each list after its title.
-fn write_titled(bodies: &[Arc<Template>], policies: &[Policy], f: &mut fmt::Formatter<'_>) -> fmt::Result {
+fn write_titled(bodies: AllTemplates<'_>, policies: Policies<'_>, f: &mut fmt::Formatter<'_>) -> fmt::Result {
     f.write_str("Templates:\n")?;
     write_bodies(bodies, f)?;
     f.write_str(", Template Linked Policies:\n")?;
@@ -38,15 +33,15 @@ fn write_titled(bodies: &[Arc<Template>], policies: &[Policy], f: &mut fmt::Form
 }
 
 // Writes bodies, separated by line feeds.
-fn write_bodies(bodies: &[Arc<Template>], f: &mut fmt::Formatter<'_>) -> fmt::Result {
-    match bodies.split_first() {
+fn write_bodies(mut bodies: AllTemplates<'_>, f: &mut fmt::Formatter<'_>) -> fmt::Result {
+    match bodies.next() {
         None => Ok(()),
-        Some((first, rest)) => write_parted(first, rest, f),
+        Some(first) => write_parted(first, bodies, f),
     }
 }
 
 // Writes a body, and then the other bodies, each after a line feed.
-fn write_parted(first: &Template, rest: &[Arc<Template>], f: &mut fmt::Formatter<'_>) -> fmt::Result {
+fn write_parted(first: &Template, rest: AllTemplates<'_>, f: &mut fmt::Formatter<'_>) -> fmt::Result {
     write_body(first, f)?;
     write_body_lines(rest, f)
 }
@@ -59,7 +54,7 @@ fn write_body(body: &Template, f: &mut fmt::Formatter<'_>) -> fmt::Result {
     write!(f, "{body}")
 }
 
-fn write_body_lines(bodies: &[Arc<Template>], f: &mut fmt::Formatter<'_>) -> fmt::Result {
+fn write_body_lines(bodies: AllTemplates<'_>, f: &mut fmt::Formatter<'_>) -> fmt::Result {
     for body in bodies {
         write_body_line(body, f)?;
     }
@@ -67,19 +62,27 @@ fn write_body_lines(bodies: &[Arc<Template>], f: &mut fmt::Formatter<'_>) -> fmt
 }
 
 // Writes policies, separated by line feeds.
-fn write_policies(policies: &[Policy], f: &mut fmt::Formatter<'_>) -> fmt::Result {
-    match policies.split_first() {
+fn write_policies(mut policies: Policies<'_>, f: &mut fmt::Formatter<'_>) -> fmt::Result {
+    match policies.next() {
         None => Ok(()),
-        Some((first, rest)) => {
-            write!(f, "{first}")?;
-            write_policy_lines(rest, f)
+        Some(first) => {
+            write_policy(first, f)?;
+            write_policy_lines(policies, f)
         }
     }
 }
 
-fn write_policy_lines(policies: &[Policy], f: &mut fmt::Formatter<'_>) -> fmt::Result {
+fn write_policy_line(policy: &Policy, f: &mut fmt::Formatter<'_>) -> fmt::Result {
+    write!(f, "\n{policy}")
+}
+
+fn write_policy(policy: &Policy, f: &mut fmt::Formatter<'_>) -> fmt::Result {
+    write!(f, "{policy}")
+}
+
+fn write_policy_lines(policies: Policies<'_>, f: &mut fmt::Formatter<'_>) -> fmt::Result {
     for policy in policies {
-        write!(f, "\n{policy}")?;
+        write_policy_line(policy, f)?;
     }
     Ok(())
 }

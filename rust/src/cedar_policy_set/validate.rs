@@ -3,11 +3,10 @@
 //! Validation of policy sets.
 
 use crate::cedar_policy::{Policy, Template};
-use crate::cedar_policy_maps::{has_no_slots, is_link};
+use crate::cedar_policy_maps::{AllTemplates, Policies, has_no_slots, is_link};
 use crate::cedar_policy_set::policy_set::PolicySet;
 use crate::cedar_policy_set_errors::err::PolicySetValidationError;
 use std::hash::BuildHasher;
-use std::sync::Arc;
 
 impl<S: BuildHasher + Copy> PolicySet<S> {
     /// Returns the set itself, if its links and bodies are valid.
@@ -60,20 +59,25 @@ impl<S: BuildHasher + Copy> PolicySet<S> {
 
     // Returns an error for the first link of a template without slots, or else for the first invalid body.
     fn check(&self) -> Result<(), PolicySetValidationError> {
-        if let Some(link) = first_slotless(self.maps.all_policies()) {
+        if let Some(link) = first_slotless(self.maps.policies()) {
             return Err(PolicySetValidationError::LinkToSlotlessTemplate {
                 link_id: link.id().clone(),
                 template_id: link.template().id().clone(),
             });
         }
-        validate_bodies(self.maps.shared_bodies())?;
+        validate_bodies(self.maps.all_templates())?;
         Ok(())
     }
 }
 
 // Returns the first link of a template without slots.
-fn first_slotless(policies: &[Policy]) -> Option<&Policy> {
-    policies.iter().find(|p| is_slotless_link(p))
+fn first_slotless(policies: Policies<'_>) -> Option<&Policy> {
+    for policy in policies {
+        if is_slotless_link(policy) {
+            return Some(policy);
+        }
+    }
+    None
 }
 
 fn is_slotless_link(policy: &Policy) -> bool {
@@ -81,7 +85,7 @@ fn is_slotless_link(policy: &Policy) -> bool {
 }
 
 // Returns an error for the first invalid body.
-fn validate_bodies(bodies: &[Arc<Template>]) -> Result<(), PolicySetValidationError> {
+fn validate_bodies(bodies: AllTemplates<'_>) -> Result<(), PolicySetValidationError> {
     for template in bodies {
         validate_body(template)?;
     }

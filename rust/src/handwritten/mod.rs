@@ -1,6 +1,9 @@
 //! Code that is written by hand. It is not generated from the sources of the layer.
 mod conversions;
 mod dot;
+pub(crate) mod linked_map;
+#[cfg(test)]
+mod linked_map_tests;
 pub(crate) mod ordered_map;
 #[cfg(test)]
 mod ordered_map_tests;

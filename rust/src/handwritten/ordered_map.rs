@@ -13,7 +13,7 @@ const FREE: i32 = -1;
 /// A hash table of the indexes of keys. It uses open addressing and is at most half full. It also stores the hash of
 /// each key.
 #[derive(Clone, Default)]
-struct Places {
+pub(super) struct Places {
     slots: Vec<i32>,
     hashes: Vec<u64>,
 }
@@ -25,7 +25,7 @@ impl Places {
         places
     }
 
-    fn reserve(&mut self, additional: usize) {
+    pub(super) fn reserve(&mut self, additional: usize) {
         self.hashes.reserve(additional);
         let need = (self.hashes.len() + additional) * 2;
         if need > self.slots.len() {
@@ -56,7 +56,7 @@ impl Places {
     }
 
     /// Returns the index of the key with this hash for which `is_key` returns true.
-    fn get(&self, hash: u64, is_key: impl Fn(usize) -> bool) -> Option<usize> {
+    pub(super) fn get(&self, hash: u64, is_key: impl Fn(usize) -> bool) -> Option<usize> {
         if self.slots.is_empty() {
             return None;
         }
@@ -74,19 +74,25 @@ impl Places {
         }
     }
 
-    fn push(&mut self, hash: u64) {
+    pub(super) fn push(&mut self, hash: u64) {
         self.reserve(1);
         self.hashes.push(hash);
         self.put(self.hashes.len() - 1);
     }
 
-    /// Removes an index. Each greater index decreases by one.
-    fn remove(&mut self, place: usize) {
-        let mask = self.slots.len() - 1;
-        let mut free = self.home(self.hashes[place]);
-        while self.slots[free] != place as i32 {
-            free = (free + 1) & mask;
+    /// Returns the slot of an index.
+    fn slot_of(&self, place: usize) -> usize {
+        let mut at = self.home(self.hashes[place]);
+        while self.slots[at] != place as i32 {
+            at = (at + 1) & (self.slots.len() - 1);
         }
+        at
+    }
+
+    /// Frees the slot of an index. Later indexes of the same search move up.
+    fn free(&mut self, place: usize) {
+        let mask = self.slots.len() - 1;
+        let mut free = self.slot_of(place);
         let mut next = free;
         loop {
             next = (next + 1) & mask;
@@ -101,6 +107,11 @@ impl Places {
             }
         }
         self.slots[free] = FREE;
+    }
+
+    /// Removes an index. Each greater index decreases by one.
+    fn remove(&mut self, place: usize) {
+        self.free(place);
         self.hashes.remove(place);
         if place < self.hashes.len() {
             let place = place as i32;
@@ -108,6 +119,17 @@ impl Places {
                 *slot -= i32::from(*slot > place);
             }
         }
+    }
+
+    /// Removes an index. The last index becomes this one.
+    pub(super) fn swap_remove(&mut self, place: usize) {
+        self.free(place);
+        let last = self.hashes.len() - 1;
+        if place < last {
+            let slot = self.slot_of(last);
+            self.slots[slot] = place as i32;
+        }
+        self.hashes.swap_remove(place);
     }
 
     fn clear(&mut self) {
@@ -302,8 +324,11 @@ impl<K, V, S> OrderedMap<K, V, S> {
         &self.values
     }
 
-    pub fn into_values(self) -> vec::IntoIter<V> {
-        self.values.into_iter()
+    /// Consumes the map and iterates over the hashes, the keys and the values.
+    pub(super) fn into_hashed(self) -> impl Iterator<Item = (u64, K, V)> {
+        let OrderedSet { keys, places, .. } = self.keys;
+        let hashes = places.hashes.into_iter();
+        hashes.zip(keys).zip(self.values).map(|((hash, key), value)| (hash, key, value))
     }
 }
 

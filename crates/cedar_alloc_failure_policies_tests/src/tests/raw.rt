@@ -95,7 +95,7 @@ fn raw_one(alloc: Global, policy: Policy) -> Result<PolicySet, AllocError>
     let lists = list_of(alloc, &policy)?;
     let templates = template_of(alloc, &policy)?;
     let links = link_of(alloc, policy)?;
-    Ok(PolicySet::from_raw_components(templates, links, lists))
+    PolicySet::from_raw_components(templates, links, lists)
 }
 
 // Returns the set of the policy with this text and its template, from maps. Returns `None` for a link with the id of
