@@ -7,7 +7,7 @@ from .trees import Group, after, before, code, is_code, is_comment, is_group, is
 ALLOCATOR = re.compile(r'_?alloc|Global|\*?[\w.]+\.allocator\(\)|\*Box::allocator\(.*\)|rt\.alloc\(\)')
 STD_METHODS = set('''push insert insert_full extend_from_slice extend_from_within reserve to_string collect extend sort
 sort_by entry append to_vec push_str clone'''.split())
-STD_OWNERS = set('''Rc Arc RcStr Vec Box String IndexMap IndexSet HashMap HashSet BTreeMap VecDeque'''.split())
+STD_OWNERS = set('''Rc Arc RcStr Vec Box String IndexMap IndexSet LinkedMap LinkedSet HashMap HashSet BTreeMap VecDeque'''.split())
 STD_MACROS = {'format', 'vec'}
 
 

@@ -22,13 +22,15 @@ CHOICES = {
 STATUS_RESULT = ', Reason>'
 
 # Functions that only proofs use, so the package does not have them: (type or file, name).
-DROPPED = {('KeyedState', 'new'), ('fresh', 'count_ids'), ('fresh', 'size'), ('node', 'listed'),
+DROPPED = {('KeyedState', 'new'), ('PolicyMaps', 'body_count'), ('PolicyMaps', 'policy_count'),
+           ('fresh', 'count_ids'), ('fresh', 'size'), ('node', 'listed'),
            ('shared_node', 'listed_pointers'), ('store_text', 'next_entity'), ('store_text', 'is_before'),
            ('store_text', 'write_by_walks')}
 # Functions that only the tests of the layer use, so the package does not have them.
 ONLY_IN_TESTS = {
     ('PolicySet', 'from_raw_components'), ('PolicyMaps', 'from_raw_components'), ('lists', 'read_policy'),
-    ('lists', 'read_policies'), ('maps', 'filter_templates'), ('LineStore', 'new'), ('PolicySets', 'new'),
+    ('lists', 'read_policies'), ('maps', 'filter_templates'), ('maps', 'linked_lists'), ('maps', 'link_lists'),
+    ('LineStore', 'new'), ('PolicySets', 'new'),
     ('command', 'read_policy_command'), ('making', 'static_policy'), ('making', 'slotted_template'),
     ('Entity', 'with_shared_parents'),
     ('UidSet', 'is_ascending'), ('UidSet', 'retain'),

@@ -16,7 +16,7 @@ from .trees import Group, after, angle_start, before, is_code, is_group, is_id, 
 
 HERE = os.path.dirname(os.path.abspath(__file__))
 OK = 'Ok::<_, AllocError>'
-STD_TYPES = set('Rc RcStr Vec String Box IndexSet IndexMap HashMap HashSet BTreeMap BTreeSet VecDeque'.split())
+STD_TYPES = set('Rc RcStr Vec String Box IndexSet IndexMap LinkedMap LinkedSet HashMap HashSet BTreeMap BTreeSet VecDeque'.split())
 STD_MEMORY = re.compile(r'(Rc|Box)::new|Rc::(make_mut|unwrap_or_clone)|\w+::(with_capacity|with_capacity_and_hasher)'
                         r'|Vec::from_slice|(String|RcStr)::from_str')
 NODE = set('''get_key add_edge_to out_edges has_edge_to may_have_edges reset_edges direct_edges list_edges

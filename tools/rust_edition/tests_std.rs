@@ -190,9 +190,34 @@ impl TCNode<EntityUID> for SharedEntity {
     }
 }
 
-// A function of ordered maps that a test of raw maps uses.
-use crate::ordered_map::OrderedMap;
+// Functions of ordered maps and of linked maps that a test of raw maps uses.
+use crate::linked_map::{LinkedMap, LinkedSet};
+use crate::ordered_map::{OrderedMap, OrderedSet};
 use std::hash::{BuildHasher, Hash};
+
+impl<K: Hash + Eq, V, S: BuildHasher + Clone> LinkedMap<K, V, S> {
+    pub fn with_capacity_and_hasher(count: usize, hasher: S) -> Self {
+        let mut map = LinkedMap::with_hasher(hasher);
+        map.reserve(count);
+        map
+    }
+
+    pub fn from_index_map(entries: OrderedMap<K, V, S>) -> Self {
+        let mut map = LinkedMap::with_hasher(entries.hasher().clone());
+        map.extend_new(entries);
+        map
+    }
+}
+
+impl<T: Hash + Eq, S: BuildHasher + Clone> LinkedSet<T, S> {
+    pub fn from_index_set(values: OrderedSet<T, S>) -> Self {
+        let mut set = LinkedSet::with_hasher(values.hasher().clone());
+        for value in values {
+            set.insert(value);
+        }
+        set
+    }
+}
 
 impl<K: Hash + Eq, V, S: BuildHasher + Clone> OrderedMap<K, V, S> {
     pub fn retain<F: FnMut(&K, &mut V) -> bool>(&mut self, mut keeps: F) {

@@ -21,16 +21,6 @@ impl<S: BuildHasher + Copy> PolicyMaps<S> {
         SharedBodies::of(self.templates.values())
     }
 
-    /// Returns the number of bodies, of static policies and of templates. Does not allocate.
-    pub fn body_count(&self) -> usize {
-        self.templates.len()
-    }
-
-    /// Returns the number of policies, static policies and links. Does not allocate.
-    pub fn policy_count(&self) -> usize {
-        self.links.len()
-    }
-
     /// Returns the shared body with this id, if there is one. Does not allocate.
     pub fn body_at(&self, id: &PolicyID) -> Option<&Arc<Template>> {
         self.templates.get(id)
@@ -191,7 +181,6 @@ impl<S: BuildHasher + Copy> PolicyMaps<S> {
 
     /// Returns the last policy. The caller must ensure that there is a policy. Does not allocate.
     pub fn last(&self) -> &Policy {
-        self.policy_count();
         match self.links.last() {
             None => unreachable!(),
             Some((_, policy)) => policy,

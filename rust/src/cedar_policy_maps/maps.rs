@@ -6,7 +6,7 @@ use crate::cedar_ids::policy_id::PolicyID;
 use crate::cedar_policy::{Policy, Template};
 use crate::cedar_policy_maps::lists::{is_link, template_of};
 use crate::linked_map::{LinkedMap, LinkedSet};
-use crate::ordered_map::{OrderedMap, OrderedSet};
+use crate::ordered_map::OrderedMap;
 use std::hash::BuildHasher;
 use std::sync::Arc;
 
@@ -290,26 +290,6 @@ fn push_list<S: BuildHasher + Copy>(
 ) {
     let ids = set_of(*map.hasher(), id);
     insert_new(map, body.clone(), ids);
-}
-
-// Returns the map of lists whose removals take constant time.
-pub(crate) fn linked_lists<S: BuildHasher + Copy>(
-    map: OrderedMap<PolicyID, OrderedSet<PolicyID, S>, S>,
-) -> LinkedMap<PolicyID, LinkedSet<PolicyID, S>, S> {
-    let mut lists = LinkedMap::with_capacity_and_hasher(map.len(), *map.hasher())?;
-    link_lists(&mut lists, map);
-    lists
-}
-
-// Appends lists to an empty map. The space must be reserved.
-fn link_lists<S: BuildHasher + Copy>(
-    lists: &mut LinkedMap<PolicyID, LinkedSet<PolicyID, S>, S>,
-    map: OrderedMap<PolicyID, OrderedSet<PolicyID, S>, S>,
-) {
-    for (body, ids) in map {
-        let ids = LinkedSet::from_index_set(ids)?;
-        lists.push(body, ids);
-    }
 }
 
 // Copies the map of bodies. The bodies are shared.

@@ -51,7 +51,7 @@ impl<S: BuildHasher + Copy> PolicyMaps<S> {
 
     /// Consumes the maps and iterates over all policies, static policies and links, in insertion order. Does not
     /// allocate.
-    pub fn into_policies(self) -> IntoPolicies<S> {
+    pub fn into_policies(self) -> IntoPolicies {
         let Self { links, .. } = self;
         IntoPolicies::of(links)
     }

@@ -83,11 +83,7 @@ fn maps_by<S: BuildHasher + Clone>(hasher: S, seed: u64, calls: usize, keys: u64
         }
     }
     is_same(&map.clone(), &model, keys);
-    assert_eq!(map.clone().into_iter().collect::<Vec<_>>(), model);
-    assert_eq!(
-        map.into_values().collect::<Vec<_>>(),
-        model.into_iter().map(|(_, v)| v).collect::<Vec<_>>()
-    );
+    assert_eq!(map.into_iter().collect::<Vec<_>>(), model);
 }
 
 fn append<S: BuildHasher>(
