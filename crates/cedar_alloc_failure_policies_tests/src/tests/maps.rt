@@ -9,6 +9,7 @@ ghost use Rattle.cedar_policy_maps.specs.Insertions.{CanInsert, CanInsertWithBod
 ghost use Rattle.cedar_policy_maps.specs.BulkInsert.{CanBulkInsert};
 ghost use Rattle.cedar_policy_maps.specs.Views.{bodies_of};
 
+use super::raw::raw_maps;
 use super::sets::{ids_in, policy};
 use super::templates::shared;
 use cedar_alloc_failures::{
@@ -302,6 +303,8 @@ const MAPS: &str = "
     PolicyMaps::insert_policy | l = t principal, principal=x | t / l
     PolicyMaps::insert_bulk | a noted | a / a
     PolicyMaps::insert_bulk | l = t principal, principal=x | t / l
+    PolicyMaps::from_raw_components | a noted | a / a
+    PolicyMaps::from_raw_components | l = t principal, principal=x | t / l
     PolicyMaps::clone | a noted | a / a
     PolicyMaps::clone | l = t principal, principal=x | t / l
     merge_maps | a // l = t principal, principal=x // keep | a t / a l
@@ -315,6 +318,17 @@ impl Calls for OnMaps {
         if row.call == "PolicyMaps::insert_template" {
             return match shared(alloc, row.given) {
                 Some(template) => insert_template(alloc, number, template, row.want),
+                None => unmade(),
+            };
+        }
+        if row.call == "PolicyMaps::from_raw_components" {
+            return match raw_maps(alloc, number, row.given) {
+                Some(answer) => judged(
+                    alloc,
+                    answer,
+                    row.want,
+                    |maps| has_ids(alloc, maps, row.want),
+                ),
                 None => unmade(),
             };
         }

@@ -7,12 +7,14 @@ ghost use Rattle.cedar_policy_maps.specs.PolicySets.{HasDistinctId};
 ghost use Rattle.cedar_policy_maps.specs.Maps.{lists_of, shared_of};
 
 use super::sets::{policy, set_of};
-use cedar_alloc_failures::{CallOutcome, Row, ample_if, both, unmade};
+use cedar_alloc_failures::{CallOutcome, Row, judged, refuse, unmade};
 use cedar_ids::policy_id::PolicyID;
 use cedar_policy::{Policy, Template};
+use cedar_policy_maps::PolicyMaps;
 use cedar_policy_set::PolicySet;
 use indexmap::{IndexMap, IndexSet};
 use std::alloc::{AllocError, Global};
+use std::hash::{BuildHasherDefault, FoldHasher};
 use std::rc::Rc;
 
 // Appends a value with a new key.
@@ -55,6 +57,9 @@ fn shared(policy: &Policy) -> Result<Rc<Template>, AllocError>
     Ok(policy.template_arc().clone()?)
 }
 
+// The maps of a policy set.
+type Maps = PolicyMaps<BuildHasherDefault<FoldHasher>>;
+
 // Lists of the ids of policies, by the id of their template.
 type Lists = IndexMap<PolicyID, IndexSet<PolicyID>>;
 
@@ -88,42 +93,80 @@ fn link_of(alloc: Global, policy: Policy) -> Result<IndexMap<PolicyID, Policy>, 
     Ok(links)
 }
 
-// Returns the set of one policy and its template, from maps.
-fn raw_one(alloc: Global, policy: Policy) -> Result<PolicySet, AllocError>
+// Returns the set of one policy and its template, from maps. The allocation with this number is forced to fail.
+fn raw_one(alloc: Global, number: usize, policy: Policy) -> Result<PolicySet, AllocError>
     requires { HasDistinctId policy }
 {
     let lists = list_of(alloc, &policy)?;
     let templates = template_of(alloc, &policy)?;
     let links = link_of(alloc, policy)?;
+    refuse(alloc, number);
     PolicySet::from_raw_components(templates, links, lists)
 }
 
-// Returns the set of the policy with this text and its template, from maps. Returns `None` for a link with the id of
-// its template.
-fn raw(alloc: Global, text: &str) -> Option<PolicySet> {
+// Returns the maps of one policy and its template, from maps. The allocation with this number is forced to fail.
+fn raw_maps_one(alloc: Global, number: usize, policy: Policy) -> Result<Maps, AllocError>
+    requires { HasDistinctId policy }
+{
+    let lists = list_of(alloc, &policy)?;
+    let templates = template_of(alloc, &policy)?;
+    let links = link_of(alloc, policy)?;
+    refuse(alloc, number);
+    PolicyMaps::from_raw_components(templates, links, lists)
+}
+
+// Returns the result for the policy with this text and its template. Returns `None` for a link with the id of its
+// template.
+pub(super) fn raw(
+    alloc: Global,
+    number: usize,
+    text: &str,
+) -> Option<Result<PolicySet, AllocError>> {
     match policy(alloc, text) {
         Some(policy) => {
             if !policy.is_static() && policy.id() == policy.template().id() {
                 drop(policy);
                 return None;
             }
-            raw_one(alloc, policy).ok()
+            Some(raw_one(alloc, number, policy))
+        }
+        None => None,
+    }
+}
+
+// Returns the result for the maps of the policy with this text, as `raw` does for a set.
+pub(super) fn raw_maps(
+    alloc: Global,
+    number: usize,
+    text: &str,
+) -> Option<Result<Maps, AllocError>> {
+    match policy(alloc, text) {
+        Some(policy) => {
+            if !policy.is_static() && policy.id() == policy.template().id() {
+                drop(policy);
+                return None;
+            }
+            Some(raw_maps_one(alloc, number, policy))
         }
         None => None,
     }
 }
 
 // Returns whether the set from the maps of a text equals the set that the calls of a case create.
-pub(super) fn is_raw(alloc: Global, text: &str, row: Row<'_>) -> CallOutcome {
-    match both(raw(alloc, text), set_of(alloc, row.given)) {
-        Some((raw, made)) => {
-            let same = raw == made;
-            drop(raw);
+pub(super) fn is_raw(alloc: Global, number: usize, text: &str, row: Row<'_>) -> CallOutcome {
+    match set_of(alloc, row.given) {
+        Some(made) => {
+            let outcome = match raw(alloc, number, text) {
+                Some(answer) => judged(
+                    alloc,
+                    answer,
+                    row.want,
+                    |raw| (raw == &made) == (row.want == "yes"),
+                ),
+                None => unmade(),
+            };
             drop(made);
-            CallOutcome {
-                answer: ample_if(same == (row.want == "yes")),
-                refused: false,
-            }
+            outcome
         }
         None => unmade(),
     }

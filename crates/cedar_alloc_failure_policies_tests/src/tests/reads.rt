@@ -156,6 +156,21 @@ const READS: &str = "
     compare | add l = t principal, principal=x ~ template t principal; link t l principal=x | equal
     compare | static b ~ static a; static b; remove_static a | equal
     compare | template t principal; static a; link t l principal=x ~ add l = t principal, principal=x; unlink l; static a; link t l principal=x | equal
+# a removal keeps the order of the others
+    compare | static b; static c; static d ~ static a; static b; static c; static d; remove_static a | equal
+    compare | static a; static c; static d ~ static a; static b; static c; static d; remove_static b | equal
+    compare | static a; static b; static c ~ static a; static b; static c; static d; remove_static d | equal
+    compare | static a; static d ~ static a; static b; static c; static d; remove_static b; remove_static c | equal
+    compare | static a; static d ~ static a; static b; static c; static d; remove_static c; remove_static b | equal
+    compare | static b; static c ~ static a; static b; static c; static d; remove_static d; remove_static a | equal
+    compare | static a; static c; static d; static b ~ static a; static b; static c; static d; remove_static b; static b | equal
+    compare | template u; template t principal; link t m principal=x; link t n principal=y ~ template u; template t principal; link t l principal=x; link t m principal=x; link t n principal=y; unlink l | equal
+    compare | template t principal; link t l principal=x; link t n principal=y ~ template t principal; link t l principal=x; link t m principal=x; link t n principal=y; unlink m | equal
+    compare | template t principal; link t l principal=x; link t m principal=x ~ template t principal; link t l principal=x; link t m principal=x; link t n principal=y; unlink n | equal
+    compare | template t principal; link t n principal=y; link t l principal=x ~ template t principal; link t l principal=x; link t m principal=x; link t n principal=y; unlink m; unlink l; link t l principal=x | equal
+    compare | template v; template u ~ template t; template v; template u; remove_template t | equal
+    compare | template t; template u ~ template t; template v; template u; remove_template v | equal
+    compare | template t; static a; template u ~ template t; static a; template v; static b; template u; remove_template v; remove_static b | equal
 # sets of other orders or values are not
     compare |  ~ template a | other
     compare | static a ~ static a; static b | other
@@ -188,6 +203,8 @@ const READS: &str = "
     apart | template t | 
     apart | add d; add b; add c; add a | d b c a
     apart | add m = t principal, principal=x; static a; link t l principal=y | m = t ?principal x a l = t ?principal y
+    apart | add d; add b; add c; add a; remove_static b | d c a
+    apart | add d; add b; add c; add a; remove_static d; remove_static c; add d | b a d
     apart | add m = t acting, action=Action.v; static a | m = t ?action v a
 # an id finds its policy and its body
     find a | static b; template t; static a forbid; add l = u principal, principal=x; link u m principal=y | a forbid / a
@@ -213,7 +230,7 @@ impl Calls for OnReads {
         match word {
             "compare" => compared(alloc, number, row),
             "find" => looked_up(alloc, number, rest, row),
-            "raw" => is_raw(alloc, rest, row),
+            "raw" => is_raw(alloc, number, rest, row),
             "apart" => match set_of(alloc, row.given) {
                 Some(set) => told(alloc, apart(alloc, set.into_policies()), row.want),
                 None => unmade(),

@@ -1,5 +1,6 @@
 // Tests of sets that are created from policies, validated or copied.
 use super::id;
+use super::raw::raw;
 use super::reads::has_orders;
 use super::sets::{ids_of, policy, set_of};
 use cedar_alloc_failures::{
@@ -42,6 +43,8 @@ pub(super) struct OnWholeSets;
 const WHOLE: &str = "
     PolicySet::singleton | a noted | a / a
     PolicySet::singleton | l = t principal, principal=x | t / l
+    PolicySet::from_raw_components | a noted | a / a
+    PolicySet::from_raw_components | l = t principal, principal=x | t / l
     PolicySet::try_from_iter | b; l = t principal, principal=x; a | b t a / b l a
     PolicySet::try_from_iter | a; b; a forbid | ! duplicate template or policy id `a`
     PolicySet::try_from_iter_with_hasher | b; l = t principal, principal=x; a | b t a / b l a
@@ -102,6 +105,10 @@ impl Calls for OnWholeSets {
         match row.call {
             "PolicySet::singleton" => match policy(alloc, row.given) {
                 Some(policy) => alone(alloc, number, policy, want),
+                None => unmade(),
+            },
+            "PolicySet::from_raw_components" => match raw(alloc, number, row.given) {
+                Some(answer) => judged(alloc, answer, want, |set| has_ids(alloc, set, want)),
                 None => unmade(),
             },
             "PolicySet::try_from_iter" => {
