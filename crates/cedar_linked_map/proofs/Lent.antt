@@ -1,4 +1,4 @@
--- The order, once a value was written through a `&mut`.
+-- The order after a value was written through a `&mut`.
 use Rattle.std.proofs.Common.{◌≡◌, ◌∙◌, ◌<◌, ℕ, zero, suc, Bool, true, false, cond, List, [], ◌∷◌, ◌++◌, length, Option, None, Some, IsSome, slice_get, refl, sym, ap, subst, arith, true≢false}
 use Rattle.std.specs.Cmp.{IsEquivalence}
 use Rattle.std.specs.List.{IsDistinct}
@@ -10,7 +10,7 @@ use Rattle.indexmap.proofs.CallerLemmas.{updates-with_value_at}
 use Rattle.indexmap.proofs.MapLemmas.{absent_before}
 use Rattle.cedar_linked_map.proofs.Seen.{same_test, none_in_front}
 
--- where the key stands that passes, and a write there
+-- The place of the key that passes the test, and a write there.
 pub record Place {K X : Type 0} (t : K → Bool) (es : List (K × X)) (v : X) : Type 0 where
   pub at : ℕ
   pub within : at < length es
@@ -69,7 +69,7 @@ module _ {K X : Type 0} (t : K → Bool) where
       let none = same_test t (eq e.0) (λ k. key e.0 k passes) xs ∙ absent_before laws xs ys e (subst (λ l. IsDistinct eq (keys_of l)) is unique) in
       after ∙ sym (ap (λ l. set_value t l w) is ∙ set_mid xs e ys w none passes)
 
-  -- a write to the value of a key changes what that key finds, and no more
+  -- A write to the value of a key changes only what that key finds.
   pub written_updates : {S : Type 0} {eq : K → K → Bool} → IsEquivalence eq → IsKeyTest eq t → (m : IndexMap K X S) (w : X) → IsUnique eq m
       → (v : X) → lookup t m.entries ≡ Some v → UpdatesBy eq t m (with_entries m (set_value t m.entries w)) (Some w)
   written_updates {S} {eq} laws key m w unique v found =

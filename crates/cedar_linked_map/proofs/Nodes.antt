@@ -1,4 +1,4 @@
--- What a write to one entry leaves of the others.
+-- A write to one entry does not change the others.
 use Rattle.std.proofs.Common.{◌≡◌, ◌∙◌, ℕ, zero, suc, Bool, true, false, nat_eq, List, [], ◌∷◌, map, Some, slice_get, refl, sym, ap}
 use Rattle.std.specs.Prelude.{if◌then◌else◌}
 use Rattle.std.specs.Option.{option_map_or}
@@ -9,7 +9,7 @@ use Rattle.indexmap.specs.IndexMap.{set_value_at}
 use Rattle.cedar_linked_map.specs.Linked.{end}
 
 module _ {K X : Type 0} where
-  -- another entry is as it was
+  -- Another entry is unchanged.
   pub set_other : (es : List (K × X)) (i u : ℕ) (w : X) → (u ≡ i → ⊥) → slice_get (set_value_at es i w) u ≡ slice_get es u
   set_other [] i u w ne = refl
   set_other (e ∷ es) zero zero w ne = absurd (ne refl)
@@ -17,14 +17,14 @@ module _ {K X : Type 0} where
   set_other (e ∷ es) (suc i) zero w ne = refl
   set_other (e ∷ es) (suc i) (suc u) w ne = set_other es i u w (λ h. ne (ap suc h))
 
-  -- the entry has what was written
+  -- The entry has the written value.
   pub set_same : {A : Type 0} (f : X → A) (d : A) (es : List (K × X)) (i : ℕ) (v w : X) → slice_get (values_of es) i ≡ Some v
       → option_map_or (λ e. f e.1) (slice_get (set_value_at es i w) i) d ≡ f w
   set_same f d [] i v w p = absurd (none-some v p)
   set_same f d (e ∷ es) zero v w p = refl
   set_same f d (e ∷ es) (suc i) v w p = set_same f d es i v w p
 
-  -- a part that was written as it was is so everywhere
+  -- If a part of the entry was written unchanged, it is unchanged in all entries.
   pub set_kept : {A : Type 0} (f : X → A) (d : A) (es : List (K × X)) (i : ℕ) (v w : X) (u : ℕ) → slice_get (values_of es) i ≡ Some v → f w ≡ f v
       → option_map_or (λ e. f e.1) (slice_get (set_value_at es i w) u) d ≡ option_map_or (λ e. f e.1) (slice_get es u) d
   set_kept f d [] i v w u p q = refl
@@ -39,7 +39,7 @@ module _ {K X : Type 0} where
   set_shown {A} f (e ∷ es) zero v w p q = ap (λ (a : A). (e.0, a) ∷ map {B = K × A} (λ e. (e.0, f e.1)) es) (q ∙ ap f (sym (same_Some e.1 v p)))
   set_shown {A} f (e ∷ es) (suc i) v w p q = ap (λ l. (e.0, f e.1) ∷ l) (set_shown f es i v w p q)
 
-  -- a number that is noted of each entry, and one of the end
+  -- A number of each entry, and one of the end.
   abbrev pub noted : (X → ℕ) → ℕ → List (K × X) → ℕ → ℕ
   noted f x es u = if nat_eq u end then x else option_map_or (λ e. f e.1) (slice_get es u) 0
 
@@ -63,7 +63,7 @@ module _ {K X : Type 0} where
       → noted f x (set_value_at es i w) u ≡ noted f x es u
   noted_kept f x es i v w u p q = ap (λ o. if nat_eq u end then x else o) (set_kept f 0 es i v w u p q)
 
-  -- the end has another number
+  -- The end has another number.
   pub noted_end : (f : X → ℕ) (x y : ℕ) (es : List (K × X)) (u : ℕ) → noted f y es u ≡ (if nat_eq u end then y else noted f x es u)
   noted_end f x y es u = by (nat_eq u end) refl
     where

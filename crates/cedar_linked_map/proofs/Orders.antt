@@ -23,7 +23,7 @@ pub length_mid : {X : Type 0} (xs : List X) (x : X) (ys : List X) → length (xs
 length_mid [] x ys = refl
 length_mid (y ∷ xs) x ys = ap suc (length_mid xs x ys)
 
--- where a place stands
+-- The index of a place in the list.
 pub split_at : (i : ℕ) (o : List ℕ) → list_any (nat_eq i) o ≡ true → (xs : List ℕ) × (ys : List ℕ) × (o ≡ xs ++ i ∷ ys)
 split_at i [] h = absurd (true≢false (sym h))
 split_at i (x ∷ o) h = by (nat_eq i x) refl (λ g. split_at i o g)
@@ -35,7 +35,7 @@ split_at i (x ∷ o) h = by (nat_eq i x) refl (λ g. split_at i o g)
         let r = rest (sym (ap (λ c. c || list_any (nat_eq i) o) k) ∙ h) in
         (x ∷ r.0, r.1, ap (λ l. x ∷ l) r.2)
 
--- an item of a part is one of the whole
+-- An item of a part is an item of the whole list.
 pub any_left : {X : Type 0} (t : X → Bool) (xs ys : List X) → list_any t xs ≡ true → list_any t (xs ++ ys) ≡ true
 any_left t [] ys h = absurd (true≢false (sym h))
 any_left t (x ∷ xs) ys h = by (t x) h (any_left t xs ys)
@@ -92,7 +92,7 @@ module _ {X : Type 0} where
   some_below (e ∷ es) zero h = (e, refl)
   some_below (e ∷ es) (suc u) h = some_below es u (omega (arith, h))
 
-  -- a walk along a path picks its places
+  -- A walk along a path picks the items at its places.
   pub walk_picked : (es : List X) (A B N : ℕ → ℕ) → ((u : ℕ) → u < length es → N u ≡ A u) → (s : ℕ) (xs : List ℕ) (e : ℕ) → IsPath A B s xs e
       → ((u : ℕ) → list_any (nat_eq u) xs ≡ true → u < length es) → walk (length xs) es N (A s) ≡ picked es xs
   walk_picked es A B N agree s [] e p within = refl
@@ -105,7 +105,7 @@ module _ {X : Type 0} where
       ∙ ap (λ l. c.0 ∷ l) (ap (walk (length xs) es N) (agree x here) ∙ rest)
       ∙ ap (λ o. cons_option o (picked es xs)) (sym c.1)
 
--- what stands beside the ends of a path is a place or the end
+-- The neighbours of the ends of a path are places of entries, or the end.
 module _ (A B : ℕ → ℕ) (P : ℕ → Type 0) where
   pub before_is : (s : ℕ) (xs : List ℕ) (e : ℕ) → P s → ((u : ℕ) → list_any (nat_eq u) xs ≡ true → P u) → IsPath A B s xs e → P (B e)
   before_is s [] e ps all p = subst P (sym p.1) ps

@@ -1,11 +1,11 @@
--- Paths, once some places have others beside them.
+-- Paths after some places got other neighbours.
 use Rattle.std.proofs.Common.{◌≡◌, ◌∙◌, ℕ, Bool, false, ◌||◌, nat_eq, List, [], ◌∷◌, ◌++◌, refl, sym, ap, subst}
 use Rattle.std.specs.Prelude.{if◌then◌else◌}
 use Rattle.std.specs.List.{list_any}
 use Rattle.std.proofs.lemmas.Bool.{or_parts, eqb-false, ne_eqb, eq-eqb, cond-true, cond-false}
 use Rattle.cedar_linked_map.specs.Linked.{Joined, IsPath}
 
--- no item of either part passes
+-- No item of either part passes the test.
 pub any_parts : {X : Type 0} (t : X → Bool) (xs ys : List X) → list_any t (xs ++ ys) ≡ false → (list_any t xs ≡ false) × (list_any t ys ≡ false)
 any_parts t [] ys h = (refl, h)
 any_parts t (x ∷ xs) ys h =
@@ -13,7 +13,7 @@ any_parts t (x ∷ xs) ys h =
     let rest = any_parts t xs ys b.1 in
     (ap (λ c. c || list_any t xs) b.0 ∙ rest.0, rest.1)
 
--- and the other way round
+-- The converse.
 pub any_joined : {X : Type 0} (t : X → Bool) (xs ys : List X) → list_any t xs ≡ false → list_any t ys ≡ false → list_any t (xs ++ ys) ≡ false
 any_joined t [] ys h k = k
 any_joined t (x ∷ xs) ys h k =
@@ -29,7 +29,7 @@ module _ (A B : ℕ → ℕ) where
   parted s [] x ys e p = p
   parted s (y ∷ xs) x ys e p = let r = parted y xs x ys e p.1 in ((p.0, r.0), r.1)
 
-  -- what stands before the end of a path has it behind it, and the other way round
+  -- The place before the end of a path leads to the end, and the end leads back to it.
   pub before_back : (s : ℕ) (xs : List ℕ) (e : ℕ) → IsPath A B s xs e → A (B e) ≡ e
   before_back s [] e p = ap A p.1 ∙ p.0
   before_back s (x ∷ xs) e p = before_back x xs e p.1
@@ -38,7 +38,7 @@ module _ (A B : ℕ → ℕ) where
   after_back s [] e p = ap B p.0 ∙ p.1
   after_back s (x ∷ xs) e p = ap B p.0.0 ∙ p.0.1
 
-  -- what stands before the end is none that no place of the path is
+  -- The place before the end of a path is its start or one of its places.
   pub good_before : (bad : ℕ → Bool) (s : ℕ) (xs : List ℕ) (e : ℕ) → bad s ≡ false → list_any bad xs ≡ false → IsPath A B s xs e → bad (B e) ≡ false
   good_before bad s [] e bs bx p = ap bad p.1 ∙ bs
   good_before bad s (x ∷ xs) e bs bx p = let b = or_parts (bad x) (list_any bad xs) bx in good_before bad x xs e b.0 b.1 p.1
@@ -47,7 +47,7 @@ module _ (A B : ℕ → ℕ) where
   good_after bad s [] e bx be p = ap bad p.0 ∙ be
   good_after bad s (x ∷ xs) e bx be p = ap bad p.0.0 ∙ (or_parts (bad x) (list_any bad xs) bx).0
 
--- other links, which join what was joined, but at some places
+-- Other links that equal the old ones except at some places.
 module _ (A B A' B' : ℕ → ℕ) (bad : ℕ → Bool) (keep : (u v : ℕ) → bad u ≡ false → bad v ≡ false → Joined A B u v → Joined A' B' u v) where
   pub kept : (s : ℕ) (xs : List ℕ) (e : ℕ) → bad s ≡ false → list_any bad xs ≡ false → bad e ≡ false → IsPath A B s xs e → IsPath A' B' s xs e
   kept s [] e bs bx be p = keep s e bs be p
@@ -71,11 +71,11 @@ append_none : (l : List ℕ) → l ++ [] ≡ l
 append_none [] = refl
 append_none (x ∷ l) = ap (λ r. x ∷ r) (append_none l)
 
--- the place is one of two
+-- Holds if the place is one of two places.
 abbrev pub is_either : ℕ → ℕ → ℕ → Bool
 is_either i m u = nat_eq i u || nat_eq m u
 
--- the places beside i are joined to each other
+-- The neighbours of i are linked to each other.
 module _ (A B A' B' : ℕ → ℕ) (i : ℕ)
     (a : (u : ℕ) → A' u ≡ (if nat_eq u (B i) then A i else A u)) (b : (u : ℕ) → B' u ≡ (if nat_eq u (A i) then B i else B u)) where
   keep_unlinked : A (B i) ≡ i → B (A i) ≡ i → (u v : ℕ) → nat_eq i u ≡ false → nat_eq i v ≡ false → Joined A B u v → Joined A' B' u v
@@ -105,7 +105,7 @@ module _ (A B A' B' : ℕ → ℕ) (i : ℕ)
           let b = or_parts (nat_eq i z) (list_any (nat_eq i) zs) bz in
           glued A' B' s xs z zs e (subst (IsPath A' B' s xs) q.0.0 front) (kept A B A' B' (nat_eq i) keep z zs e b.0 b.1 be q.1)
 
--- what lay at m lies at i
+-- The entry that was at m is at i.
 module _ (A B A2 B2 A3 B3 : ℕ → ℕ) (i m : ℕ)
     (a2 : (u : ℕ) → nat_eq i u ≡ false → nat_eq m u ≡ false → A2 u ≡ A u) (b2 : (u : ℕ) → nat_eq i u ≡ false → nat_eq m u ≡ false → B2 u ≡ B u)
     (ai : A2 i ≡ A m) (bi : B2 i ≡ B m)

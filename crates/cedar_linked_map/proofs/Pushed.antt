@@ -1,4 +1,4 @@
--- The order, once a new key went last.
+-- The order after a new key was appended.
 use Rattle.std.proofs.Common.{◌≡◌, ◌∙◌, ◌+◌, ◌<◌, ◌≤◌, ◌^◌, ℕ, zero, suc, Bool, true, false, ◌||◌, nat_eq, nat_lt, List, [], ◌∷◌, ◌++◌, length, Some, slice_get, refl, sym, ap, subst, arith, inl, inr}
 use Rattle.std.specs.Prelude.{if◌then◌else◌}
 use Rattle.std.specs.List.{list_any}
@@ -12,7 +12,7 @@ use Rattle.cedar_linked_map.proofs.Paths.{is_either, glued, good_before, before_
 use Rattle.cedar_linked_map.proofs.Orders.{any_mid, length_mid, mid_apart, any_either, picked_mid, picked_kept, before_is, eq_flip}
 use Rattle.cedar_linked_map.proofs.Taken.{in_order_is, length_cells, cell_at, after_is_at, before_is_at}
 
--- a path whose end gets another
+-- A path that is extended by one place.
 to_new_end : (A B A' B' : ℕ → ℕ) (bad worse : ℕ → Bool) → ((u v : ℕ) → bad u ≡ false → worse v ≡ false → Joined A B u v → Joined A' B' u v)
     → (i x : ℕ) → ((u : ℕ) → bad u ≡ false → Joined A B u i → Joined A' B' u x) → (s : ℕ) (xs : List ℕ) → bad s ≡ false → list_any bad xs ≡ false → list_any worse xs ≡ false
     → IsPath A B s xs i → IsPath A' B' s xs x
@@ -32,7 +32,7 @@ get_pushed : {X : Type 0} (xs : List X) (x : X) → slice_get (xs ++ x ∷ []) (
 get_pushed [] x = refl
 get_pushed (y ∷ xs) x = get_pushed xs x
 
--- the place behind the last one
+-- The place after the last one.
 order_pushed : (n : ℕ) (A B A1 B1 A2 B2 : ℕ → ℕ) (o : List ℕ) → n < 2 ^ 63 → IsOrder n A B o
     → ((u : ℕ) → nat_eq n u ≡ false → A1 u ≡ A u) → A1 n ≡ end → ((u : ℕ) → A2 u ≡ (if nat_eq u (B end) then n else A1 u))
     → ((u : ℕ) → is_either end n u ≡ false → B2 u ≡ B u) → B2 n ≡ B end → B2 end ≡ n → IsOrder (n + 1) A2 B2 (o ++ n ∷ [])
@@ -68,7 +68,7 @@ order_pushed n A B A1 B1 A2 B2 o small order a1 an a2 b bn be =
           | inr h ↦ le-ltb u n h ∙ sym (le-ltb u (n + 1) (omega (arith, h, eqb-false u n k)))
         ]
 
--- the last entry's place, or the end
+-- The place of the last entry, or the end.
 pub last_seat : {K V : Type 0} (ns : List (K × Node V)) (first last m : ℕ) → length ns ≤ m → AreLinked ns first last → IsSeat m last
 last_seat ns first last m more linked =
     subst (IsSeat m) (cond-true (nat_eq end end) last (before_at ns end) (eq-eqb end end refl))

@@ -1,4 +1,4 @@
--- The order, once an entry is taken out.
+-- The order after an entry was removed.
 use Rattle.std.proofs.Common.{◌≡◌, ◌∙◌, ◌+◌, ◌-◌, ◌<◌, ◌^◌, ℕ, Bool, true, false, not, ◌&&◌, ◌||◌, nat_eq, nat_lt, List, ◌∷◌, ◌++◌, refl, sym, ap, arith, inl, inr}
 use Rattle.std.specs.Prelude.{if◌then◌else◌}
 use Rattle.std.specs.List.{list_any}
@@ -7,7 +7,7 @@ use Rattle.cedar_linked_map.specs.Linked.{IsOrder, IsGapped, end}
 use Rattle.cedar_linked_map.proofs.Paths.{unlinked, moved, kept}
 use Rattle.cedar_linked_map.proofs.Orders.{any_mid, length_mid, apart_mid, mid_apart, any_either}
 
--- no place of an entry is the end
+-- No entry has the place of the end.
 pub not_end : (n u : ℕ) → n < 2 ^ 63 → u < n → nat_eq u end ≡ false
 not_end n u small h = ne_eqb u end (λ e. absurd (omega (arith, small, h, e)))
 
@@ -19,7 +19,7 @@ pub and_false : (b : Bool) → (b && false) ≡ false
 and_false true = refl
 and_false false = refl
 
--- an entry's place, taken out of the order
+-- The place of an entry, removed from the order.
 pub gap_after : (n i : ℕ) (A B A1 B1 : ℕ → ℕ) (xs ys : List ℕ) → n < 2 ^ 63 → i < n → IsOrder n A B (xs ++ i ∷ ys)
     → ((u : ℕ) → A1 u ≡ (if nat_eq u (B i) then A i else A u)) → ((u : ℕ) → B1 u ≡ (if nat_eq u (A i) then B i else B u)) → IsGapped n i A1 B1 (xs ++ ys)
 gap_after n i A B A1 B1 xs ys small within order a b =
@@ -40,7 +40,7 @@ gap_after n i A B A1 B1 xs ys small within order a b =
         sym (any_mid (nat_eq u) xs i ys ∙ ap (λ c. c || list_any (nat_eq u) (xs ++ ys)) k) ∙ order.has u
         ∙ sym (ap (λ c. nat_lt u n && not c) k ∙ and_right_true (nat_lt u n))
 
--- below n, and not the last place below it
+-- A place below n that is not the last one.
 one_less : (n u : ℕ) → 0 < n → (u ≡ n - 1 → ⊥) → nat_lt u n ≡ nat_lt u (n - 1)
 one_less n u some ne =
     elim (cases_lt u (n - 1)) [
@@ -48,7 +48,7 @@ one_less n u some ne =
       | inr h ↦ le-ltb u n (omega (arith, h, ne, some)) ∙ sym (le-ltb u (n - 1) h)
     ]
 
--- the last place, which moves into the gap
+-- The entry at the last place moves into the gap.
 pub filled : (n i : ℕ) (A B A2 B2 A3 B3 : ℕ → ℕ) (us vs : List ℕ) → n < 2 ^ 63 → i + 1 < n → IsGapped n i A B (us ++ (n - 1) ∷ vs)
     → ((u : ℕ) → nat_eq i u ≡ false → nat_eq (n - 1) u ≡ false → A2 u ≡ A u) → ((u : ℕ) → nat_eq i u ≡ false → nat_eq (n - 1) u ≡ false → B2 u ≡ B u)
     → A2 i ≡ A (n - 1) → B2 i ≡ B (n - 1)
@@ -81,7 +81,7 @@ filled n i A B A2 B2 A3 B3 us vs small within gap a2 b2 ai bi a b =
         ∙ sym (any_mid (nat_eq u) us (n - 1) vs ∙ ap (λ c. c || list_any (nat_eq u) (us ++ vs)) l)
         ∙ gap.has u ∙ ap (λ c. nat_lt u n && not c) k ∙ and_right_true (nat_lt u n) ∙ one_less n u (omega (arith, within)) (eqb-false u (n - 1) l)
 
--- the last place, which was the gap
+-- The gap was the last place.
 pub cut_off : (n i : ℕ) (A B A3 B3 : ℕ → ℕ) (o : List ℕ) → n < 2 ^ 63 → i + 1 ≡ n → IsGapped n i A B o
     → ((u : ℕ) → nat_eq i u ≡ false → A3 u ≡ A u) → ((u : ℕ) → nat_eq i u ≡ false → B3 u ≡ B u) → IsOrder (n - 1) A3 B3 o
 cut_off n i A B A3 B3 o small last gap a b =

@@ -1,4 +1,4 @@
--- The order, once an entry has another value.
+-- The order after the value of an entry was replaced.
 use Rattle.std.proofs.Common.{◌≡◌, ◌∙◌, ◌<◌, ◌^◌, ℕ, zero, suc, Bool, true, false, nat_eq, List, [], ◌∷◌, ◌++◌, length, None, Some, slice_get, refl, sym, ap, subst, arith, if◌then◌else◌}
 use Rattle.std.specs.Cmp.{IsEquivalence}
 use Rattle.std.specs.List.{IsDistinct}
@@ -62,7 +62,7 @@ module _ {K V : Type 0} where
           e.1,
         )
 
--- an insertion at a key that is there
+-- An insertion of a key that the map contains.
 module _ {K X : Type 0} {eq : K → K → Bool} (laws : IsEquivalence eq) (k : K) (v : X) where
   inserted_mid : (xs : List (K × X)) (e : K × X) (ys : List (K × X)) → lookup (eq k) xs ≡ None → eq k e.0 ≡ true → insert_entry eq (xs ++ e ∷ ys) k v ≡ xs ++ (e.0, v) ∷ ys
   inserted_mid [] e ys none same = ap (λ b. if b then (e.0, v) ∷ ys else e ∷ insert_entry eq ys k v) same

@@ -27,7 +27,7 @@ last_of [] n h = absurd (omega (arith, h))
 last_of (e ∷ es) zero h = (e, refl, ap (λ l. e ∷ l) (nil_from_length es (omega (arith, h))))
 last_of (e ∷ es) (suc n) h = let r = last_of es n (omega (arith, h)) in (r.0, r.1, ap (λ l. e ∷ l) r.2)
 
--- each place once, in some order, picks the items in some order
+-- A list with each place once picks a permutation of the items.
 pub permuted : {X : Type 0} (n : ℕ) (es : List X) (o : List ℕ) → length es ≡ n → AreApart o → ((u : ℕ) → list_any (nat_eq u) o ≡ nat_lt u n) → IsPermutation es (picked es o)
 permuted zero es [] len apart has = subst (λ l. IsPermutation l []) (sym (nil_from_length es len)) (IsPermutation-refl [])
 permuted zero es (x ∷ o) len apart has =
@@ -91,7 +91,7 @@ module _ {K V : Type 0} where
       pub looked_up : (t : K → Bool) → IsKeyTest eq t → lookup t (in_order ns first) ≡ option_map (λ n. n.value) (lookup t ns)
       looked_up t key = lookup_permutation laws (cells ns) (in_order ns first) same_entries still_unique t key ∙ lookup_cells t ns
 
--- an item taken out of the middle is the entry that its key finds
+-- The item that is removed from the middle is the entry of its key.
 module _ {K X : Type 0} (t : K → Bool) where
   pub none_in_front : (x : K × X) (xs : List (K × X)) → lookup t (x ∷ xs) ≡ None → (t x.0 ≡ false) × (lookup t xs ≡ None)
   none_in_front x xs h = by (t x.0) refl h
@@ -122,7 +122,7 @@ module _ {K X : Type 0} (t : K → Bool) where
       let none = same_test (eq e.0) (λ k. key e.0 k passes) xs ∙ absent_before laws xs ys e (subst (λ l. IsDistinct eq (keys_of l)) is unique) in
       after ∙ sym (ap (remove_entry t) is ∙ removed_mid xs e ys none passes)
 
--- an entry by its place
+-- The entry at a place.
 module _ {K V : Type 0} where
   pub value_there : (ns : List (K × Node V)) (i : ℕ) (r : K × V) → slice_get (cells ns) i ≡ Some r → option_map (λ n. n.value) (slice_get (values_of ns) i) ≡ Some r.1
   value_there [] i r h = absurd (none-some r h)

@@ -1,4 +1,4 @@
--- What taking out an entry leaves of the table and of the order.
+-- The table and the order after an entry was removed.
 use Rattle.std.proofs.Common.{◌≡◌, ◌∙◌, ◌+◌, ◌-◌, ◌<◌, ◌^◌, ℕ, zero, suc, true, false, not, ◌&&◌, nat_eq, nat_lt, List, [], ◌∷◌, ◌++◌, length, take, get_or, Some, slice_get, slice_set, refl, sym, ap, subst, arith, true≢false, inl, inr}
 use Rattle.std.specs.Prelude.{if◌then◌else◌}
 use Rattle.std.specs.List.{list_any, swap_remove}
@@ -34,7 +34,7 @@ module _ {X : Type 0} (l : List X) (i : ℕ) (d : X) where
   pub swap_length : length (swap_remove l i d) ≡ length l - 1
   swap_length = omega (arith, length-take (length l - 1) (slice_set l i (get_or l (length l - 1) d)), length-set l i (get_or l (length l - 1) d))
 
-  -- items that neither went nor moved
+  -- Items that were neither removed nor moved.
   pub swap_other : (u : ℕ) → (u ≡ i → ⊥) → (u ≡ length l - 1 → ⊥) → slice_get (swap_remove l i d) u ≡ slice_get l u
   swap_other u ne nl =
       elim (cases_lt u (length l - 1)) [
@@ -42,7 +42,7 @@ module _ {X : Type 0} (l : List X) (i : ℕ) (d : X) where
         | inr h ↦ slice_get_past (swap_remove l i d) u (omega (arith, swap_length, h)) ∙ sym (slice_get_past l u (omega (arith, h, nl)))
       ]
 
-  -- the last item, which moved
+  -- The last item, which was moved.
   pub swap_at : i + 1 < length l → slice_get (swap_remove l i d) i ≡ slice_get l (length l - 1)
   swap_at h =
       take_get (length l - 1) (slice_set l i (get_or l (length l - 1) d)) i (omega (arith, h))
@@ -62,7 +62,7 @@ module _ {K V : Type 0} where
   pub before_is_at : (ns : List (K × Node V)) (last u : ℕ) → nat_eq u end ≡ false → before_of ns last u ≡ before_at ns u
   before_is_at ns last u h = cond-false (nat_eq u end) last (before_at ns u) h
 
-  -- the entries in their order are those at the places of the order
+  -- The entries in order are the entries at the places of the order.
   pub in_order_is : (ns : List (K × Node V)) (first last : ℕ) (o : List ℕ) → length ns < 2 ^ 63 → IsOrder (length ns) (after_of ns first) (before_of ns last) o
       → in_order ns first ≡ picked (cells ns) o
   in_order_is ns first last o small order =
@@ -74,7 +74,7 @@ module _ {K V : Type 0} where
       ap (λ n. walk n (cells ns) (after_at ns) first) (sym order.len)
       ∙ ap (walk (length o) (cells ns) (after_at ns)) (sym same) ∙ walked
 
-  -- places of the order, and those beside them
+  -- The places of the order, and their neighbours.
   module _ (ns : List (K × Node V)) (first last : ℕ) (small : length ns < 2 ^ 63) where
     seat_before : (n : ℕ) (s : ℕ) (xs : List ℕ) (i : ℕ) → i < length ns → IsSeat n s → ((u : ℕ) → list_any (nat_eq u) xs ≡ true → u < n)
         → IsPath (after_of ns first) (before_of ns last) s xs i → IsSeat n (before_at ns i)
@@ -100,7 +100,7 @@ module _ {K V : Type 0} where
           seat_after (length ns) at.1 end i within (inr refl) (λ u h. inside u (any_right (nat_eq u) at.0 (i ∷ at.1) (or_right (nat_eq u i) (list_any (nat_eq u) at.1) h))) parts.1,
         )
 
-    -- those of the last place, where another is a gap
+    -- The neighbours of the last place, if the gap is another place.
     pub gap_seats : (i : ℕ) (o : List ℕ) → i + 1 < length ns → IsGapped (length ns) i (after_of ns first) (before_of ns last) o
         → IsSeat (length ns - 1) (before_at ns (length ns - 1)) × IsSeat (length ns - 1) (after_at ns (length ns - 1))
     gap_seats i o within gap =
@@ -130,7 +130,8 @@ module _ {K V : Type 0} where
                   absurd (true≢false (sym some ∙ ap (λ z. list_any (nat_eq z) (xs ++ ys)) last ∙ none))
             ]
 
--- an entry is taken out: its neighbours are joined, the last entry takes its place, and the neighbours of that are told
+-- The removal of an entry: its neighbours are linked to each other, the last entry moves to its place, and the
+-- neighbours of the moved entry get its new place.
 module _ {K V : Type 0} (ns ns1 ns2 ns3 : List (K × Node V)) (first last first1 last1 first3 last3 i : ℕ) (p : K × Node V)
     (small : length ns < 2 ^ 63) (within : i < length ns) (linked : AreLinked ns first last)
     (a1 : (u : ℕ) → after_of ns1 first1 u ≡ (if nat_eq u (before_at ns i) then after_at ns i else after_of ns first u))
@@ -156,7 +157,7 @@ module _ {K V : Type 0} (ns ns1 ns2 ns3 : List (K × Node V)) (first last first1
       (λ u. a1 u ∙ (λ j. if nat_eq u (sym (before_is_at ns last i i_end) j) then sym (after_is_at ns first i i_end) j else after_of ns first u))
       (λ u. b1 u ∙ (λ j. if nat_eq u (sym (after_is_at ns first i i_end) j) then sym (before_is_at ns last i i_end) j else before_of ns last u)))
 
-  -- the places of the moved entry
+  -- The neighbours of the moved entry.
   pub after_moved : i < length ns2 → after_at ns2 i ≡ after_at ns1 (length ns1 - 1)
   after_moved h =
       ap (λ l. after_at l i) s2
@@ -182,7 +183,7 @@ module _ {K V : Type 0} (ns ns1 ns2 ns3 : List (K × Node V)) (first last first1
     n3 : length ns3 ≡ length ns - 1
     n3 = sym (length_cells ns3) ∙ ap length c3 ∙ length_cells ns2 ∙ n2
 
-    -- entries that neither went nor moved
+    -- Entries that were neither removed nor moved.
     cell_kept : (u : ℕ) → (u ≡ i → ⊥) → (u ≡ length ns - 1 → ⊥) → slice_get (cells ns3) u ≡ slice_get (cells ns) u
     cell_kept u ne nl =
         ap (λ l. slice_get l u) (c3 ∙ ap cells s2) ∙ cell_at (swap_remove ns1 i p) u
@@ -210,7 +211,7 @@ module _ {K V : Type 0} (ns ns1 ns2 ns3 : List (K × Node V)) (first last first1
         ∙ ap (λ o. if nat_eq u end then last1 else option_map_or (λ e. e.1.before) o 0)
         (swap_other ns1 i p u (λ e. eqb-false i u h (sym e)) (λ e. eqb-false (length ns1 - 1) u k (sym e)))
 
-    -- some order that picks what the old one picked, but the entry
+    -- An order that picks the same items as the old one, except the removed entry.
     Left : Type 0
     Left = (o : List ℕ) × IsOrder (length ns3) (after_of ns3 first3) (before_of ns3 last3) o
         × (picked (cells ns3) o ≡ picked (cells ns) (parts_at.0 ++ parts_at.1))
@@ -288,7 +289,7 @@ module _ {K V : Type 0} (ns ns1 ns2 ns3 : List (K × Node V)) (first last first1
       in_order_is ns3 first3 last3 left.0 (omega (arith, n3, small)) left.1 ∙ left.2 ∙ picked-append (cells ns) parts_at.0 parts_at.1,
     )
 
--- one step of a walk
+-- One step of a walk.
 pub walk_step : {K V : Type 0} (left : ℕ) (ns : List (K × Node V)) (u : ℕ) (k : K) (n : Node V) → (left ≡ 0 → ⊥) → Some (k, n) ≡ slice_get ns u
     → walk left (cells ns) (after_at ns) u ≡ (k, n.value) ∷ walk (left - 1) (cells ns) (after_at ns) n.after
 walk_step zero ns u k n some at = absurd (some refl)
