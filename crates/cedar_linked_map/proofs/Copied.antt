@@ -1,10 +1,12 @@
 -- A copy of the table has the same links.
-use Rattle.std.proofs.Common.{◌≡◌, ℕ, zero, suc, nat_eq, List, [], ◌∷◌, length, Option, None, Some, slice_get, refl, sym, ap, subst}
+use Rattle.std.proofs.Common.{◌≡◌, ℕ, zero, suc, nat_eq, List, [], ◌∷◌, length, Option, None, Some, slice_get, refl}
+use Rattle.std.proofs.Common.{sym, ap, subst}
 use Rattle.std.specs.Prelude.{if◌then◌else◌}
 use Rattle.std.specs.List.{AllZip}
 use Rattle.std.specs.Option.{option_map_or}
 use Rattle.cedar_linked_map.specs.declared.chain.Node.{Node}
-use Rattle.cedar_linked_map.specs.Linked.{IsOrder, AreLinked, in_order, walk, cells, after_at, before_at, after_of, before_of, end}
+use Rattle.cedar_linked_map.specs.Linked.{IsOrder, AreLinked, in_order, walk, cells, after_at, before_at, after_of}
+use Rattle.cedar_linked_map.specs.Linked.{before_of, end}
 
 module _ {K V : Type 0} (C : K → K → Type 0) (D : V → V → Type 0) where
   -- The copy of an entry: a copy of the key, a copy of the value, and the same places.
@@ -34,7 +36,8 @@ module _ {K V : Type 0} (C : K → K → Type 0) (D : V → V → Type 0) where
   same_before (n ∷ ns) (m ∷ ms) h zero = h.0.1.1.0
   same_before (n ∷ ns) (m ∷ ms) h (suc u) = same_before ns ms h.1 u
 
-  pub still_linked : (ns ms : List (K × Node V)) (first last : ℕ) → AllZip IsCopied ns ms → AreLinked ns first last → AreLinked ms first last
+  pub still_linked : (ns ms : List (K × Node V)) (first last : ℕ) → AllZip IsCopied ns ms
+      → AreLinked ns first last → AreLinked ms first last
   still_linked ns ms first last h linked =
       let a : after_of ms first ≡ after_of ns first = λ j u. if nat_eq u end then first else same_after ns ms h u j in
       let b : before_of ms last ≡ before_of ns last = λ j u. if nat_eq u end then last else same_before ns ms h u j in (
@@ -51,25 +54,29 @@ module _ {K V : Type 0} (C : K → K → Type 0) (D : V → V → Type 0) where
   IsBoth (Some x) None = ⊥
   IsBoth (Some x) (Some y) = IsCopy x y
 
-  both : (ns ms : List (K × Node V)) → AllZip IsCopied ns ms → (u : ℕ) → IsBoth (slice_get (cells ns) u) (slice_get (cells ms) u)
+  both : (ns ms : List (K × Node V)) → AllZip IsCopied ns ms → (u : ℕ)
+      → IsBoth (slice_get (cells ns) u) (slice_get (cells ms) u)
   both [] [] h u = tt
   both [] (m ∷ ms) h u = absurd h
   both (n ∷ ns) [] h u = absurd h
   both (n ∷ ns) (m ∷ ms) h zero = (h.0.0, h.0.1.0)
   both (n ∷ ns) (m ∷ ms) h (suc u) = both ns ms h.1 u
 
-  walked : (es fs : List (K × V)) (A : ℕ → ℕ) → ((u : ℕ) → IsBoth (slice_get es u) (slice_get fs u)) → (n u : ℕ) → AllZip IsCopy (walk n es A u) (walk n fs A u)
+  walked : (es fs : List (K × V)) (A : ℕ → ℕ) → ((u : ℕ) → IsBoth (slice_get es u) (slice_get fs u)) → (n u : ℕ)
+      → AllZip IsCopy (walk n es A u) (walk n fs A u)
   walked es fs A same zero u = tt
   walked es fs A same (suc n) u = by (slice_get es u) (slice_get fs u) (same u) (walked es fs A same n (A u))
     where
       by : (x y : Option (K × V)) → IsBoth x y → AllZip IsCopy (walk n es A (A u)) (walk n fs A (A u))
-          → AllZip IsCopy (option_map_or (λ e. e ∷ walk n es A (A u)) x []) (option_map_or (λ e. e ∷ walk n fs A (A u)) y [])
+          → AllZip IsCopy (option_map_or (λ e. e ∷ walk n es A (A u)) x []) (option_map_or (λ e. e ∷ walk n fs A (A
+          u)) y [])
       by None None h rest = tt
       by None (Some y) h rest = absurd h
       by (Some x) None h rest = absurd h
       by (Some x) (Some y) h rest = (h, rest)
 
-  pub copied : (ns ms : List (K × Node V)) (first : ℕ) → AllZip IsCopied ns ms → AllZip IsCopy (in_order ns first) (in_order ms first)
+  pub copied : (ns ms : List (K × Node V)) (first : ℕ) → AllZip IsCopied ns ms
+      → AllZip IsCopy (in_order ns first) (in_order ms first)
   copied ns ms first h =
       let a : after_at ms ≡ after_at ns = λ j u. same_after ns ms h u j in
       subst (λ n. AllZip IsCopy (in_order ns first) (walk n (cells ms) (after_at ms) first)) (sym (same_length ns ms h))

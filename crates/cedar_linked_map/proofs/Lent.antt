@@ -1,16 +1,18 @@
--- The order after a value was written through a `&mut`.
-use Rattle.std.proofs.Common.{◌≡◌, ◌∙◌, ◌<◌, ℕ, zero, suc, Bool, true, false, cond, List, [], ◌∷◌, ◌++◌, length, Option, None, Some, IsSome, slice_get, refl, sym, ap, subst, arith, true≢false}
+-- The order after a value is written through a mutable reference.
+use Rattle.std.proofs.Common.{◌≡◌, ◌∙◌, ◌<◌, ℕ, zero, suc, Bool, true, false, cond, List, [], ◌∷◌, ◌++◌, length}
+use Rattle.std.proofs.Common.{Option, None, Some, IsSome, slice_get, refl, sym, ap, subst, arith, true≢false}
 use Rattle.std.specs.Cmp.{IsEquivalence}
 use Rattle.std.specs.List.{IsDistinct}
 use Rattle.std.specs.Map.{keys_of, values_of, lookup, set_value, IsKeyTest}
 use Rattle.std.specs.Option.{option_map}
 use Rattle.std.proofs.lemmas.Option.{none-some, same_Some}
-use Rattle.indexmap.specs.IndexMap.{IndexMap, set_value_at, with_entries, with_value_at, hasher_of, spare, UpdatesBy, IsUnique, WritesThrough}
+use Rattle.indexmap.specs.IndexMap.{IndexMap, set_value_at, with_entries, with_value_at, hasher_of, spare, UpdatesBy}
+use Rattle.indexmap.specs.IndexMap.{IsUnique, WritesThrough}
 use Rattle.indexmap.proofs.CallerLemmas.{updates-with_value_at}
 use Rattle.indexmap.proofs.MapLemmas.{absent_before}
 use Rattle.cedar_linked_map.proofs.Seen.{same_test, none_in_front}
 
--- The place of the key that passes the test, and a write there.
+-- The place of the first key that passes a test, and the effect of a write at the place.
 pub record Place {K X : Type 0} (t : K → Bool) (es : List (K × X)) (v : X) : Type 0 where
   pub at : ℕ
   pub within : at < length es
@@ -22,7 +24,8 @@ pub place : {K X : Type 0} (t : K → Bool) (es : List (K × X)) (v : X) → loo
 place t [] v h = absurd (none-some v h)
 place {K} {X} t (e ∷ es) v h = by (t e.0) refl h (place t es v)
   where
-    by : (b : Bool) → t e.0 ≡ b → cond b (Some e.1) (lookup t es) ≡ Some v → (lookup t es ≡ Some v → Place t es v) → Place t (e ∷ es) v
+    by : (b : Bool) → t e.0 ≡ b → cond b (Some e.1) (lookup t es) ≡ Some v → (lookup t es ≡ Some v
+        → Place t es v) → Place t (e ∷ es) v
     by true y g rest = record {
       at = 0;
       within = omega arith;
@@ -45,7 +48,8 @@ module _ {K X : Type 0} (t : K → Bool) where
   keys-set_value [] w = refl
   keys-set_value (e ∷ es) w = by (t e.0) (keys-set_value es w)
     where
-      by : (b : Bool) → keys_of (set_value t es w) ≡ keys_of es → keys_of (cond b ((e.0, w) ∷ es) (e ∷ set_value t es w)) ≡ e.0 ∷ keys_of es
+      by : (b : Bool) → keys_of (set_value t es w) ≡ keys_of es
+          → keys_of (cond b ((e.0, w) ∷ es) (e ∷ set_value t es w)) ≡ e.0 ∷ keys_of es
       by true h = refl
       by false h = ap (λ l. e.0 ∷ l) h
 
@@ -53,24 +57,30 @@ module _ {K X : Type 0} (t : K → Bool) where
   length-set_value [] w = refl
   length-set_value (e ∷ es) w = by (t e.0) (length-set_value es w)
     where
-      by : (b : Bool) → length (set_value t es w) ≡ length es → length (cond b ((e.0, w) ∷ es) (e ∷ set_value t es w)) ≡ suc (length es)
+      by : (b : Bool) → length (set_value t es w) ≡ length es
+          → length (cond b ((e.0, w) ∷ es) (e ∷ set_value t es w)) ≡ suc (length es)
       by true h = refl
       by false h = ap suc h
 
-  set_mid : (xs : List (K × X)) (e : K × X) (ys : List (K × X)) (w : X) → lookup t xs ≡ None → t e.0 ≡ true → set_value t (xs ++ e ∷ ys) w ≡ xs ++ (e.0, w) ∷ ys
+  set_mid : (xs : List (K × X)) (e : K × X) (ys : List (K × X)) (w : X) → lookup t xs ≡ None → t e.0 ≡ true
+      → set_value t (xs ++ e ∷ ys) w ≡ xs ++ (e.0, w) ∷ ys
   set_mid [] e ys w none passes = ap (λ b. cond b ((e.0, w) ∷ ys) (e ∷ set_value t ys w)) passes
   set_mid (x ∷ xs) e ys w none passes =
       let parts = none_in_front t x xs none in
-      ap (λ b. cond b ((x.0, w) ∷ (xs ++ e ∷ ys)) (x ∷ set_value t (xs ++ e ∷ ys) w)) parts.0 ∙ ap (λ l. x ∷ l) (set_mid xs e ys w parts.1 passes)
+      ap (λ b. cond b ((x.0, w) ∷ (xs ++ e ∷ ys)) (x ∷ set_value t (xs ++ e ∷ ys) w)) parts.0
+      ∙ ap (λ l. x ∷ l) (set_mid xs e ys w parts.1 passes)
 
-  pub written_mid : {eq : K → K → Bool} → IsEquivalence eq → IsKeyTest eq t → (es : List (K × X)) (e : K × X) (fs xs ys : List (K × X)) (w : X) → IsDistinct eq (keys_of es)
+  pub written_mid : {eq : K → K → Bool} → IsEquivalence eq → IsKeyTest eq t
+      → (es : List (K × X)) (e : K × X) (fs xs ys : List (K × X)) (w : X) → IsDistinct eq (keys_of es)
       → es ≡ xs ++ e ∷ ys → fs ≡ xs ++ (e.0, w) ∷ ys → t e.0 ≡ true → fs ≡ set_value t es w
   written_mid {eq} laws key es e fs xs ys w unique is after passes =
-      let none = same_test t (eq e.0) (λ k. key e.0 k passes) xs ∙ absent_before laws xs ys e (subst (λ l. IsDistinct eq (keys_of l)) is unique) in
+      let none = same_test t (eq e.0) (λ k. key e.0 k passes) xs
+      ∙ absent_before laws xs ys e (subst (λ l. IsDistinct eq (keys_of l)) is unique) in
       after ∙ sym (ap (λ l. set_value t l w) is ∙ set_mid xs e ys w none passes)
 
-  -- A write to the value of a key changes only what that key finds.
-  pub written_updates : {S : Type 0} {eq : K → K → Bool} → IsEquivalence eq → IsKeyTest eq t → (m : IndexMap K X S) (w : X) → IsUnique eq m
+  -- A write to the value of a key changes only the result of looking this key up.
+  pub written_updates : {S : Type 0} {eq : K → K → Bool} → IsEquivalence eq → IsKeyTest eq t
+      → (m : IndexMap K X S) (w : X) → IsUnique eq m
       → (v : X) → lookup t m.entries ≡ Some v → UpdatesBy eq t m (with_entries m (set_value t m.entries w)) (Some w)
   written_updates {S} {eq} laws key m w unique v found =
       let p = place t m.entries v found in
@@ -78,7 +88,8 @@ module _ {K X : Type 0} (t : K → Bool) where
       let passes : t e.0.0 ≡ true = p.passes e.0.0 (key_of m.entries p.at e.0 e.1) in
       let same : eq e.0.0 ≡ t = λ j y. sym (key e.0.0 y passes) j in
       subst (λ l. UpdatesBy eq t m (with_entries m l) (Some w)) (sym (p.writes w))
-      (subst (λ q. UpdatesBy eq q m (with_value_at m p.at w) (Some w)) same (updates-with_value_at m p.at w laws unique e.0.0 e.0.1 e.1))
+      (subst (λ q. UpdatesBy eq q m (with_value_at m p.at w) (Some w)) same (updates-with_value_at m p.at w laws
+      unique e.0.0 e.0.1 e.1))
     where
       entry_at : (es : List (K × X)) (i : ℕ) → i < length es → (e : K × X) × (slice_get es i ≡ Some e)
       entry_at [] i h = absurd (omega (arith, h))
@@ -100,7 +111,8 @@ module _ {K X : Type 0} (t : K → Bool) where
   some_value None h = absurd (true≢false (sym h))
   some_value (Some v) h = (v, refl)
 
-  pub written : {S : Type 0} {eq : K → K → Bool} → IsEquivalence eq → IsKeyTest eq t → (m n : IndexMap K X S) (w : X) → IsUnique eq m
+  pub written : {S : Type 0} {eq : K → K → Bool} → IsEquivalence eq → IsKeyTest eq t
+      → (m n : IndexMap K X S) (w : X) → IsUnique eq m
       → n.entries ≡ set_value t m.entries w → hasher_of n ≡ hasher_of m → spare n ≡ spare m → WritesThrough eq t m w n
   written {S} {eq} laws key m n w unique e h s = (
     e,

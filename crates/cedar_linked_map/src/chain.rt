@@ -3,7 +3,7 @@ ghost use Rattle.std.specs.Prelude.{◌≡◌, ℕ, ◌<◌, ◌^◌, ◌&&◌, 
 ghost use Rattle.std.specs.Prelude.{if◌then◌else◌, nat_eq, nat_lt, IfSome, IfNone};
 ghost use Rattle.std.specs.Map.{values_of};
 ghost use Rattle.indexmap.specs.IndexMap.{get, spare, hasher_of, index_map_len, IsUnchanged, IsUnique, KeepsRoom};
-ghost use Rattle.cedar_linked_map.specs.Linked.{IsSeat, AreLinked, TakesOut, Replaces, in_order, cells};
+ghost use Rattle.cedar_linked_map.specs.Linked.{IsPlaceOrEnd, AreLinked, RemovesItem, Replaces, in_order, cells};
 ghost use Rattle.cedar_linked_map.specs.Linked.{after_of, before_of, after_at, before_at};
 
 use indexmap::IndexMap;
@@ -32,7 +32,7 @@ pub(crate) struct Chain<K: Eq + Hash, V, S: BuildHasher> {
 impl<K: Eq + Hash, V, S: BuildHasher> Chain<K, V, S> {
     // Sets the next place of an entry, or the place of the first entry.
     fn set_after(&mut self, at: usize, to: usize)
-        requires { IsSeat (length self.old.nodes.entries) at }
+        requires { IsPlaceOrEnd (length self.old.nodes.entries) at }
         ensures after { (u : ℕ) → after_of self.new.nodes.entries self.new.first u
             ≡ (if nat_eq u at then to else after_of self.old.nodes.entries self.old.first u) }
         ensures before { (u : ℕ) → before_of self.new.nodes.entries self.new.last u
@@ -53,7 +53,7 @@ impl<K: Eq + Hash, V, S: BuildHasher> Chain<K, V, S> {
 
     // Sets the previous place of an entry, or the place of the last entry.
     fn set_before(&mut self, at: usize, to: usize)
-        requires { IsSeat (length self.old.nodes.entries) at }
+        requires { IsPlaceOrEnd (length self.old.nodes.entries) at }
         ensures before { (u : ℕ) → before_of self.new.nodes.entries self.new.last u
             ≡ (if nat_eq u at then to else before_of self.old.nodes.entries self.old.last u) }
         ensures after { (u : ℕ) → after_of self.new.nodes.entries self.new.first u
@@ -87,8 +87,8 @@ impl<K: Eq + Hash, V, S: BuildHasher> Chain<K, V, S> {
     // Links the two neighbours of an entry to each other.
     fn unlink(&mut self, at: usize)
         requires within { at < length self.old.nodes.entries }
-        requires before { IsSeat (length self.old.nodes.entries) (before_at self.old.nodes.entries at) }
-        requires after { IsSeat (length self.old.nodes.entries) (after_at self.old.nodes.entries at) }
+        requires before { IsPlaceOrEnd (length self.old.nodes.entries) (before_at self.old.nodes.entries at) }
+        requires after { IsPlaceOrEnd (length self.old.nodes.entries) (after_at self.old.nodes.entries at) }
         ensures after { (u : ℕ) → after_of self.new.nodes.entries self.new.first u
             ≡ (if nat_eq u (before_at self.old.nodes.entries at) then after_at self.old.nodes.entries at
             else after_of self.old.nodes.entries self.old.first u) }
@@ -107,8 +107,8 @@ impl<K: Eq + Hash, V, S: BuildHasher> Chain<K, V, S> {
     // Links the two neighbours of an entry to the place of the entry.
     fn relink(&mut self, at: usize)
         requires within { at < length self.old.nodes.entries }
-        requires before { IsSeat (length self.old.nodes.entries) (before_at self.old.nodes.entries at) }
-        requires after { IsSeat (length self.old.nodes.entries) (after_at self.old.nodes.entries at) }
+        requires before { IsPlaceOrEnd (length self.old.nodes.entries) (before_at self.old.nodes.entries at) }
+        requires after { IsPlaceOrEnd (length self.old.nodes.entries) (after_at self.old.nodes.entries at) }
         ensures after { (u : ℕ) → after_of self.new.nodes.entries self.new.first u
             ≡ (if nat_eq u (before_at self.old.nodes.entries at) then at
             else after_of self.old.nodes.entries self.old.first u) }
@@ -127,9 +127,9 @@ impl<K: Eq + Hash, V, S: BuildHasher> Chain<K, V, S> {
     // Links the two neighbours of the entry at a place to the place, if there is an entry.
     fn fill(&mut self, at: usize)
         requires before { at < length self.old.nodes.entries
-            → IsSeat (length self.old.nodes.entries) (before_at self.old.nodes.entries at) }
+            → IsPlaceOrEnd (length self.old.nodes.entries) (before_at self.old.nodes.entries at) }
         requires after { at < length self.old.nodes.entries
-            → IsSeat (length self.old.nodes.entries) (after_at self.old.nodes.entries at) }
+            → IsPlaceOrEnd (length self.old.nodes.entries) (after_at self.old.nodes.entries at) }
         ensures after { (u : ℕ) → after_of self.new.nodes.entries self.new.first u
             ≡ (if nat_lt at (length self.old.nodes.entries) && nat_eq u (before_at self.old.nodes.entries at) then at
             else after_of self.old.nodes.entries self.old.first u) }
@@ -152,7 +152,7 @@ impl<K: Eq + Hash, V, S: BuildHasher> Chain<K, V, S> {
         requires linked { AreLinked self.old.nodes.entries self.old.first self.old.last }
         ensures linked { AreLinked self.new.nodes.entries self.new.first self.new.last }
         ensures cell { slice_get (cells self.old.nodes.entries) at ≡ Some result }
-        ensures taken { TakesOut (in_order self.old.nodes.entries self.old.first) result
+        ensures taken { RemovesItem (in_order self.old.nodes.entries self.old.first) result
             (in_order self.new.nodes.entries self.new.first) }
         ensures room { KeepsRoom self.old.nodes self.new.nodes }
     {
@@ -220,8 +220,8 @@ impl<K: Eq + Hash, V, S: BuildHasher> Chain<K, V, S> {
         requires linked { AreLinked self.old.nodes.entries self.old.first self.old.last }
         ensures linked { AreLinked self.new.nodes.entries self.new.first self.new.last }
         ensures old { slice_get (values_of (cells self.old.nodes.entries)) at ≡ Some result }
-        ensures replaced { Replaces (in_order self.old.nodes.entries self.old.first) at value (cells self.old.nodes.entries)
-            (in_order self.new.nodes.entries self.new.first) }
+        ensures replaced { Replaces (in_order self.old.nodes.entries self.old.first) at value
+            (cells self.old.nodes.entries) (in_order self.new.nodes.entries self.new.first) }
         ensures spare { spare self.new.nodes ≡ spare self.old.nodes }
         ensures hasher { hasher_of self.new.nodes ≡ hasher_of self.old.nodes }
     {

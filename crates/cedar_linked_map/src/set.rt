@@ -1,9 +1,9 @@
 //! The set.
-ghost use Rattle.std.specs.Prelude.{◌≡◌, ◌+◌, ◌<◌, ◌≤◌, ◌^◌, ◌↔◌, [], IsTrue, IsOk, IfOk, OnOk, OnErr};
+ghost use Rattle.std.specs.Prelude.{◌≡◌, ◌+◌, ◌<◌, ◌≤◌, ◌^◌, ◌↔◌, [], not, IsTrue, IsOk, IfOk, OnOk, OnErr};
 ghost use Rattle.std.specs.Map.{keys_of};
 ghost use Rattle.indexmap.specs.IndexMap as maps;
 ghost use Rattle.indexmap.specs.IndexSet.{insert_all, insert_key, remove_key, index_set_len, spare, hasher_of};
-ghost use Rattle.indexmap.specs.IndexSet.{contains_by, IsEmpty, IsUnchanged, IsUnique, KeepsRoom};
+ghost use Rattle.indexmap.specs.IndexSet.{contains, contains_by, IsEmpty, IsUnchanged, IsUnique, KeepsRoom};
 
 use crate::iter::Keys;
 use crate::map::LinkedMap;
@@ -86,6 +86,7 @@ impl<T: Eq + Hash, S: BuildHasher> LinkedSet<T, S> {
     pub fn insert(&mut self, value: T) -> Result<bool, AllocFailed<T>>
     where
         T: Drop,
+        ensures added { IfOk result (λ r. r ≡ not (contains T.eq self.old value)) }
         ensures keys { OnOk result (self.new.keys ≡ insert_key T.eq self.old.keys value) }
         ensures err { OnErr result (IsUnchanged self.old self.new) }
         ensures succeeds { 0 < spare self.old → IsOk result }

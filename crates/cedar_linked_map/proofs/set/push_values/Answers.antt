@@ -8,4 +8,5 @@ pub push-requires-clause-absent : goal.push-requires-clause-absent
 push-requires-clause-absent g c =
     absent_value g.met.T.Eq.laws c.loop-value.map.entries c.in-Some.value c.next.new.self
     (subst (IsDistinct g.T.PartialEq.eq)
-    (sym c.loop-value.invariant.keys ∙ ap (λ l. keys_of c.loop-value.map.entries ++ l) c.in-Some.ensures.steps) c.loop-value.invariant.unique)
+    (sym c.loop-value.invariant.keys ∙ ap (λ l. keys_of c.loop-value.map.entries ++ l) c.in-Some.ensures.steps)
+    c.loop-value.invariant.unique)

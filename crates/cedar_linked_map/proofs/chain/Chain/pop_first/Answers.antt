@@ -17,5 +17,6 @@ returns-clause-some g c =
     c.take_at.result c.take_at.ensures.cell
     (some_len (length chain.nodes.entries) c.is_empty.result c.is_empty.ensures.1 c.if-is_empty.false) in
     popped g.met.K.Eq.laws _ c.take_at.result front.0 _ taken.0 taken.1
-    (still_unique chain.nodes.entries chain.first chain.last c.requires.small c.requires.linked g.met.K.Eq.laws c.requires.unique)
+    (still_unique chain.nodes.entries chain.first chain.last c.requires.small c.requires.linked g.met.K.Eq.laws
+    c.requires.unique)
     front.1 taken.2 taken.3

@@ -5,8 +5,11 @@ use Rattle.cedar_linked_map.proofs.chain.Chain.replace_at.Goals as goal
 
 pub returns-clause-linked : goal.returns-clause-linked
 returns-clause-linked g c =
-    let s = c.args.self.now in
-    (c.requires.linked.0, order_kept s.nodes.entries s.first s.last c.args.at c.in-Some.node.now _ (sym c.in-Some.ensures.value) refl refl c.requires.small c.requires.linked)
+    let s = c.args.self.now in (
+      c.requires.linked.0,
+      order_kept s.nodes.entries s.first s.last c.args.at c.in-Some.node.now _ (sym
+          c.in-Some.ensures.value) refl refl c.requires.small c.requires.linked,
+    )
 
 pub returns-clause-old : goal.returns-clause-old
 returns-clause-old g c =

@@ -8,10 +8,12 @@ shorter s t x e = subst (λ l. length t < length l) (sym e) (omega arith)
 pub returns-in-Some-clause-steps : goal.returns-in-Some-clause-steps
 returns-in-Some-clause-steps g c =
     sym c.self.view_is
-    ∙ walk_step c.self.inside.left c.self.inside.nodes c.self.inside.at c.in-Some.key.now c.in-Some.node.now c.if-self-eq0.false c.in-Some.ensures.entry
+    ∙ walk_step c.self.inside.left c.self.inside.nodes c.self.inside.at c.in-Some.key.now c.in-Some.node.now
+    c.if-self-eq0.false c.in-Some.ensures.entry
 
 pub returns-in-Some-clause-goes : goal.returns-in-Some-clause-goes
 returns-in-Some-clause-goes g c =
     let steps = sym c.self.view_is
-    ∙ walk_step c.self.inside.left c.self.inside.nodes c.self.inside.at c.in-Some.key.now c.in-Some.node.now c.if-self-eq0.false c.in-Some.ensures.entry in
+    ∙ walk_step c.self.inside.left c.self.inside.nodes c.self.inside.at c.in-Some.key.now c.in-Some.node.now
+    c.if-self-eq0.false c.in-Some.ensures.entry in
     record { on = λ _. (tt, tt, shorter _ _ _ steps); keeps = tt; rests = λ _. tt }

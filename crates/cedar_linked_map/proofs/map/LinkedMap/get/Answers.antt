@@ -10,7 +10,8 @@ returns-in-None g c =
     let chain = c.self.inside.chain in
     record {
       value = sym (ap (get_by t) (sym c.self.view_is)
-          ∙ looked_up chain.nodes.entries chain.first chain.last (subst (λ n. n < 2 ^ 63) c.len-len.ensures.len c.len-len.ensures.small) c.self.invariant
+          ∙ looked_up chain.nodes.entries chain.first chain.last (subst (λ n. n < 2 ^ 63) c.len-len.ensures.len
+          c.len-len.ensures.small) c.self.invariant
           g.met.K.Eq.laws c.len-len.ensures.unique t (g.met.Q.Equivalent.respects_eq c.args.key)
           ∙ ap (option_map (λ n. n.value)) (sym c.in-None.ensures.value));
     }
@@ -21,7 +22,8 @@ returns-in-Some g c =
     let chain = c.self.inside.chain in
     record {
       value = sym (ap (get_by t) (sym c.self.view_is)
-          ∙ looked_up chain.nodes.entries chain.first chain.last (subst (λ n. n < 2 ^ 63) c.len-len.ensures.len c.len-len.ensures.small) c.self.invariant
+          ∙ looked_up chain.nodes.entries chain.first chain.last (subst (λ n. n < 2 ^ 63) c.len-len.ensures.len
+          c.len-len.ensures.small) c.self.invariant
           g.met.K.Eq.laws c.len-len.ensures.unique t (g.met.Q.Equivalent.respects_eq c.args.key)
           ∙ ap (option_map (λ n. n.value)) (sym c.in-Some.ensures.value));
     }

@@ -12,10 +12,12 @@ returns-then-eq g c =
     let chain = c.self.inside.chain in
     record {
       value = sym (ap (λ m. get eq m k) (sym c.self.view_is)
-          ∙ looked_up chain.nodes.entries chain.first chain.last (subst (λ n. n < 2 ^ 63) c.len-len.ensures.len c.len-len.ensures.small) c.self.invariant
+          ∙ looked_up chain.nodes.entries chain.first chain.last (subst (λ n. n < 2 ^ 63) c.len-len.ensures.len
+          c.len-len.ensures.small) c.self.invariant
           g.met.K.Eq.laws c.len-len.ensures.unique (eq k) (g.met.K.Eq.laws.congr k)
           ∙ ap (option_map (λ n. n.value))
-          (same_test (eq k) (eq c.in-Some.stored.now) (λ q. laws.congr k c.in-Some.stored.now q (laws.symm k c.in-Some.stored.now ∙ sym c.eq.ensures ∙ c.if-eq.true)) chain.nodes.entries
+          (same_test (eq k) (eq c.in-Some.stored.now) (λ q. laws.congr k c.in-Some.stored.now q (laws.symm k
+          c.in-Some.stored.now ∙ sym c.eq.ensures ∙ c.if-eq.true)) chain.nodes.entries
           ∙ c.in-Some.ensures.value));
     }
 
@@ -26,7 +28,8 @@ returns-in-None g c =
     let chain = c.self.inside.chain in
     record {
       value = sym (ap (λ m. get eq m k) (sym c.self.view_is)
-          ∙ looked_up chain.nodes.entries chain.first chain.last (subst (λ n. n < 2 ^ 63) c.len-len.ensures.len c.len-len.ensures.small) c.self.invariant
+          ∙ looked_up chain.nodes.entries chain.first chain.last (subst (λ n. n < 2 ^ 63) c.len-len.ensures.len
+          c.len-len.ensures.small) c.self.invariant
           g.met.K.Eq.laws c.len-len.ensures.unique (eq k) (g.met.K.Eq.laws.congr k)
           ∙ ap (option_map (λ n. n.value)) (sym c.in-None.ensures.value));
     }
@@ -38,7 +41,8 @@ returns-in-Some-get_full g c =
     let chain = c.self.inside.chain in
     record {
       value = sym (ap (λ m. get eq m k) (sym c.self.view_is)
-          ∙ looked_up chain.nodes.entries chain.first chain.last (subst (λ n. n < 2 ^ 63) c.len-len.ensures.len c.len-len.ensures.small) c.self.invariant
+          ∙ looked_up chain.nodes.entries chain.first chain.last (subst (λ n. n < 2 ^ 63) c.len-len.ensures.len
+          c.len-len.ensures.small) c.self.invariant
           g.met.K.Eq.laws c.len-len.ensures.unique (eq k) (g.met.K.Eq.laws.congr k)
           ∙ ap (option_map (λ n. n.value)) (sym c.in-Some-get_full.ensures.value));
     }

@@ -13,7 +13,8 @@ returns-in-Some-clause-old g c =
     let eq = g.K.PartialEq.eq in
     let chain = c.self.inside.chain in
     sym (ap (λ m. get eq m k) (sym c.self.view_is)
-    ∙ looked_up chain.nodes.entries chain.first chain.last (subst (λ n. n < 2 ^ 63) c.len-len.ensures.len c.len-len.ensures.small) c.self.invariant
+    ∙ looked_up chain.nodes.entries chain.first chain.last (subst (λ n. n < 2 ^ 63) c.len-len.ensures.len
+    c.len-len.ensures.small) c.self.invariant
     g.met.K.Eq.laws c.len-len.ensures.unique (eq k) (g.met.K.Eq.laws.congr k)
     ∙ ap (option_map (λ n. n.value)) (sym c.in-Some.ensures.value)
     ∙ sym (values_seen chain.nodes.entries c.in-Some.at) ∙ c.replace_at.ensures.old)
@@ -25,7 +26,8 @@ returns-in-Some-clause-entries g c =
     let chain = c.self.inside.chain in
     let r = c.replace_at.ensures.replaced in
     put_mid g.met.K.Eq.laws k c.args.value _ r.1 _ r.0 r.2
-    (still_unique chain.nodes.entries chain.first chain.last (subst (λ n. n < 2 ^ 63) c.len-len.ensures.len c.len-len.ensures.small) c.self.invariant
+    (still_unique chain.nodes.entries chain.first chain.last (subst (λ n. n < 2 ^ 63) c.len-len.ensures.len
+    c.len-len.ensures.small) c.self.invariant
     g.met.K.Eq.laws c.len-len.ensures.unique)
     r.3 r.4 (key_passes (eq k) chain.nodes.entries c.in-Some.at r.1 (sym c.in-Some.ensures.index) r.5)
     ∙ ap (λ m. insert_entry eq m.entries k c.args.value) c.self.view_is
@@ -36,7 +38,8 @@ returns-in-Err-clause-absent g c =
     let eq = g.K.PartialEq.eq in
     let chain = c.self.inside.chain in
     ap (λ m. get eq m k) (sym c.self.view_is)
-    ∙ looked_up chain.nodes.entries chain.first chain.last (subst (λ n. n < 2 ^ 63) c.len-len.ensures.len c.len-len.ensures.small) c.self.invariant
+    ∙ looked_up chain.nodes.entries chain.first chain.last (subst (λ n. n < 2 ^ 63) c.len-len.ensures.len
+    c.len-len.ensures.small) c.self.invariant
     g.met.K.Eq.laws c.len-len.ensures.unique (eq k) (g.met.K.Eq.laws.congr k)
     ∙ ap (option_map (λ n. n.value)) (none_from _ (sym c.in-None.ensures.found))
 
@@ -46,7 +49,8 @@ returns-in-Ok-clause-old g c =
     let eq = g.K.PartialEq.eq in
     let chain = c.self.inside.chain in
     sym (ap (λ m. get eq m k) (sym c.self.view_is)
-    ∙ looked_up chain.nodes.entries chain.first chain.last (subst (λ n. n < 2 ^ 63) c.len-len.ensures.len c.len-len.ensures.small) c.self.invariant
+    ∙ looked_up chain.nodes.entries chain.first chain.last (subst (λ n. n < 2 ^ 63) c.len-len.ensures.len
+    c.len-len.ensures.small) c.self.invariant
     g.met.K.Eq.laws c.len-len.ensures.unique (eq k) (g.met.K.Eq.laws.congr k)
     ∙ ap (option_map (λ n. n.value)) (none_from _ (sym c.in-None.ensures.found)))
 
@@ -58,7 +62,8 @@ returns-in-Ok-clause-entries g c =
     let chain = c.self.inside.chain in
     let none : get eq c.args.self.now k ≡ None =
     ap (λ m. get eq m k) (sym c.self.view_is)
-    ∙ looked_up chain.nodes.entries chain.first chain.last (subst (λ n. n < 2 ^ 63) c.len-len.ensures.len c.len-len.ensures.small) c.self.invariant
+    ∙ looked_up chain.nodes.entries chain.first chain.last (subst (λ n. n < 2 ^ 63) c.len-len.ensures.len
+    c.len-len.ensures.small) c.self.invariant
     g.met.K.Eq.laws c.len-len.ensures.unique (eq k) (g.met.K.Eq.laws.congr k)
     ∙ ap (option_map (λ n. n.value)) (none_from _ (sym c.in-None.ensures.found)) in
     c.push.ensures.pushed

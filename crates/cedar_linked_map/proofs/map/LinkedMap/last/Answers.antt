@@ -11,7 +11,8 @@ returns-in-None g c =
     record {
       entry = ap (option_map (λ e. (e.0, e.1.value))) c.in-None.ensures.entry
           ∙ sym (cell_at chain.nodes.entries chain.last)
-          ∙ sym (last_entry chain.nodes.entries chain.first chain.last (subst (λ n. n < 2 ^ 63) c.len-len.ensures.len c.len-len.ensures.small) c.self.invariant)
+          ∙ sym (last_entry chain.nodes.entries chain.first chain.last (subst (λ n. n < 2 ^ 63) c.len-len.ensures.len
+          c.len-len.ensures.small) c.self.invariant)
           ∙ ap (λ m. slice_get m.entries (index_map_len m - 1)) c.self.view_is;
     }
 
@@ -21,6 +22,7 @@ returns-in-Some g c =
     record {
       entry = ap (option_map (λ e. (e.0, e.1.value))) c.in-Some.ensures.entry
           ∙ sym (cell_at chain.nodes.entries chain.last)
-          ∙ sym (last_entry chain.nodes.entries chain.first chain.last (subst (λ n. n < 2 ^ 63) c.len-len.ensures.len c.len-len.ensures.small) c.self.invariant)
+          ∙ sym (last_entry chain.nodes.entries chain.first chain.last (subst (λ n. n < 2 ^ 63) c.len-len.ensures.len
+          c.len-len.ensures.small) c.self.invariant)
           ∙ ap (λ m. slice_get m.entries (index_map_len m - 1)) c.self.view_is;
     }

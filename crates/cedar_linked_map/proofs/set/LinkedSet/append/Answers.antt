@@ -11,5 +11,6 @@ returns-clause-keys g c =
     let seen = ap (λ s. s.keys) c.self.view_is in
     let others = ap (λ s. s.keys) c.other.view_is in
     OnOk-map c.append.result _ _
-    (λ h. ap keys_of h ∙ keys_insert_all eq c.self.inside.map.entries c.other.inside.map.entries ∙ (λ j. insert_all eq (seen j) (others j)))
+    (λ h. ap keys_of h ∙ keys_insert_all eq c.self.inside.map.entries c.other.inside.map.entries
+    ∙ (λ j. insert_all eq (seen j) (others j)))
     c.append.ensures.entries

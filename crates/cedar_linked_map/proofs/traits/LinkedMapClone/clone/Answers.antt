@@ -7,14 +7,17 @@ use Rattle.cedar_linked_map.proofs.traits.LinkedMapClone.clone.Goals as goal
 pub invariant_of-result : goal.invariant_of-result
 invariant_of-result g c =
     let chain = c.self.inside.chain in
-    still_linked g.K.Clone.is_clone g.V.Clone.is_clone chain.nodes.entries c.in_ok-nodes.nodes.entries chain.first chain.last
+    still_linked g.K.Clone.is_clone g.V.Clone.is_clone chain.nodes.entries c.in_ok-nodes.nodes.entries chain.first
+    chain.last
     c.in_ok-nodes.ensures.cases c.self.invariant
 
 pub returns : goal.returns
 returns g c =
     let chain = c.self.inside.chain in
     record {
-      cases = subst (λ m. AllZip (IsCopy g.K.Clone.is_clone g.V.Clone.is_clone) m.entries (in_order c.in_ok-nodes.nodes.entries chain.first))
+      cases = subst (λ m. AllZip (IsCopy g.K.Clone.is_clone g.V.Clone.is_clone) m.entries (in_order
+          c.in_ok-nodes.nodes.entries chain.first))
           c.self.view_is
-          (copied g.K.Clone.is_clone g.V.Clone.is_clone chain.nodes.entries c.in_ok-nodes.nodes.entries chain.first c.in_ok-nodes.ensures.cases);
+          (copied g.K.Clone.is_clone g.V.Clone.is_clone chain.nodes.entries c.in_ok-nodes.nodes.entries chain.first
+          c.in_ok-nodes.ensures.cases);
     }
