@@ -72,12 +72,8 @@ impl<S: BuildHasher + Copy> PolicySet<S> {
 
 // Returns the first link of a template without slots.
 fn first_slotless(policies: Policies<'_>) -> Option<&Policy> {
-    for policy in policies {
-        if is_slotless_link(policy) {
-            return Some(policy);
-        }
-    }
-    None
+    let mut policies = policies;
+    policies.find(|policy| is_slotless_link(policy))
 }
 
 fn is_slotless_link(policy: &Policy) -> bool {

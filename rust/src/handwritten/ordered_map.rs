@@ -328,7 +328,10 @@ impl<K, V, S> OrderedMap<K, V, S> {
     pub(super) fn into_hashed(self) -> impl Iterator<Item = (u64, K, V)> {
         let OrderedSet { keys, places, .. } = self.keys;
         let hashes = places.hashes.into_iter();
-        hashes.zip(keys).zip(self.values).map(|((hash, key), value)| (hash, key, value))
+        hashes
+            .zip(keys)
+            .zip(self.values)
+            .map(|((hash, key), value)| (hash, key, value))
     }
 }
 
