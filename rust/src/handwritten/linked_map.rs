@@ -109,12 +109,11 @@ impl<K, V, S> LinkedMap<K, V, S> {
         }
     }
 
-    /// Removes the entry at a place.
+    /// Removes the entry at a place, which is no longer in the hash table.
     fn remove_at(&mut self, place: usize) -> V {
         let (before, after) = (self.nodes[place].before, self.nodes[place].after);
         self.set_after(before, after);
         self.set_before(after, before);
-        self.places.swap_remove(place);
         let removed = self.nodes.swap_remove(place);
         if let Some(moved) = self.nodes.get(place) {
             let (before, after) = (moved.before, moved.after);
@@ -223,7 +222,11 @@ impl<K: Hash + Eq, V, S: BuildHasher> LinkedMap<K, V, S> {
     where
         K: Borrow<Q>,
     {
-        let place = self.place_of(self.hasher.hash_one(key), key)?;
+        let hash = self.hasher.hash_one(key);
+        let nodes = &self.nodes;
+        let place = self
+            .places
+            .swap_remove(hash, |place| nodes[place].key.borrow() == key)?;
         Some(self.remove_at(place))
     }
 }

@@ -55,8 +55,8 @@ impl Places {
         self.slots[at] = place as i32;
     }
 
-    /// Returns the index of the key with this hash for which `is_key` returns true.
-    pub(super) fn get(&self, hash: u64, is_key: impl Fn(usize) -> bool) -> Option<usize> {
+    /// Returns the slot of the key with this hash for which `is_key` returns true.
+    fn find(&self, hash: u64, is_key: impl Fn(usize) -> bool) -> Option<usize> {
         if self.slots.is_empty() {
             return None;
         }
@@ -68,14 +68,21 @@ impl Places {
             }
             let place = held as usize;
             if self.hashes[place] == hash && is_key(place) {
-                return Some(place);
+                return Some(at);
             }
             at = (at + 1) & (self.slots.len() - 1);
         }
     }
 
+    /// Returns the index of the key with this hash for which `is_key` returns true.
+    pub(super) fn get(&self, hash: u64, is_key: impl Fn(usize) -> bool) -> Option<usize> {
+        self.find(hash, is_key).map(|slot| self.slots[slot] as usize)
+    }
+
     pub(super) fn push(&mut self, hash: u64) {
-        self.reserve(1);
+        if (self.hashes.len() + 1) * 2 > self.slots.len() {
+            self.reserve(1);
+        }
         self.hashes.push(hash);
         self.put(self.hashes.len() - 1);
     }
@@ -89,10 +96,10 @@ impl Places {
         at
     }
 
-    /// Frees the slot of an index. Later indexes of the same search move up.
-    fn free(&mut self, place: usize) {
+    /// Frees a slot. Later indexes of the same search move up.
+    fn free(&mut self, slot: usize) {
         let mask = self.slots.len() - 1;
-        let mut free = self.slot_of(place);
+        let mut free = slot;
         let mut next = free;
         loop {
             next = (next + 1) & mask;
@@ -111,7 +118,7 @@ impl Places {
 
     /// Removes an index. Each greater index decreases by one.
     fn remove(&mut self, place: usize) {
-        self.free(place);
+        self.free(self.slot_of(place));
         self.hashes.remove(place);
         if place < self.hashes.len() {
             let place = place as i32;
@@ -121,15 +128,18 @@ impl Places {
         }
     }
 
-    /// Removes an index. The last index becomes this one.
-    pub(super) fn swap_remove(&mut self, place: usize) {
-        self.free(place);
+    /// Removes the key with this hash for which `is_key` returns true. Returns its index, which the last key gets.
+    pub(super) fn swap_remove(&mut self, hash: u64, is_key: impl Fn(usize) -> bool) -> Option<usize> {
+        let slot = self.find(hash, is_key)?;
+        let place = self.slots[slot] as usize;
+        self.free(slot);
         let last = self.hashes.len() - 1;
         if place < last {
             let slot = self.slot_of(last);
             self.slots[slot] = place as i32;
         }
         self.hashes.swap_remove(place);
+        Some(place)
     }
 
     fn clear(&mut self) {
