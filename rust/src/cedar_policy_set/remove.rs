@@ -23,8 +23,7 @@ impl<S: BuildHasher + Copy> PolicySet<S> {
     ///
     /// # Complexity
     ///
-    /// A few lookups. The entries after the link move by one place, in the map of policies and in the list of its
-    /// template. Allocates only for an error.
+    /// O(1). Makes a few lookups. Allocates only for an error.
     ///
     /// # Differences from cedar-policy-core
     ///
@@ -91,7 +90,7 @@ impl<S: BuildHasher + Copy> PolicySet<S> {
     ///
     /// # Complexity
     ///
-    /// A few lookups. The entries after the policy move by one place in the maps. Allocates only for an error.
+    /// O(1). Makes a few lookups. Allocates only for an error.
     ///
     /// # Differences from cedar-policy-core
     ///
@@ -156,8 +155,7 @@ impl<S: BuildHasher + Copy> PolicySet<S> {
     ///
     /// # Complexity
     ///
-    /// A few lookups. The entries after the template move by one place in the maps. Allocates a copy of the template,
-    /// because it can be shared.
+    /// O(1). Makes a few lookups. Allocates a copy of the template, because it can be shared.
     ///
     /// # Differences from cedar-policy-core
     ///
