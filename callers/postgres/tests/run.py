@@ -1,14 +1,17 @@
-"""Tests of the library with a PostgreSQL server of this machine.
+"""Tests of the adapter with PostgreSQL servers of this machine.
 
 The last line is `N passed, M failed`, and `, K skipped` if a program or a package is missing.
 
-    test                 runs everything, and the load test for some seconds
-    test --minute        runs the load test for a minute
-    test --missing       prints what is missing, and runs nothing
+    test                 runs everything, and the load for some seconds
+    test --minute        runs the load for a minute
+    test --missing       prints what is missing for any of the tests, and runs nothing
+    test NAME..          runs some modules, classes or tests: test_round_trip, test_walls.Walls
 """
 from __future__ import annotations
 
+import glob
 import io
+import logging
 import os
 import signal
 import sys
@@ -16,15 +19,20 @@ import time
 import unittest
 
 HERE = os.path.dirname(os.path.abspath(__file__))
-sys.path[:0] = [HERE, os.path.join(os.path.dirname(HERE), "python")]
+CALLERS = os.path.dirname(os.path.dirname(HERE))
+sys.path[:0] = [HERE, os.path.dirname(HERE), os.path.join(CALLERS, "python")]
 
 
 def missing_requirement() -> str:
     """Returns the name of the missing program or package, or an empty text."""
     try:
-        import psycopg2
-    except ImportError:
-        return "psycopg2 for this python3"
+        import cedar_store
+        import psycopg
+        import psycopg_pool
+    except ImportError as error:
+        return f"{error.name or 'libcedar.so'} for this python3"
+    if sys.version_info < (3, 11):
+        return "python3 3.11"
     import servers
 
     return "" if servers.program_folder() else "initdb of PostgreSQL"
@@ -54,24 +62,25 @@ def main(arguments: list[str]) -> int:
         print(missing)
         return 0
     if missing:
-        print(f"{missing} is missing: NOT RUN: entities and policies in PostgreSQL")
+        print(f"{missing} is missing: NOT RUN: the adapter for PostgreSQL")
         print("0 passed, 0 failed, 1 skipped")
         return 0
-    import test_load
-    import test_tables
-
-    test_load.SECONDS = 60 if "--minute" in arguments else 6
+    if "--minute" in arguments:
+        os.environ["CEDAR_LOAD_SECONDS"] = "60"
     names = [argument for argument in arguments if argument != "--minute"]
-    load = unittest.defaultTestLoader
-    tests = load.loadTestsFromNames(names) if names else unittest.TestSuite(
-        [load.loadTestsFromModule(module) for module in (test_tables, test_load)])
+    names = names or sorted(os.path.basename(path)[:-3] for path in glob.glob(os.path.join(HERE, "test_*.py")))
     output = io.StringIO()
+    logging.getLogger("psycopg.pool").setLevel(logging.CRITICAL)  # it reports each connection that a test cuts
     signal.signal(signal.SIGTERM, lambda *_: sys.exit(1))  # so that the servers are stopped
+    tests = unittest.defaultTestLoader.loadTestsFromNames(names)
     result = unittest.TextTestRunner(stream=output, verbosity=2, resultclass=TimedResult).run(tests)
     failed = len(result.failures) + len(result.errors)
-    if failed:
+    if failed or os.environ.get("CEDAR_VERBOSE"):
         print(output.getvalue())
-    print(f"{result.passed} passed, {failed} failed")
+    for test, reason in result.skipped:
+        print(f"{reason}: NOT RUN: {test.id()}")
+    skipped = f", {len(result.skipped)} skipped" if result.skipped else ""
+    print(f"{result.passed} passed, {failed} failed{skipped}")
     return failed != 0
 
 

@@ -13,19 +13,18 @@ import shutil
 import subprocess
 import tempfile
 
-import psycopg2
+import psycopg
+from cedar_postgres import migrate
 
 SETTINGS = """
 listen_addresses = ''
 unix_socket_directories = '{folder}'
-max_connections = 60
+max_connections = 100
 shared_buffers = 128MB
 max_wal_size = 512MB
-wal_level = replica
-max_wal_senders = 4
+wal_level = logical
+max_wal_senders = 8
 wal_keep_size = 256MB
-max_pred_locks_per_transaction = 1024
-max_pred_locks_per_page = 32
 logging_collector = off
 fsync = {fsync}
 """
@@ -90,20 +89,22 @@ class Server:
         """
         self._control("-m", mode, "stop")
 
-    def create_database(self, name: str) -> str:
-        """Creates a database with the empty tables of `schema.sql`. Returns its connection string."""
-        self.sql("CREATE DATABASE " + name)
-        dsn = self.dsn.replace("dbname=postgres", "dbname=" + name)
-        with open(os.path.join(os.path.dirname(os.path.abspath(__file__)), "schema.sql")) as schema:
-            self.sql(schema.read(), dsn=dsn)
-        return dsn
+    def create_database(self, name: str, options: str = "") -> str:
+        """Creates a database with the schema of the adapter. Returns the connection string of a service's role."""
+        self.sql(f"CREATE DATABASE {name} {options}")
+        migrate(self.owner_dsn(name))
+        with contextlib.suppress(psycopg.errors.DuplicateObject):
+            self.sql("CREATE ROLE app LOGIN IN ROLE cedar_service")
+        return self.owner_dsn(name).replace("user=cedar", "user=app")
+
+    def owner_dsn(self, name: str) -> str:
+        """Returns the connection string of the superuser who owns the tables."""
+        return self.dsn.replace("dbname=postgres", "dbname=" + name)
 
     def sql(self, statement: str, *values: object, dsn: str = "") -> list:
         """Runs a statement in a connection of its own, without the library. Returns the rows."""
-        connection = psycopg2.connect(dsn or self.dsn)
-        connection.autocommit = True
-        with contextlib.closing(connection), connection.cursor() as cursor:
-            cursor.execute(statement, values or None)
+        with psycopg.connect(dsn or self.dsn, autocommit=True) as connection:
+            cursor = connection.execute(statement.encode(), values or None)
             return cursor.fetchall() if cursor.description else []
 
     def close(self) -> None:

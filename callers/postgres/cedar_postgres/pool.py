@@ -1,0 +1,167 @@
+"""A pool of connections to one of several hosts, with a time limit for each statement.
+
+A statement is sent in autocommit mode and without a prepared plan, and sets nothing in the session. So a pooler that
+shares sessions between transactions (pgbouncer in transaction mode) can be in front of the server.
+"""
+from __future__ import annotations
+
+import asyncio
+import contextlib
+import time
+from typing import Any, AsyncIterator, Optional, Sequence
+
+import psycopg
+import psycopg.conninfo
+import psycopg_pool
+
+from .errors import Retry, Unavailable, database_error, is_connection_failure
+
+Rows = list[tuple[Any, ...]]
+
+# The time for one attempt to connect to one host, in seconds. A host that hangs accepts connections without an answer.
+_CONNECT_SECONDS = 2.0
+_PAUSE_SECONDS = 0.1
+
+# The error of the last attempt of a pool to connect, by its connection string.
+_last_errors: dict[str, str] = {}
+
+
+def single_hosts(dsn: str) -> list[str]:
+    """Returns a connection string for each host of a connection string.
+
+    libpq tries the hosts one after another, but its time limit does not apply to each of them here.
+    """
+    parameters = psycopg.conninfo.conninfo_to_dict(dsn)
+    hosts = parameters.get("host", "").split(",")
+    ports = parameters.get("port", "").split(",")
+    if len(hosts) == 1:
+        return [dsn]
+    ports = ports * len(hosts) if len(ports) == 1 else ports
+    pairs = zip(hosts, ports)
+    hosts_of_dsn = [psycopg.conninfo.make_conninfo(dsn, host=host, port=port) for host, port in pairs]
+    if parameters.get("target_session_attrs") == "prefer-standby":
+        standby = [psycopg.conninfo.make_conninfo(one, target_session_attrs="standby") for one in hosts_of_dsn]
+        return standby + [psycopg.conninfo.make_conninfo(one, target_session_attrs="any") for one in hosts_of_dsn]
+    return hosts_of_dsn
+
+
+async def connect(dsn: str, **options: Any) -> psycopg.AsyncConnection[Any]:
+    """Connects to the first host that accepts the connection. Raises the error of the last host."""
+    error: BaseException = Unavailable("the connection string has no host")
+    for single in single_hosts(dsn):
+        try:
+            async with asyncio.timeout(_CONNECT_SECONDS):
+                return await psycopg.AsyncConnection.connect(
+                    single, autocommit=True, prepare_threshold=None, **options)
+        except (psycopg.Error, OSError) as failure:
+            error = failure
+    raise error
+
+
+class _PooledConnection(psycopg.AsyncConnection[Any]):
+    """A connection that a pool opens. It tries all hosts until one of them accepts it."""
+
+    opened_at = 0.0
+
+    @classmethod
+    async def connect(cls, conninfo: str = "", **_: Any) -> Any:
+        hosts, number = single_hosts(conninfo), 0
+        while True:
+            started_at = time.monotonic()
+            try:
+                async with asyncio.timeout(_CONNECT_SECONDS):
+                    connection = await super().connect(
+                        hosts[number % len(hosts)], autocommit=True, prepare_threshold=None)
+                connection.opened_at = started_at
+                return connection
+            except (psycopg.Error, OSError) as error:
+                _last_errors[conninfo] = str(error) or "it did not answer"
+                number += 1
+                if number % len(hosts) == 0:
+                    await asyncio.sleep(_PAUSE_SECONDS)
+
+
+class Pool:
+    """Up to `size` connections to the first host of a connection string that accepts them.
+
+    A statement that takes longer than `statement_seconds` is given up, and its connection is closed. libpq itself would
+    wait for a server that hangs without end.
+    """
+
+    def __init__(self, dsn: str, size: int = 8, statement_seconds: float = 5.0, wait_seconds: float = 2.0) -> None:
+        self.dsn, self.statement_seconds = dsn, statement_seconds
+        self._size, self._in_use, self._failed_at = size, 0, 0.0
+        self._pool = psycopg_pool.AsyncConnectionPool(
+            dsn, connection_class=_PooledConnection, min_size=1, max_size=size, timeout=wait_seconds, open=False)
+
+    async def open(self) -> None:
+        """Starts to connect. Does not wait for a connection."""
+        await self._pool.open()
+
+    async def close(self) -> None:
+        """Closes all connections."""
+        await self._pool.close(timeout=0.1)
+        # A worker of the pool that has not found a server yet would go on.
+        for task in asyncio.all_tasks():
+            if task.get_name().startswith(self._pool.name + "-"):
+                task.cancel()
+
+    @contextlib.asynccontextmanager
+    async def connection(self) -> AsyncIterator[psycopg.AsyncConnection[Any]]:
+        """Takes a connection out of the pool for a while.
+
+        Raises:
+            Retry: all connections are in use.
+            Unavailable: no server accepts a connection.
+        """
+        connection = await self._checked_connection()
+        self._in_use += 1
+        try:
+            yield connection
+        except (psycopg.Error, OSError, asyncio.CancelledError) as error:
+            if isinstance(error, asyncio.CancelledError) or is_connection_failure(error):
+                self._failed_at = self._failed_at if isinstance(error, asyncio.CancelledError) else time.monotonic()
+                await connection.close()
+            raise
+        finally:
+            self._in_use -= 1
+            await self._pool.putconn(connection)
+
+    async def _checked_connection(self) -> Any:
+        """Returns a connection that was opened after the last failure."""
+        while True:
+            try:
+                connection: Any = await self._pool.getconn()
+            except (psycopg_pool.PoolTimeout, psycopg_pool.TooManyRequests) as error:
+                if self._in_use >= self._size:
+                    raise Retry("all connections of the pool are in use") from error
+                raise Unavailable(f"no server accepts a connection: {_last_errors.get(self.dsn, '')}") from error
+            if connection.opened_at >= self._failed_at:
+                return connection
+            # Opened before a failure. The server that it leads to may be gone, or a replica by now.
+            await connection.close()
+            await self._pool.putconn(connection)
+
+    async def run(
+        self,
+        statement: str,
+        arguments: Sequence[Any] = (),
+        on: Optional[psycopg.AsyncConnection[Any]] = None,
+        seconds: Optional[float] = None,
+    ) -> Rows:
+        """Runs one statement, and returns its rows. `on` is a connection that the caller has already.
+
+        Raises:
+            DatabaseError: one of its subclasses, by the error of the driver.
+        """
+        try:
+            async with contextlib.AsyncExitStack() as stack:
+                connection = on or await stack.enter_async_context(self.connection())
+                async with asyncio.timeout(seconds or self.statement_seconds):
+                    cursor = await connection.execute(statement.encode(), arguments)
+                    return await cursor.fetchall() if cursor.description else []
+        except (psycopg.Error, OSError) as error:
+            if on is not None and is_connection_failure(error):
+                self._failed_at = time.monotonic()
+                await on.close()
+            raise database_error(error) from error
