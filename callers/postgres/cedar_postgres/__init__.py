@@ -17,6 +17,7 @@ The tables are behind row-level security, and each call sets its tenant.
 from __future__ import annotations
 
 from .changes import Draft
+from .cluster import Cluster
 from .database import Applied, Database
 from .errors import (
     Behind,
@@ -37,6 +38,7 @@ from .tenant import View
 __all__ = [
     "Applied",
     "Behind",
+    "Cluster",
     "Conflict",
     "Database",
     "DatabaseError",

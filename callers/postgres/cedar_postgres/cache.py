@@ -32,22 +32,30 @@ class CachedTenant:
         self.store, self.policies = store, policies
         # An equal set for the next draft. A copy of a set takes as long as the set is large, an edit of it does not.
         self._spare: Optional[Policies] = None
-        self.valid_until, self.is_outdated = asked_at + LEASE_SECONDS, False
+        self.valid_until, self.last_known = asked_at + LEASE_SECONDS, rows.version
         self.view = self._make_view()
 
     def _make_view(self) -> Optional[View]:
         return None if self.store is None else View(self.version, self.store, self.policies, None)
 
+    @property
+    def is_outdated(self) -> bool:
+        """Returns whether a later version is known to exist."""
+        return self.version < self.last_known
+
+    def learn(self, version: int) -> None:
+        """Records that this version exists."""
+        self.last_known = max(self.last_known, version)
+
     def confirm(self, version: int, asked_at: float) -> None:
         """Records that a server had this version when it was asked."""
-        if version > self.version:
-            self.is_outdated = True
-        elif version == self.version:
+        self.learn(version)
+        if version == self.version:
             self.valid_until = max(self.valid_until, asked_at + LEASE_SECONDS)
 
     def is_fresh(self, token: int) -> bool:
         """Returns whether the tenant may be used without asking a server."""
-        return not self.is_outdated and self.version >= token and time.monotonic() < self.valid_until
+        return self.version >= token and self.version >= self.last_known and time.monotonic() < self.valid_until
 
     def edit(self, rows: Rows, asked_at: float) -> None:
         """Brings the tenant to the version of an incremental read."""
@@ -67,15 +75,15 @@ class CachedTenant:
     def adopt(self, version: int, policies: Policies, payload: dict[str, Any], asked_at: float) -> None:
         """Records that a draft, which changed only policies, made this version."""
         if version != self.version + 1:
-            self.is_outdated = self.is_outdated or self.version < version
+            self.learn(version)
             return
         edit_policies(self.policies, payload["removed_ids"], payload["policies"], LongTexts(payload["texts"]))
         self.policies, self._spare = policies, self.policies
         self._set_version(version, asked_at)
 
     def _set_version(self, version: int, asked_at: float) -> None:
-        self.version, self.is_outdated = version, False
-        self.valid_until = asked_at + LEASE_SECONDS
+        self.version, self.valid_until = version, asked_at + LEASE_SECONDS
+        self.learn(version)
         self.view = self._make_view()
 
 
@@ -210,11 +218,13 @@ class Listener:
             loop.remove_reader(descriptor)
 
     def _receive(self, payload: str) -> None:
-        """Marks a tenant as outdated, by the payload of a notification: the tenant and its version."""
+        """Learns from the payload of a notification: a tenant and its version, which is 0 if it was deleted."""
         tenant, version = map(int, payload.split())
         cached = self._cache.get(tenant)
-        if cached is not None and (version == 0 or version > cached.version):
-            cached.is_outdated = True
+        if version == 0:
+            self._cache.drop(tenant)
+        elif cached is not None:
+            cached.learn(version)
 
 
 def _next_payload(connection: psycopg.AsyncConnection[Any]) -> Optional[str]:

@@ -116,14 +116,15 @@ class Database:
 
         The mode is that of all changes of its entities (see `cedar_store.Mode`).
         """
-        ((is_new,),) = await self._primary.run("SELECT cedar.create_tenant(%s::bigint, %s, %s)",
-                                               (tenant, Mode(mode).name.lower(), is_partial))
+        ((is_new,),) = await self._primary.run_repeatedly(
+            "SELECT cedar.create_tenant(%s::bigint, %s, %s)", (tenant, Mode(mode).name.lower(), is_partial), self._patience)
         return bool(is_new)
 
     async def drop_tenant(self, tenant: int) -> bool:
         """Deletes a tenant with everything it has. Returns False if it does not exist."""
         self.cache.drop(tenant)
-        ((existed,),) = await self._primary.run("SELECT cedar.drop_tenant(%s::bigint)", (tenant,))
+        ((existed,),) = await self._primary.run_repeatedly(
+            "SELECT cedar.drop_tenant(%s::bigint)", (tenant,), self._patience)
         return bool(existed)
 
     def cached_view(self, tenant: int, token: int = 0) -> Optional[View]:
@@ -334,8 +335,8 @@ class Database:
         has_entities = payload["entities"] or payload["repaired"] or payload["removed"]
         if outcome == "done" and not has_entities:
             cached.adopt(version, draft.policies, payload, asked_at)
-        elif cached.version < version:
-            cached.is_outdated = True
+        else:
+            cached.learn(version)
         self.conflicts += outcome == "conflict"
         return None if outcome == "conflict" else int(version)
 
@@ -353,7 +354,7 @@ class Database:
             since = None if uids is None else version
             rows = await read_tenant(self._primary, tenant, since, uids, on=connection)
             if rows.version != version:
-                cached.is_outdated = True
+                cached.learn(rows.version)
                 raise _Outdated
             store = (await build_contents(rows, has_policies=False)).store
             assert store is not None

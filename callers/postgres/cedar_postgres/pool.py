@@ -165,3 +165,18 @@ class Pool:
                 self._failed_at = time.monotonic()
                 await on.close()
             raise database_error(error) from error
+
+    async def run_repeatedly(self, statement: str, arguments: Sequence[Any], patience_seconds: float) -> Rows:
+        """Runs a statement that can be repeated, again if its connection is lost, for some seconds.
+
+        Raises:
+            DatabaseError: one of its subclasses, by the error of the driver.
+        """
+        deadline = time.monotonic() + patience_seconds
+        while True:
+            try:
+                return await self.run(statement, arguments)
+            except Unavailable as error:
+                if time.monotonic() > deadline or not error.is_connection_lost:
+                    raise
+            await asyncio.sleep(0.02)

@@ -37,7 +37,7 @@ $$;
 -- Takes the row of a tenant until the transaction ends, so that no other change can be first.
 CREATE FUNCTION cedar.lock_tenant(of_tenant bigint) RETURNS void
 LANGUAGE plpgsql
-SET search_path = pg_catalog, pg_temp SET lock_timeout = '5s'
+SET search_path = pg_catalog, pg_temp SET lock_timeout = '2s'
 AS $$
 BEGIN
     PERFORM set_config('cedar.tenant', of_tenant::text, true);
@@ -56,7 +56,7 @@ CREATE FUNCTION cedar.apply(of_tenant bigint, expected bigint, change_key text, 
 RETURNS TABLE (outcome text, version bigint)
 LANGUAGE plpgsql
 SET search_path = pg_catalog, pg_temp SET jit = off SET enable_seqscan = off SET plan_cache_mode = force_generic_plan
-SET lock_timeout = '5s'
+SET lock_timeout = '2s'
 AS $$
 #variable_conflict use_column
 DECLARE
