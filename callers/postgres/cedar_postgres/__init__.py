@@ -16,6 +16,7 @@ The tables are behind row-level security, and each call sets its tenant.
 """
 from __future__ import annotations
 
+from . import fields
 from .changes import Draft
 from .cluster import Cluster
 from .database import Applied, Database
@@ -52,5 +53,6 @@ __all__ = [
     "Unavailable",
     "Unprotected",
     "View",
+    "fields",
     "migrate",
 ]
