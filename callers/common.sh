@@ -36,13 +36,14 @@ ended() {
     exit
 }
 
-# Runs a program whose last line is `N passed, M failed`, and adds up its counts. Arguments: a title, then the command.
+# Runs a program whose last line is `N passed, M failed`, or `N passed, M failed, K skipped`, and adds up its counts.
+# Arguments: a title, then the command.
 counted() {
-    local what=$1 status=0 counts
+    local what=$1 status=0 counts form='^[0-9]* passed, [0-9]* failed(, [0-9]* skipped)?$'
     shift
     "$@" > "$out/one" 2>&1 || status=$?
-    grep -v '^[0-9]* passed, [0-9]* failed$' "$out/one"
-    counts=$(grep '^[0-9]* passed, [0-9]* failed$' "$out/one" | tail -n 1)
+    grep -vE "$form" "$out/one"
+    counts=$(grep -E "$form" "$out/one" | tail -n 1)
     if [ -z "$counts" ]; then
         fault "$what ended with status $status and printed no count"
         return
@@ -50,6 +51,7 @@ counted() {
     echo "callers: $what: $counts"
     passed=$((passed + $(echo "$counts" | cut -d' ' -f1)))
     failed=$((failed + $(echo "$counts" | cut -d' ' -f3)))
+    skipped=$((skipped + $(echo "$counts 0 0" | cut -d' ' -f5)))
     if [ "$status" -ne 0 ] && [ "$(echo "$counts" | cut -d' ' -f3)" -eq 0 ]; then
         fault "$what ended with status $status"
     fi

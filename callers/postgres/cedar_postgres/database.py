@@ -86,9 +86,7 @@ class Database:
         for pool in self._pools:
             await pool.open()
         try:
-            ((number, bypasses),) = await self._primary.run(
-                "SELECT (SELECT max(number) FROM cedar.migrations), rolsuper OR rolbypassrls FROM pg_roles "
-                "WHERE rolname = current_user")
+            number, bypasses = await self._read_schema_and_role()
             if number is None or number < required_number():
                 raise OutdatedSchema(f"the schema has migration {number}, this library needs {required_number()}")
             if bypasses and not allow_superuser:
@@ -98,6 +96,19 @@ class Database:
             raise
         self._listener.start()
         return self
+
+    async def _read_schema_and_role(self) -> tuple[Optional[int], bool]:
+        """Returns the number of the last migration, and whether the role passes row-level security."""
+        error: DatabaseError = Unavailable("no server")
+        for pool in reversed(self._pools):
+            try:
+                ((number, bypasses),) = await pool.run(
+                    "SELECT (SELECT max(number) FROM cedar.migrations), rolsuper OR rolbypassrls FROM pg_roles "
+                    "WHERE rolname = current_user")
+                return number, bypasses
+            except Unavailable as failure:
+                error = failure
+        raise error
 
     async def close(self) -> None:
         """Closes all connections."""
@@ -161,9 +172,10 @@ class Database:
         if cached.view is not None:
             return cached.view
         error: DatabaseError = Behind(f"no server has version {token} of tenant {tenant}")
-        for pool in self._pools:
+        # A replica may be behind a version that is known. It is used if the primary cannot be reached.
+        for pool, version in [*((pool, max(token, cached.last_known)) for pool in self._pools), (self._pools[0], token)]:
             try:
-                return await self._read_slice(pool, tenant, uids, token)
+                return await self._read_slice(pool, tenant, uids, version)
             except (Unavailable, Behind) as failure:
                 error = failure
         raise error
@@ -174,7 +186,7 @@ class Database:
             cached = self.cache.get(tenant) or await self._cached_tenant(tenant, token)
             since, asked_at = cached.version, time.monotonic()
             rows = await read_tenant(pool, tenant, since, uids)
-            if rows.version < token or rows.version < since:
+            if rows.version < max(token, since):
                 raise Behind(f"the server has version {rows.version} of tenant {tenant}")
             if cached.version != since:
                 continue  # another task has refreshed it meanwhile
@@ -200,15 +212,18 @@ class Database:
             for pool in self._pools:
                 try:
                     cached = await self._refresh(pool, tenant)
-                    if cached.version >= token:
+                    if cached.version >= max(token, cached.last_known):
                         return cached
                 except Unavailable as failure:
                     error = failure
                 except (NoTenant, Moving):
-                    self.cache.drop(tenant)
                     # A replica may not have a new tenant yet.
                     if pool is self._primary:
+                        self.cache.drop(tenant)
                         raise
+            # The primary cannot be reached, and a replica is behind.
+            if len(self._pools) > 1 and cached is not None and cached.version >= token:
+                return cached
             raise error
 
     async def _refresh(

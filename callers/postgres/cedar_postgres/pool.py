@@ -22,9 +22,6 @@ Rows = list[tuple[Any, ...]]
 _CONNECT_SECONDS = 2.0
 _PAUSE_SECONDS = 0.1
 
-# The error of the last attempt of a pool to connect, by its connection string.
-_last_errors: dict[str, str] = {}
-
 
 def single_hosts(dsn: str) -> list[str]:
     """Returns a connection string for each host of a connection string.
@@ -59,14 +56,15 @@ async def connect(dsn: str, **options: Any) -> psycopg.AsyncConnection[Any]:
 
 
 class _PooledConnection(psycopg.AsyncConnection[Any]):
-    """A connection that a pool opens. It tries all hosts until one of them accepts it."""
+    """A connection that a pool opens. It tries all hosts until one of them accepts it, or until the pool is closed."""
 
     opened_at = 0.0
 
     @classmethod
-    async def connect(cls, conninfo: str = "", **_: Any) -> Any:
+    async def connect(cls, conninfo: str = "", *, owner: Optional[Pool] = None, **_: Any) -> Any:
+        assert owner is not None
         hosts, number = single_hosts(conninfo), 0
-        while True:
+        while not owner.is_closed:
             started_at = time.monotonic()
             try:
                 async with asyncio.timeout(_CONNECT_SECONDS):
@@ -75,10 +73,11 @@ class _PooledConnection(psycopg.AsyncConnection[Any]):
                 connection.opened_at = started_at
                 return connection
             except (psycopg.Error, OSError) as error:
-                _last_errors[conninfo] = str(error) or "it did not answer"
-                number += 1
-                if number % len(hosts) == 0:
-                    await asyncio.sleep(_PAUSE_SECONDS)
+                owner.last_error = str(error) or "it did not answer"
+            number += 1
+            if number % len(hosts) == 0:
+                await asyncio.sleep(_PAUSE_SECONDS)
+        raise psycopg.OperationalError("the pool is closed")
 
 
 class Pool:
@@ -90,9 +89,11 @@ class Pool:
 
     def __init__(self, dsn: str, size: int = 8, statement_seconds: float = 5.0, wait_seconds: float = 2.0) -> None:
         self.dsn, self.statement_seconds = dsn, statement_seconds
+        self.is_closed, self.last_error = False, ""
         self._size, self._in_use, self._failed_at = size, 0, 0.0
         self._pool = psycopg_pool.AsyncConnectionPool(
-            dsn, connection_class=_PooledConnection, min_size=1, max_size=size, timeout=wait_seconds, open=False)
+            dsn, connection_class=_PooledConnection, kwargs={"owner": self}, min_size=1, max_size=size,
+            timeout=wait_seconds, open=False)
 
     async def open(self) -> None:
         """Starts to connect. Does not wait for a connection."""
@@ -100,11 +101,8 @@ class Pool:
 
     async def close(self) -> None:
         """Closes all connections."""
-        await self._pool.close(timeout=0.1)
-        # A worker of the pool that has not found a server yet would go on.
-        for task in asyncio.all_tasks():
-            if task.get_name().startswith(self._pool.name + "-"):
-                task.cancel()
+        self.is_closed = True
+        await self._pool.close(timeout=2 * _CONNECT_SECONDS)
 
     @contextlib.asynccontextmanager
     async def connection(self) -> AsyncIterator[psycopg.AsyncConnection[Any]]:
@@ -135,7 +133,7 @@ class Pool:
             except (psycopg_pool.PoolTimeout, psycopg_pool.TooManyRequests) as error:
                 if self._in_use >= self._size:
                     raise Retry("all connections of the pool are in use") from error
-                raise Unavailable(f"no server accepts a connection: {_last_errors.get(self.dsn, '')}") from error
+                raise Unavailable(f"no server accepts a connection: {self.last_error}") from error
             if connection.opened_at >= self._failed_at:
                 return connection
             # Opened before a failure. The server that it leads to may be gone, or a replica by now.
