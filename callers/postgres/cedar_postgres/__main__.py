@@ -3,7 +3,7 @@
     python3 -m cedar_postgres migrate DSN
         applies the missing migrations, as a role that owns the tables
     python3 -m cedar_postgres server DIRECTORY NAME DSN ADMIN [READS]
-        records a server in the directory, or changes its connection strings (ADMIN is that of a superuser)
+        records a server in the directory, or changes its connection strings (ADMIN is for a superuser)
     python3 -m cedar_postgres move DIRECTORY TENANT SERVER
         moves a tenant to a server, or goes on with an interrupted move
     python3 -m cedar_postgres cancel-move DIRECTORY TENANT SERVER
@@ -33,13 +33,16 @@ def _record_server(directory: str, name: str, dsn: str, admin: str, reads: str |
     with psycopg.connect(directory) as connection:
         connection.execute(
             "INSERT INTO cedar.servers (server, dsn, reads, admin) VALUES (%s, %s, %s, %s) ON CONFLICT (server) "
-            "DO UPDATE SET dsn = EXCLUDED.dsn, reads = EXCLUDED.reads, admin = EXCLUDED.admin", (name, dsn, reads, admin))
+            "DO UPDATE SET dsn = EXCLUDED.dsn, reads = EXCLUDED.reads, admin = EXCLUDED.admin",
+            (name, dsn, reads, admin),
+        )
 
 
 def _list_moves(directory: str) -> None:
     with psycopg.connect(directory) as connection:
         for tenant, source, target, started_at in connection.execute(
-                "SELECT tenant, source, target, started_at FROM cedar.moves ORDER BY started_at"):
+            "SELECT tenant, source, target, started_at FROM cedar.moves ORDER BY started_at"
+        ):
             print(f"tenant {tenant}: from {source} to {target}, since {started_at:%Y-%m-%d %H:%M:%S %z}")
 
 

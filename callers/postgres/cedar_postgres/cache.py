@@ -1,8 +1,8 @@
 """The hot tenants of one process, in memory.
 
-A cached tenant counts for one second after the question that confirmed its version was sent. A task asks for the versions
-of all cached tenants five times a second, and a notification of PostgreSQL makes a changed tenant outdated at once. So
-the notifications make the cache fast, and the lease makes it safe: without them a change is seen after a second at most.
+A cached tenant can be used for one second after the server was asked for its version. A task asks for the versions of
+all cached tenants five times a second. A notification of PostgreSQL makes a changed tenant outdated immediately. So the
+notifications make the cache fast, and the lease makes it safe: without them a change is seen within a second.
 """
 from __future__ import annotations
 
@@ -17,7 +17,7 @@ from cedar_store import Policies, Store
 
 from .encoding import LongTexts, edit_policies
 from .errors import DatabaseError
-from .pool import connect
+from .pool import Connection, connect
 from .tenant import Rows, View, build_contents
 
 LEASE_SECONDS = 1.0
@@ -88,7 +88,7 @@ class CachedTenant:
 
 
 class Cache:
-    """Tenants in memory, up to a number of bytes. The tenant that was not used for the longest time is dropped first."""
+    """Tenants in memory, up to a number of bytes. The least recently used tenant is dropped first."""
 
     def __init__(self, max_bytes: int) -> None:
         self.max_bytes, self.bytes = max_bytes, 0
@@ -149,7 +149,7 @@ class Cache:
 class Listener:
     """A task that keeps the versions of cached tenants confirmed, over a connection of its own.
 
-    A replica refuses LISTEN. Then only the questions find changes.
+    A replica does not support LISTEN. Then only the questions find changes.
     """
 
     def __init__(self, cache: Cache, dsns: list[str], is_listening: bool = True) -> None:
@@ -181,8 +181,11 @@ class Listener:
         try:
             connection.add_notify_handler(lambda notify: self._receive(notify.payload))
             if self._is_listening:
-                with contextlib.suppress(psycopg.errors.FeatureNotSupported, psycopg.errors.ReadOnlySqlTransaction,
-                                         psycopg.errors.ObjectNotInPrerequisiteState):
+                with contextlib.suppress(
+                    psycopg.errors.FeatureNotSupported,
+                    psycopg.errors.ReadOnlySqlTransaction,
+                    psycopg.errors.ObjectNotInPrerequisiteState,
+                ):
                     async with asyncio.timeout(LEASE_SECONDS):
                         await connection.execute("LISTEN cedar")
             while time.monotonic() < until:
@@ -191,7 +194,7 @@ class Listener:
         finally:
             await connection.close()
 
-    async def _ask(self, connection: psycopg.AsyncConnection[Any]) -> None:
+    async def _ask(self, connection: Connection) -> None:
         asked_at, tenants = time.monotonic(), self._cache.tenants()
         async with asyncio.timeout(LEASE_SECONDS):
             cursor = await connection.execute("SELECT * FROM cedar.versions(%s::bigint[])", (tenants,))
@@ -200,7 +203,7 @@ class Listener:
                 if cached is not None:
                     cached.confirm(version, asked_at)
 
-    async def _wait(self, connection: psycopg.AsyncConnection[Any], until: float) -> None:
+    async def _wait(self, connection: Connection, until: float) -> None:
         """Receives notifications until a time."""
         loop, readable, descriptor = asyncio.get_running_loop(), asyncio.Event(), connection.fileno()
         loop.add_reader(descriptor, readable.set)
@@ -227,6 +230,6 @@ class Listener:
             cached.learn(version)
 
 
-def _next_payload(connection: psycopg.AsyncConnection[Any]) -> Optional[str]:
+def _next_payload(connection: Connection) -> Optional[str]:
     notify = connection.pgconn.notifies()
     return None if notify is None else notify.extra.decode()

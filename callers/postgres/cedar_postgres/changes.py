@@ -11,7 +11,7 @@ from cedar_store import Entity, Mode, Policies, Store, is_uid
 
 from .encoding import LongTexts, encode_entity, encode_policy, insertion_order
 
-# Longer lists of what a change affected are not written. A cache then reads the whole tenant again.
+# Longer lists of affected uids or ids are not written. A cache then reads the whole tenant again.
 _MAX_LISTED = 5000
 
 _Edit = Callable[[Store], None]
@@ -20,7 +20,7 @@ _Edit = Callable[[Store], None]
 class Draft:
     """The edits of one change. A method that raises an exception leaves the draft unchanged.
 
-    The methods take the arguments of those of `cedar_store.Store` and `cedar_store.Policies`, and raise their exceptions.
+    The methods have the arguments and the exceptions of the methods of `cedar_store.Store` and `cedar_store.Policies`.
     """
 
     def __init__(
@@ -115,8 +115,11 @@ class Draft:
             ValueError: the tenant is computed, and an indirect ancestor does not follow from the parents.
         """
         items = list(entities)
-        await self._edit([uid for item in items for uid in (item.uid, *item.parents)],
-                         lambda store: store.upsert(self._inserted(items), self._mode), items)
+        await self._edit(
+            [uid for item in items for uid in (item.uid, *item.parents)],
+            lambda store: store.upsert(self._inserted(items), self._mode),
+            items,
+        )
         self._written.update((str(item.uid), item) for item in items)
 
     async def add(self, entities: Iterable[Entity]) -> None:
@@ -127,8 +130,11 @@ class Draft:
             ValueError: the tenant is computed, and an indirect ancestor does not follow from the parents.
         """
         items = list(entities)
-        existing = await self._edit([uid for item in items for uid in (item.uid, *item.parents)],
-                                    lambda store: store.add(items, self._mode), items)
+        existing = await self._edit(
+            [uid for item in items for uid in (item.uid, *item.parents)],
+            lambda store: store.add(items, self._mode),
+            items,
+        )
         for item in items:
             if item.uid not in existing:
                 self._written.setdefault(str(item.uid), item)
@@ -150,8 +156,10 @@ class Draft:
         """Returns entities to insert. In a computed tenant they have no indirect ancestors of their own."""
         if self._mode is not Mode.COMPUTE:
             return items
-        return [Entity(item.uid, item.parents, attrs=item.attrs, tags=item.tags) if item.indirect_ancestors else item
-                for item in items]
+        return [
+            Entity(item.uid, item.parents, attrs=item.attrs, tags=item.tags) if item.indirect_ancestors else item
+            for item in items
+        ]
 
     async def _edit(self, uids: list[str], edit: _Edit, items: Iterable[Entity] = ()) -> set[str]:
         """Applies an edit to the draft's store. Returns which of the uids existed before it."""
@@ -207,7 +215,7 @@ class Draft:
         }
 
     def _entity_rows(self, texts: LongTexts) -> tuple[list[Any], list[Any]]:
-        """Returns the rows of written entities, and of entities of which only ancestors changed."""
+        """Returns the rows of written entities, and of entities whose ancestors changed."""
         store, base = self._store, self._base_store
         if store is None or base is None:
             return [], []
@@ -219,8 +227,13 @@ class Draft:
             if uid not in self._written:
                 ancestors = store.parents(uid), store.indirect_ancestors(uid)
                 if ancestors != (base.parents(uid), base.indirect_ancestors(uid)):
-                    repaired.append({"uid": texts.key(uid), "parents": list(map(texts.key, ancestors[0])),
-                                     "indirect": list(map(texts.key, ancestors[1]))})
+                    repaired.append(
+                        {
+                            "uid": texts.key(uid),
+                            "parents": list(map(texts.key, ancestors[0])),
+                            "indirect": list(map(texts.key, ancestors[1])),
+                        }
+                    )
         return entities, repaired
 
 

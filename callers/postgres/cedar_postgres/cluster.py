@@ -18,16 +18,16 @@ _Result = TypeVar("_Result")
 class Cluster:
     """Tenants of all servers of a directory, with the methods of `Database`.
 
-    `directory` is the connection string of the database that has the directory. The other options are those of
-    `Database`, for each server.
+    `directory` is the connection string of the database that has the directory. Each server has the other
+    options as its `Database`.
 
-    The place of a tenant is kept in memory. An outdated place does no harm: the server itself says that it does not have
-    the tenant, and then the directory is read again. So a move costs its callers some questions, and no change.
+    The place of a tenant is kept in memory. An outdated place does no harm: the server reports that it does not have
+    the tenant, and then the directory is read again.
     """
 
     def __init__(self, directory: str, *, patience_seconds: float = 3.0, **options: Any) -> None:
         self._directory, self._patience = Pool(directory, 4), patience_seconds
-        self._options = {**options, "patience_seconds": patience_seconds}
+        self._options: dict[str, Any] = {**options, "patience_seconds": patience_seconds}
         self._databases: dict[str, Database] = {}
         self._places: dict[int, str] = {}
         self._opening = asyncio.Lock()
@@ -57,7 +57,9 @@ class Cluster:
             "INSERT INTO cedar.directory SELECT %s::bigint, server FROM cedar.servers "
             "WHERE server = coalesce(%s, server) ORDER BY "
             "(SELECT count(*) FROM cedar.directory AS placed WHERE placed.server = cedar.servers.server), server "
-            "LIMIT 1 ON CONFLICT DO NOTHING", (tenant, server))
+            "LIMIT 1 ON CONFLICT DO NOTHING",
+            (tenant, server),
+        )
         return await self._on_server_of(tenant, lambda database: database.create_tenant(tenant, mode, is_partial))
 
     async def drop_tenant(self, tenant: int) -> bool:

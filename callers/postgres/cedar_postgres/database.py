@@ -2,14 +2,12 @@
 from __future__ import annotations
 
 import asyncio
-import contextlib
 import inspect
 import time
 import uuid
 import weakref
 from typing import Any, Awaitable, Callable, Iterable, NamedTuple, Optional, Union
 
-import psycopg
 from cedar_store import Entity, Mode, Policies, Store
 from psycopg.types.json import Jsonb
 
@@ -17,7 +15,7 @@ from .cache import Cache, CachedTenant, Listener
 from .changes import Draft
 from .errors import Behind, Conflict, DatabaseError, Moving, NoTenant, OutdatedSchema, Retry, Unavailable, Unprotected
 from .migrations import required_number
-from .pool import Pool
+from .pool import Connection, Pool
 from .tenant import Rows, View, build_contents, read_tenant
 
 _ATTEMPTS = 8
@@ -104,7 +102,8 @@ class Database:
             try:
                 ((number, bypasses),) = await pool.run(
                     "SELECT (SELECT max(number) FROM cedar.migrations), rolsuper OR rolbypassrls FROM pg_roles "
-                    "WHERE rolname = current_user")
+                    "WHERE rolname = current_user"
+                )
                 return number, bypasses
             except Unavailable as failure:
                 error = failure
@@ -125,17 +124,21 @@ class Database:
     async def create_tenant(self, tenant: int, mode: Mode = Mode.COMPUTE, is_partial: bool = False) -> bool:
         """Creates a tenant. Returns False if it exists.
 
-        The mode is that of all changes of its entities (see `cedar_store.Mode`).
+        All changes of its entities have the mode (see `cedar_store.Mode`).
         """
         ((is_new,),) = await self._primary.run_repeatedly(
-            "SELECT cedar.create_tenant(%s::bigint, %s, %s)", (tenant, Mode(mode).name.lower(), is_partial), self._patience)
+            "SELECT cedar.create_tenant(%s::bigint, %s, %s)",
+            (tenant, Mode(mode).name.lower(), is_partial),
+            self._patience,
+        )
         return bool(is_new)
 
     async def drop_tenant(self, tenant: int) -> bool:
         """Deletes a tenant with everything it has. Returns False if it does not exist."""
         self.cache.drop(tenant)
         ((existed,),) = await self._primary.run_repeatedly(
-            "SELECT cedar.drop_tenant(%s::bigint)", (tenant,), self._patience)
+            "SELECT cedar.drop_tenant(%s::bigint)", (tenant,), self._patience
+        )
         return bool(existed)
 
     def cached_view(self, tenant: int, token: int = 0) -> Optional[View]:
@@ -173,7 +176,10 @@ class Database:
             return cached.view
         error: DatabaseError = Behind(f"no server has version {token} of tenant {tenant}")
         # A replica may be behind a version that is known. It is used if the primary cannot be reached.
-        for pool, version in [*((pool, max(token, cached.last_known)) for pool in self._pools), (self._pools[0], token)]:
+        for pool, version in [
+            *((pool, max(token, cached.last_known)) for pool in self._pools),
+            (self._pools[0], token),
+        ]:
             try:
                 return await self._read_slice(pool, tenant, uids, version)
             except (Unavailable, Behind) as failure:
@@ -226,15 +232,13 @@ class Database:
                 return cached
             raise error
 
-    async def _refresh(
-        self, pool: Pool, tenant: int, on: Optional[psycopg.AsyncConnection[Any]] = None
-    ) -> CachedTenant:
+    async def _refresh(self, pool: Pool, tenant: int, on: Optional[Connection] = None) -> CachedTenant:
         """Reads what changed since the cached version, or everything."""
         while True:
             cached, asked_at = self.cache.get(tenant), time.monotonic()
             since = None if cached is None else cached.version
             # A read with `uids` has no entities without `uids`, which a tenant without a store does not need.
-            uids = [] if cached is not None and cached.store is None else None
+            uids: Optional[list[str]] = [] if cached is not None and cached.store is None else None
             rows = await read_tenant(pool, tenant, since, uids, self._max_tenant_bytes // _MIN_BYTES_OF_ENTITY, on)
             if cached is not None and (cached.version != since or self.cache.get(tenant) is not cached):
                 continue  # another task has changed it meanwhile
@@ -248,8 +252,9 @@ class Database:
             return cached
 
     def _is_too_large(self, rows: Rows) -> bool:
-        return (rows.bytes > self._max_tenant_bytes
-                or len(rows.entities) >= self._max_tenant_bytes // _MIN_BYTES_OF_ENTITY)
+        return (
+            rows.bytes > self._max_tenant_bytes or len(rows.entities) >= self._max_tenant_bytes // _MIN_BYTES_OF_ENTITY
+        )
 
     async def change(self, tenant: int, function: Change, *, key: Optional[str] = None) -> Applied:
         """Makes a change of a tenant, in one transaction. Other changes cannot come between.
@@ -306,22 +311,30 @@ class Database:
         """Makes a change once. Returns its version, or None if another change was first."""
         if not is_locking:
             return await self._attempt_on(None, tenant, edit, key)
-        async with contextlib.AsyncExitStack() as stack:
-            connection = await stack.enter_async_context(self._primary.connection())
-            await stack.enter_async_context(connection.transaction())
+        version: Optional[int] = None
+        async with self._primary.connection() as connection, connection.transaction():
             await self._primary.run("SELECT cedar.lock_tenant(%s::bigint)", (tenant,), on=connection)
-            return await self._attempt_on(connection, tenant, edit, key)
+            version = await self._attempt_on(connection, tenant, edit, key)
+        return version
 
     async def _attempt_on(
-        self, connection: Optional[psycopg.AsyncConnection[Any]], tenant: int,
-        edit: Callable[[Draft], Awaitable[None]], key: str,
+        self,
+        connection: Optional[Connection],
+        tenant: int,
+        edit: Callable[[Draft], Awaitable[None]],
+        key: str,
     ) -> Optional[int]:
         cached = self.cache.get(tenant)
         if cached is None or cached.is_outdated or connection is not None:
             async with self._read_locks.setdefault(tenant, asyncio.Lock()):
                 cached = await self._refresh(self._primary, tenant, connection)
-        draft = Draft(cached.version, cached.mode, cached.policies, cached.copy_policies,
-                      self._slice_of(tenant, cached, connection))
+        draft = Draft(
+            cached.version,
+            cached.mode,
+            cached.policies,
+            cached.copy_policies,
+            self._slice_of(tenant, cached, connection),
+        )
         try:
             await edit(draft)
         except _Outdated:
@@ -333,14 +346,23 @@ class Database:
         return await self._write(connection, tenant, cached, draft, key, payload)
 
     async def _write(
-        self, connection: Optional[psycopg.AsyncConnection[Any]], tenant: int, cached: CachedTenant, draft: Draft,
-        key: str, payload: dict[str, Any],
+        self,
+        connection: Optional[Connection],
+        tenant: int,
+        cached: CachedTenant,
+        draft: Draft,
+        key: str,
+        payload: dict[str, Any],
     ) -> Optional[int]:
         """Writes a draft. Returns its version, or None if another change was first."""
         asked_at = time.monotonic()
         seconds = self._primary.statement_seconds + (len(payload["entities"]) + len(payload["policies"])) / 1000
-        rows = await self._primary.run("SELECT outcome, version FROM cedar.apply(%s::bigint, %s::bigint, %s, %s)",
-                                       (tenant, draft.version, key, Jsonb(payload)), on=connection, seconds=seconds)
+        rows = await self._primary.run(
+            "SELECT outcome, version FROM cedar.apply(%s::bigint, %s::bigint, %s, %s)",
+            (tenant, draft.version, key, Jsonb(payload)),
+            on=connection,
+            seconds=seconds,
+        )
         ((outcome, version),) = rows
         if outcome == "missing":
             self.cache.drop(tenant)
@@ -356,7 +378,7 @@ class Database:
         return None if outcome == "conflict" else int(version)
 
     def _slice_of(
-        self, tenant: int, cached: CachedTenant, connection: Optional[psycopg.AsyncConnection[Any]]
+        self, tenant: int, cached: CachedTenant, connection: Optional[Connection]
     ) -> Callable[[Optional[list[str]]], Awaitable[Store]]:
         """Returns a function that returns slices of the version of a draft."""
         version = cached.version
@@ -387,9 +409,11 @@ class Database:
         Raises:
             Conflict: the tenant exists.
         """
-        entities = [store.entity(uid) for uid in store.uids()]
+        entities = [entity for uid in store.uids() if isinstance(entity := store.entity(uid), Entity)]
         if mode is None:
-            with Store([Entity(item.uid, item.parents, attrs=item.attrs, tags=item.tags) for item in entities]) as other:
+            with Store(
+                [Entity(item.uid, item.parents, attrs=item.attrs, tags=item.tags) for item in entities]
+            ) as other:
                 if store.is_partial():
                     other.partial()
                 mode = Mode.COMPUTE if other == store else Mode.ASSUME

@@ -1,8 +1,8 @@
 """Values, expressions, constraints, policies and entities as JSON that PostgreSQL stores, and back.
 
-- A text is stored as it is, except that texts of PostgreSQL cannot contain a zero byte: see `escape`.
+- Texts of PostgreSQL cannot contain a zero byte, so `escape` replaces it.
 - A Boolean, a number and a text are stored as JSON literals. Any other value is a list of nodes, in which each node
-  follows its operands: `[["text", "a"], ["long", 1], ["set", 2]]`. So the depth of a value never sets the depth of JSON.
+  follows its operands: `[["text", "a"], ["long", 1], ["set", 2]]`. So JSON is never as deep as a value.
 - A residual expression is `{"expr": nodes}`, and a clause is a list of nodes.
 
 No function here recurses.
@@ -226,7 +226,8 @@ def _decode_expr(node: list[Json], stack: list[Any]) -> values.Expr:
     if kind == "call":
         return values.Call(unescape(node[2]), *_pop(stack, node[1]))
     if kind == "is":
-        return values.Is(*_pop(stack, 1), unescape(node[1]))
+        (operand,) = _pop(stack, 1)
+        return values.Is(operand, unescape(node[1]))
     return values.Lit(_decode_literal(node))
 
 
@@ -272,8 +273,7 @@ def _encode_constraint(constraint: Constraint) -> Json:
 
 def _decode_constraint(encoded: Json) -> Constraint:
     arguments = [encoded["type"]] if "type" in encoded else []
-    constraint: Constraint = getattr(Constraint, encoded["kind"])(
-        *arguments, *map(unescape, encoded.get("uids", ())))
+    constraint: Constraint = getattr(Constraint, encoded["kind"])(*arguments, *map(unescape, encoded.get("uids", ())))
     return constraint
 
 
@@ -338,8 +338,11 @@ def edit_policies(policies: Policies, removed_ids: Iterable[str], rows: Iterable
     Both are given as the tables have them. Ids that are not bound have no effect.
     """
     bound = [(id, policies.get(id)) for id in map(texts.text, removed_ids)]
-    for kind, remove in ((Bound.LINK, policies.unlink), (Bound.STATIC, policies.remove_static),
-                         (Bound.TEMPLATE, policies.remove_template)):
+    for kind, remove in (
+        (Bound.LINK, policies.unlink),
+        (Bound.STATIC, policies.remove_static),
+        (Bound.TEMPLATE, policies.remove_template),
+    ):
         for id, id_kind in bound:
             if id_kind is kind:
                 remove(id)

@@ -1,4 +1,4 @@
-"""The exceptions of the adapter. `cedar_store.CedarError` is the caller's fault; none of these is.
+"""The exceptions of the adapter. `cedar_store.CedarError` is the caller's fault. No exception here is.
 
     DatabaseError
         Retry              the same call can succeed in a moment; nothing was written
@@ -69,8 +69,8 @@ class NotInSlice(LookupError):
     """A slice was queried for a uid that it does not cover. Request the uid together with the others."""
 
 
-# The classes of SQLSTATE that mean that the server cannot work now: connection failures, no resources (a full disk
-# too), shutdown and failover, errors of the machine. 25006 is a server that has become a replica.
+# The classes of SQLSTATE that mean that the server cannot work now. They are connection failures, no resources (also a
+# full disk), shutdown and errors of the machine. 25006 is a server that has become a replica.
 _UNAVAILABLE = ("08", "53", "57P", "58", "25006", "57014", "F0", "XX001", "XX002")
 _RETRY = ("40001", "40P01", "55P03")
 # An aborted statement writes nothing. Without a code, or if the connection failed, a commit may have been written.
@@ -96,5 +96,6 @@ def database_error(error: BaseException) -> DatabaseError:
         return Retry(text)
     if state.startswith(_UNAVAILABLE) or not state and isinstance(error, psycopg.OperationalError):
         return Unavailable(
-            text, is_connection_lost=is_connection_failure(error), may_be_written=not state.startswith(_NOT_WRITTEN))
+            text, is_connection_lost=is_connection_failure(error), may_be_written=not state.startswith(_NOT_WRITTEN)
+        )
     return (OutdatedSchema if state.startswith(_OUTDATED) else DatabaseError)(text)

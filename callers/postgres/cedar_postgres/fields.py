@@ -1,7 +1,7 @@
 """Entities from the JSON of a request. Each error names the field.
 
-An entity is an object like `{"uid": "A::\\"a\\"", "parents": [], "attrs": {}, "tags": {}}`, of which only the uid is
-required. Values are those of Cedar's JSON: `{"__entity": {"type": "A", "id": "a"}}` is a uid, and
+An entity is an object like `{"uid": "A::\\"a\\"", "parents": [], "attrs": {}, "tags": {}}`. Only the uid is required.
+Values have the form of Cedar's JSON: `{"__entity": {"type": "A", "id": "a"}}` is a uid, and
 `{"__extn": {"fn": "ip", "arg": "10.0.0.1"}}` a value of an extension type.
 """
 from __future__ import annotations
@@ -29,7 +29,7 @@ def checked(content: Any, kind: Type[_Kind], field: str) -> _Kind:
     """Returns the content of a field. Raises `FieldError` if it does not have the type."""
     if type(content) is not kind:
         raise FieldError(f"expected {_KINDS[kind]}", field)
-    return content  # type: ignore[no-any-return]
+    return content
 
 
 def number(text: str, field: str) -> int:

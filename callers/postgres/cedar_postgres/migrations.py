@@ -1,6 +1,6 @@
 """The numbered migrations of the schema `cedar`.
 
-The folder `migrations` has one file of SQL for each. A migration is one transaction, with the row that records it. So an
+The folder `migrations` has one file of SQL for each. A migration and the row that records it are one transaction. So an
 interrupted migration leaves nothing, and the next call goes on. Several calls at the same time run one after another.
 """
 from __future__ import annotations
@@ -8,7 +8,7 @@ from __future__ import annotations
 import glob
 import hashlib
 import os
-from typing import Callable, NamedTuple
+from typing import Any, Callable, NamedTuple
 
 import psycopg
 
@@ -53,8 +53,8 @@ def required_number() -> int:
 def migrate(dsn: str, before_commit: Callable[[Migration], None] = lambda _: None) -> list[int]:
     """Applies all missing migrations to a database. Returns their numbers.
 
-    The role must be able to create a schema and a role. It owns the tables. `before_commit` is called in the transaction
-    of each migration.
+    The role must be able to create a schema and a role. It owns the tables. `before_commit` is called in each
+    transaction.
 
     Raises:
         ValueError: an applied migration differs from its file.
@@ -68,19 +68,22 @@ def migrate(dsn: str, before_commit: Callable[[Migration], None] = lambda _: Non
 
 
 def _apply(
-    connection: psycopg.Connection, migration: Migration, before_commit: Callable[[Migration], None]
+    connection: psycopg.Connection[Any], migration: Migration, before_commit: Callable[[Migration], None]
 ) -> bool:
     """Applies a migration in one transaction. Returns False if it is applied already."""
     with connection.transaction():
         connection.execute("SELECT pg_advisory_xact_lock(%s)", (_LOCK,))
         row = connection.execute(
-            "SELECT checksum FROM cedar.migrations WHERE number = %s", (migration.number,)).fetchone()
+            "SELECT checksum FROM cedar.migrations WHERE number = %s", (migration.number,)
+        ).fetchone()
         if row:
             if row[0] != migration.checksum:
                 raise ValueError(f"the applied migration {migration.number} differs from its file")
             return False
         connection.execute(migration.sql.encode())
-        connection.execute("INSERT INTO cedar.migrations (number, name, checksum) VALUES (%s, %s, %s)",
-                           (migration.number, migration.name, migration.checksum))
+        connection.execute(
+            "INSERT INTO cedar.migrations (number, name, checksum) VALUES (%s, %s, %s)",
+            (migration.number, migration.name, migration.checksum),
+        )
         before_commit(migration)
     return True

@@ -1,8 +1,8 @@
 """Moves a tenant to another server while it is in use, by PostgreSQL's logical replication with a row filter.
 
-Each step leaves a state from which the next call goes on. So a move can be interrupted anywhere and repeated. Changes of
-the tenant are rejected from the fence until the directory names the new server. Nothing is deleted before the counts and
-checksums of both servers are equal.
+A call goes on from the last finished step. So a move can be interrupted anywhere and repeated. Changes of the tenant
+are rejected from the fence until the directory names the new server. Nothing is deleted before the counts and checksums
+of both servers are equal.
 """
 from __future__ import annotations
 
@@ -18,8 +18,20 @@ _WAIT_SECONDS = 0.02
 # The target is this near when the fence is closed, in bytes of the log.
 _NEAR_BYTES = 100_000
 
-STEPS = ("recorded", "published", "subscribed", "copied", "fenced", "drained", "verified", "opened", "switched",
-         "unsubscribed", "deleted", "forgotten")
+STEPS = (
+    "recorded",
+    "published",
+    "subscribed",
+    "copied",
+    "fenced",
+    "drained",
+    "verified",
+    "opened",
+    "switched",
+    "unsubscribed",
+    "deleted",
+    "forgotten",
+)
 
 Connection = psycopg.Connection[Any]
 
@@ -38,7 +50,9 @@ class Moved(NamedTuple):
 class Move:
     """A move of one tenant. `after` is called after each step with its name."""
 
-    def __init__(self, directory: str, tenant: int, target: str, after: Callable[[str], None] = lambda _: None) -> None:
+    def __init__(
+        self, directory: str, tenant: int, target: str, after: Callable[[str], None] = lambda _: None
+    ) -> None:
         self._directory_dsn, self.tenant, self.target, self._after = directory, int(tenant), target, after
         self.name = f"cedar_move_{self.tenant}"
         self._fenced_at = self._rejected = 0.0
@@ -79,8 +93,12 @@ class Move:
             if not self._value(self.directory, "SELECT pg_try_advisory_lock(%s)", _LOCK):
                 raise MoveError("another move is running: one at a time")
             source = self._value(
-                self.directory, "SELECT coalesce((SELECT source FROM cedar.moves WHERE tenant = %s), "
-                "(SELECT server FROM cedar.directory WHERE tenant = %s))", self.tenant, self.tenant)
+                self.directory,
+                "SELECT coalesce((SELECT source FROM cedar.moves WHERE tenant = %s), "
+                "(SELECT server FROM cedar.directory WHERE tenant = %s))",
+                self.tenant,
+                self.tenant,
+            )
             if source is None:
                 raise MoveError(f"the directory has no tenant {self.tenant}")
             self.source_name = source
@@ -119,8 +137,10 @@ class Move:
         if not self._is_recorded():
             if self._place() == self.target:
                 return False
-            self.directory.execute("INSERT INTO cedar.moves (tenant, source, target) VALUES (%s, %s, %s)",
-                                   (self.tenant, self.source_name, self.target))
+            self.directory.execute(
+                "INSERT INTO cedar.moves (tenant, source, target) VALUES (%s, %s, %s)",
+                (self.tenant, self.source_name, self.target),
+            )
         self._after("recorded")
         return True
 
@@ -144,8 +164,14 @@ class Move:
         self._after("switched")
 
     def _has_subscription(self) -> bool:
-        return bool(self._value(self.copy, "SELECT true FROM pg_subscription WHERE subname = %s AND subdbid = "
-                                "(SELECT oid FROM pg_database WHERE datname = current_database())", self.name))
+        return bool(
+            self._value(
+                self.copy,
+                "SELECT true FROM pg_subscription WHERE subname = %s AND subdbid = "
+                "(SELECT oid FROM pg_database WHERE datname = current_database())",
+                self.name,
+            )
+        )
 
     def _slot_is_lost(self) -> bool:
         """Returns whether the subscription has no slot at the source, for example after a failover."""
@@ -169,19 +195,28 @@ class Move:
             self._delete(self.copy)  # what an interrupted move has left
             self._drop_slot()
             with psycopg.ClientCursor(self.copy) as cursor:
-                cursor.execute(f"CREATE SUBSCRIPTION {self.name} CONNECTION %s PUBLICATION {self.name}".encode(),
-                               (self._source_dsn,))
+                cursor.execute(
+                    f"CREATE SUBSCRIPTION {self.name} CONNECTION %s PUBLICATION {self.name}".encode(),
+                    (self._source_dsn,),
+                )
         self.copy.execute(f"ALTER SUBSCRIPTION {self.name} ENABLE".encode())
         self._after("subscribed")
 
     def _drop_slot(self) -> None:
         """Drops a slot of the source that has no subscription."""
-        self.source.execute("SELECT pg_drop_replication_slot(slot_name) FROM pg_replication_slots "
-                            "WHERE slot_name = %s AND NOT active", (self.name,))
+        self.source.execute(
+            "SELECT pg_drop_replication_slot(slot_name) FROM pg_replication_slots "
+            "WHERE slot_name = %s AND NOT active",
+            (self.name,),
+        )
 
     def _wait_for_copy(self) -> None:
-        while self._value(self.copy, "SELECT count(*) FROM pg_subscription_rel JOIN pg_subscription ON oid = srsubid "
-                          "WHERE subname = %s AND srsubstate <> 'r'", self.name):
+        while self._value(
+            self.copy,
+            "SELECT count(*) FROM pg_subscription_rel JOIN pg_subscription ON oid = srsubid "
+            "WHERE subname = %s AND srsubstate <> 'r'",
+            self.name,
+        ):
             self._check_slot()
             time.sleep(_WAIT_SECONDS)
         self._wait_until_passed("pg_current_wal_insert_lsn() - %s::numeric", _NEAR_BYTES)
@@ -194,8 +229,12 @@ class Move:
     def _wait_until_passed(self, position: str, *arguments: Any) -> None:
         """Waits until the target has written everything up to a position of the source's log."""
         lsn = self._value(self.source, f"SELECT ({position})::text", *arguments)
-        while not self._value(self.source, "SELECT confirmed_flush_lsn >= %s::pg_lsn FROM pg_replication_slots "
-                              "WHERE slot_name = %s", lsn, self.name):
+        while not self._value(
+            self.source,
+            "SELECT confirmed_flush_lsn >= %s::pg_lsn FROM pg_replication_slots " "WHERE slot_name = %s",
+            lsn,
+            self.name,
+        ):
             self._check_slot()
             time.sleep(_WAIT_SECONDS / 10)
 
@@ -217,21 +256,25 @@ class Move:
             raise MoveError(f"the copies differ: {source} and {copy}. The tenant stays on {self.source_name}")
         self._after("verified")
 
-    def _checksums(self, connection: Connection) -> list[tuple[str, int, str]]:
-        return [(table, *connection.execute(
-            f"SELECT count(*), coalesce(sum(hashtextextended(r::text, 0)::numeric), 0)::text FROM cedar.{table} AS r "
-            "WHERE tenant = %s".encode(), (self.tenant,)).fetchone()) for table in _TABLES]  # type: ignore[misc]
+    def _checksums(self, connection: Connection) -> list[Any]:
+        """Returns the number of rows and their checksum for each table."""
+        checksum = "coalesce(sum(hashtextextended(r::text, 0)::numeric), 0)::text"
+        statement = f"SELECT count(*), {checksum} FROM cedar.{{}} AS r WHERE tenant = %s"
+        return [connection.execute(statement.format(table).encode(), (self.tenant,)).fetchone() for table in _TABLES]
 
     def _open(self) -> None:
         """Opens the tenant at the target. From then on, only the target has it."""
-        row = self.source.execute("SELECT version, mode, is_partial FROM cedar.tenants WHERE tenant = %s",
-                                  (self.tenant,)).fetchone()
+        row = self.source.execute(
+            "SELECT version, mode, is_partial FROM cedar.tenants WHERE tenant = %s", (self.tenant,)
+        ).fetchone()
         if row is None:
             raise MoveError(f"server {self.source_name} has no tenant {self.tenant}")
         with self.copy.transaction():
             self.copy.execute(f"ALTER SUBSCRIPTION {self.name} DISABLE".encode())
-            self.copy.execute("INSERT INTO cedar.tenants (tenant, version, mode, is_partial) VALUES (%s, %s, %s, %s)",
-                              (self.tenant, *row))
+            self.copy.execute(
+                "INSERT INTO cedar.tenants (tenant, version, mode, is_partial) VALUES (%s, %s, %s, %s)",
+                (self.tenant, *row),
+            )
 
     def _clean_up(self) -> None:
         """Removes the subscription, and then the rows of the source. The order keeps the rows of the target."""

@@ -16,6 +16,7 @@ import psycopg_pool
 
 from .errors import Retry, Unavailable, database_error, is_connection_failure
 
+Connection = psycopg.AsyncConnection[Any]
 Rows = list[tuple[Any, ...]]
 
 # The time for one attempt to connect to one host, in seconds. A host that hangs accepts connections without an answer.
@@ -42,14 +43,16 @@ def single_hosts(dsn: str) -> list[str]:
     return hosts_of_dsn
 
 
-async def connect(dsn: str, **options: Any) -> psycopg.AsyncConnection[Any]:
+async def connect(dsn: str, **options: Any) -> Connection:
     """Connects to the first host that accepts the connection. Raises the error of the last host."""
     error: BaseException = Unavailable("the connection string has no host")
     for single in single_hosts(dsn):
         try:
             async with asyncio.timeout(_CONNECT_SECONDS):
-                return await psycopg.AsyncConnection.connect(
-                    single, autocommit=True, prepare_threshold=None, **options)
+                connection: Connection = await psycopg.AsyncConnection.connect(
+                    single, autocommit=True, prepare_threshold=None, **options
+                )
+            return connection
         except (psycopg.Error, OSError) as failure:
             error = failure
     raise error
@@ -61,15 +64,18 @@ class _PooledConnection(psycopg.AsyncConnection[Any]):
     opened_at = 0.0
 
     @classmethod
-    async def connect(cls, conninfo: str = "", *, owner: Optional[Pool] = None, **_: Any) -> Any:
+    async def connect(  # type: ignore[override]
+        cls, conninfo: str = "", *, owner: Optional[Pool] = None, **_: Any
+    ) -> Any:
         assert owner is not None
         hosts, number = single_hosts(conninfo), 0
         while not owner.is_closed:
             started_at = time.monotonic()
             try:
                 async with asyncio.timeout(_CONNECT_SECONDS):
-                    connection = await super().connect(
-                        hosts[number % len(hosts)], autocommit=True, prepare_threshold=None)
+                    connection: Any = await super().connect(
+                        hosts[number % len(hosts)], autocommit=True, prepare_threshold=None
+                    )
                 connection.opened_at = started_at
                 return connection
             except (psycopg.Error, OSError) as error:
@@ -83,8 +89,8 @@ class _PooledConnection(psycopg.AsyncConnection[Any]):
 class Pool:
     """Up to `size` connections to the first host of a connection string that accepts them.
 
-    A statement that takes longer than `statement_seconds` is given up, and its connection is closed. libpq itself would
-    wait for a server that hangs without end.
+    If a statement takes longer than `statement_seconds`, its connection is closed. libpq itself would wait without end
+    for a server that hangs.
     """
 
     def __init__(self, dsn: str, size: int = 8, statement_seconds: float = 5.0, wait_seconds: float = 2.0) -> None:
@@ -92,8 +98,14 @@ class Pool:
         self.is_closed, self.last_error = False, ""
         self._size, self._in_use, self._failed_at = size, 0, 0.0
         self._pool = psycopg_pool.AsyncConnectionPool(
-            dsn, connection_class=_PooledConnection, kwargs={"owner": self}, min_size=1, max_size=size,
-            timeout=wait_seconds, open=False)
+            dsn,
+            connection_class=_PooledConnection,
+            kwargs={"owner": self},
+            min_size=1,
+            max_size=size,
+            timeout=wait_seconds,
+            open=False,
+        )
 
     async def open(self) -> None:
         """Starts to connect. Does not wait for a connection."""
@@ -105,7 +117,7 @@ class Pool:
         await self._pool.close(timeout=2 * _CONNECT_SECONDS)
 
     @contextlib.asynccontextmanager
-    async def connection(self) -> AsyncIterator[psycopg.AsyncConnection[Any]]:
+    async def connection(self) -> AsyncIterator[Connection]:
         """Takes a connection out of the pool for a while.
 
         Raises:
@@ -136,7 +148,7 @@ class Pool:
                 raise Unavailable(f"no server accepts a connection: {self.last_error}") from error
             if connection.opened_at >= self._failed_at:
                 return connection
-            # Opened before a failure. The server that it leads to may be gone, or a replica by now.
+            # Opened before a failure. Its server may be dead, or a replica now.
             await connection.close()
             await self._pool.putconn(connection)
 
@@ -144,7 +156,7 @@ class Pool:
         self,
         statement: str,
         arguments: Sequence[Any] = (),
-        on: Optional[psycopg.AsyncConnection[Any]] = None,
+        on: Optional[Connection] = None,
         seconds: Optional[float] = None,
     ) -> Rows:
         """Runs one statement, and returns its rows. `on` is a connection that the caller has already.
@@ -152,17 +164,26 @@ class Pool:
         Raises:
             DatabaseError: one of its subclasses, by the error of the driver.
         """
+        rows: Rows = []
         try:
-            async with contextlib.AsyncExitStack() as stack:
-                connection = on or await stack.enter_async_context(self.connection())
-                async with asyncio.timeout(seconds or self.statement_seconds):
-                    cursor = await connection.execute(statement.encode(), arguments)
-                    return await cursor.fetchall() if cursor.description else []
+            if on is not None:
+                rows = await self._fetch(on, statement, arguments, seconds)
+            else:
+                async with self.connection() as connection:
+                    rows = await self._fetch(connection, statement, arguments, seconds)
         except (psycopg.Error, OSError) as error:
             if on is not None and is_connection_failure(error):
                 self._failed_at = time.monotonic()
                 await on.close()
             raise database_error(error) from error
+        return rows
+
+    async def _fetch(
+        self, connection: Connection, statement: str, arguments: Sequence[Any], seconds: Optional[float]
+    ) -> Rows:
+        async with asyncio.timeout(seconds or self.statement_seconds):
+            cursor = await connection.execute(statement.encode(), arguments)
+            return await cursor.fetchall() if cursor.description else []
 
     async def run_repeatedly(self, statement: str, arguments: Sequence[Any], patience_seconds: float) -> Rows:
         """Runs a statement that can be repeated, again if its connection is lost, for some seconds.

@@ -6,19 +6,18 @@ import json
 import re
 from typing import Any, Iterable, NamedTuple, Optional
 
-import psycopg
 from cedar_store import CedarError, EntityUid, Mode, Policies, Store, is_uid
 
 from .encoding import LongTexts, decode_entity, edit_policies
 from .errors import InvalidRows, Moving, NoTenant, NotInSlice
-from .pool import Pool
+from .pool import Connection, Pool
 
 # More rows than this are decoded and built in another thread.
 _MAX_INLINE_ROWS = 2000
 _LONG_KEYS = re.compile(r"\\u0002[0-9a-f]{64}")
 
-# The memory for an entity without attributes, for attributes, for a policy, and for each byte of JSON, in bytes. They were
-# measured with the library of the Rust package: attributes are a tree whose node has room for eleven.
+# The memory for an entity without attributes, for attributes, for a policy, and for each byte of JSON, in bytes.
+# Attributes are a tree whose nodes have room for eleven.
 _ENTITY_BYTES, _ATTRIBUTES_BYTES, _POLICY_BYTES, _BYTES_OF_JSON = 450, 1400, 300, 3
 _NO_ATTRIBUTES = "{}, {}]"
 
@@ -26,7 +25,7 @@ _NO_ATTRIBUTES = "{}, {}]"
 class Rows:
     """The result of one read: the tenant, and rows that are not decoded yet."""
 
-    def __init__(self, rows: list[tuple[str, str]], texts: LongTexts) -> None:
+    def __init__(self, rows: list[tuple[Any, ...]], texts: LongTexts) -> None:
         parts: dict[str, list[str]] = {"tenant": [], "changed": [], "policy": [], "entity": []}
         for part, content in rows:
             parts[part].append(content)
@@ -43,10 +42,14 @@ class Rows:
 
     @property
     def bytes(self) -> int:
-        """Returns about how many bytes the entities and policies take in memory."""
+        """Returns an estimate of the memory for the entities and policies, in bytes."""
         json_length = sum(map(len, self.policies)) + sum(map(len, self.entities))
         with_attributes = sum([not row.endswith(_NO_ATTRIBUTES) for row in self.entities])
-        fixed = _ENTITY_BYTES * len(self.entities) + _ATTRIBUTES_BYTES * with_attributes + _POLICY_BYTES * len(self.policies)
+        fixed = (
+            _ENTITY_BYTES * len(self.entities)
+            + _ATTRIBUTES_BYTES * with_attributes
+            + _POLICY_BYTES * len(self.policies)
+        )
         return fixed + _BYTES_OF_JSON * json_length
 
     def _texts_of(self, keys: Iterable[str]) -> list[str]:
@@ -88,7 +91,7 @@ async def read_tenant(
     since: Optional[int] = None,
     uids: Optional[list[str]] = None,
     row_limit: Optional[int] = None,
-    on: Optional[psycopg.AsyncConnection[Any]] = None,
+    on: Optional[Connection] = None,
 ) -> Rows:
     """Reads a tenant in one statement: all of it, what changed after a version, or the slice at some uids.
 
@@ -100,14 +103,18 @@ async def read_tenant(
     keys = None if uids is None else list(map(LongTexts().key, uids))
     rows = await pool.run(
         "SELECT part, content::text FROM cedar.read(%s::bigint, %s::bigint, %s::text[], %s::bigint)",
-        (tenant, since, keys, row_limit), on=on, seconds=pool.statement_seconds * (4 if since is None and uids is None else 1))
+        (tenant, since, keys, row_limit),
+        on=on,
+        seconds=pool.statement_seconds * (4 if since is None and uids is None else 1),
+    )
     if not rows:
         raise NoTenant(f"this server has no tenant {tenant}")
     long_keys = {json.loads(f'"{key}"') for _, content in rows for key in _LONG_KEYS.findall(content)}
     texts = LongTexts()
     if long_keys:
         statement = "SELECT key, text FROM cedar.long_texts(%s::bigint, %s::text[])"
-        texts = LongTexts(dict(await pool.run(statement, (tenant, list(long_keys)), on=on)))
+        found = await pool.run(statement, (tenant, list(long_keys)), on=on)
+        texts = LongTexts({key: text for key, text in found})
     result = Rows(rows, texts)
     if not result.is_here:
         raise Moving(f"tenant {tenant} is being moved to another server")
@@ -130,15 +137,18 @@ async def build_contents(rows: Rows, has_entities: bool = True, has_policies: bo
 
     def build() -> Contents:
         try:
-            return Contents(rows.build_store() if has_entities else None,
-                            rows.build_policies() if has_policies else None)
+            return Contents(
+                rows.build_store() if has_entities else None, rows.build_policies() if has_policies else None
+            )
         except (CedarError, ValueError, KeyError, TypeError) as error:
             raise InvalidRows(f"the library rejects the rows of a tenant: {error}") from error
 
     def build_for_another_thread() -> Contents:
         # A store belongs to the thread that created it, but a deep copy to the first thread that calls it.
         store, policies = build()
-        return Contents(None if store is None else store.deep_copy(), None if policies is None else policies.deep_copy())
+        return Contents(
+            None if store is None else store.deep_copy(), None if policies is None else policies.deep_copy()
+        )
 
     if len(rows) <= _MAX_INLINE_ROWS:
         return build()

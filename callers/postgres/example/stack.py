@@ -2,12 +2,13 @@
 
     python3 stack.py [--without-haproxy] [--services N]
 
-Each group is a primary with a synchronous replica, which Patroni supervises over etcd. With haproxy, one address leads to
-the primary of each group, and one to all processes of the application. All servers listen on the loopback interface only.
+Each group is a primary with a synchronous replica, which Patroni supervises over etcd. With haproxy, one address leads
+to the primary of each group, and one to all processes of the application. All servers listen on the loopback interface.
 It needs the packages postgresql-15, patroni, python3-etcd, etcd-server, haproxy, python3-uvicorn and python3-httptools.
 """
 from __future__ import annotations
 
+import atexit
 import contextlib
 import glob
 import json
@@ -150,8 +151,15 @@ class Process:
             options = {"user": user.pw_uid, "group": user.pw_gid, "extra_groups": []}
         with open(os.path.join(self.folder, self.name + ".log"), "ab") as log:
             self.process = subprocess.Popen(
-                self._command, cwd=self.folder, stdin=subprocess.DEVNULL, stdout=log, stderr=log, start_new_session=True,
-                env={**os.environ, **self._environment}, **options)
+                self._command,
+                cwd=self.folder,
+                stdin=subprocess.DEVNULL,
+                stdout=log,
+                stderr=log,
+                start_new_session=True,
+                env={**os.environ, **self._environment},
+                **options,
+            )
 
     def pids(self) -> list[int]:
         """Returns the processes: the program, and all that it has started."""
@@ -194,8 +202,17 @@ class Node(Process):
         self.port, self.rest = _free_ports(2)
         self.data = f"{folder}/{group}{number}"
         with open(self.data + ".yml", "w") as file:
-            file.write(PATRONI.format(group=group, number=number, folder=folder, etcd=etcd, port=self.port,
-                                      rest=self.rest, programs=_postgresql_folder()))
+            file.write(
+                PATRONI.format(
+                    group=group,
+                    number=number,
+                    folder=folder,
+                    etcd=etcd,
+                    port=self.port,
+                    rest=self.rest,
+                    programs=_postgresql_folder(),
+                )
+            )
         super().__init__(folder, f"{group}{number}", [str(_program("patroni")), self.data + ".yml"])
 
     def postmaster(self) -> int:
@@ -252,8 +269,9 @@ class Group:
         """Makes the replica the primary, as an operator does before work on a machine."""
         leader = self.node_as("leader")
         body = json.dumps({"leader": leader.name, "candidate": self.node_as("sync_standby").name}).encode()
-        request = urllib.request.Request(f"http://127.0.0.1:{leader.rest}/switchover", body,
-                                         {"Content-Type": "application/json"})
+        request = urllib.request.Request(
+            f"http://127.0.0.1:{leader.rest}/switchover", body, {"Content-Type": "application/json"}
+        )
         urllib.request.urlopen(request, timeout=30).close()
 
     def dsn(self, database: str, user: str, has_haproxy: bool) -> str:
@@ -276,18 +294,38 @@ class Stack:
 
     def __init__(self, groups: int = 2, services: int = 2, has_haproxy: bool = True) -> None:
         self.folder = tempfile.mkdtemp(prefix="cedar-stack-")
+        atexit.register(self.close)
         if os.getuid() == 0:
             shutil.chown(self.folder, "postgres", "postgres")
         self.has_haproxy = has_haproxy
         client, peer, self.front = _free_ports(3)
-        self.etcd = Process(self.folder, "etcd", [
-            str(_program("etcd")), "--data-dir", self.folder + "/etcd", "--enable-v2", "--log-level", "error",
-            "--listen-client-urls", f"http://127.0.0.1:{client}", "--advertise-client-urls", f"http://127.0.0.1:{client}",
-            "--listen-peer-urls", f"http://127.0.0.1:{peer}", "--initial-advertise-peer-urls", f"http://127.0.0.1:{peer}",
-            "--initial-cluster", f"default=http://127.0.0.1:{peer}"])
+        self.etcd = Process(
+            self.folder,
+            "etcd",
+            [
+                str(_program("etcd")),
+                "--data-dir",
+                self.folder + "/etcd",
+                "--enable-v2",
+                "--log-level",
+                "error",
+                "--listen-client-urls",
+                f"http://127.0.0.1:{client}",
+                "--advertise-client-urls",
+                f"http://127.0.0.1:{client}",
+                "--listen-peer-urls",
+                f"http://127.0.0.1:{peer}",
+                "--initial-advertise-peer-urls",
+                f"http://127.0.0.1:{peer}",
+                "--initial-cluster",
+                f"default=http://127.0.0.1:{peer}",
+            ],
+        )
         self.groups = {name: Group(self.folder, name, client) for name in "abcdef"[:groups]}
         self.service_ports = _free_ports(services)
-        self.haproxy = Process(self.folder, "haproxy", [str(_program("haproxy")), "-db", "-f", self.folder + "/haproxy.cfg"])
+        self.haproxy = Process(
+            self.folder, "haproxy", [str(_program("haproxy")), "-db", "-f", self.folder + "/haproxy.cfg"]
+        )
         self.services: list[Process] = []
 
     def start(self) -> Stack:
@@ -315,7 +353,9 @@ class Stack:
         text = HAPROXY.format(service=self.front, services=services)
         for group in self.groups.values():
             text += HAPROXY_GROUP.format(group=group.name, front=group.front)
-            text += "".join(f"    server {node.name} 127.0.0.1:{node.port} check port {node.rest}\n" for node in group.nodes)
+            text += "".join(
+                f"    server {node.name} 127.0.0.1:{node.port} check port {node.rest}\n" for node in group.nodes
+            )
         with open(self.folder + "/haproxy.cfg", "w") as file:
             file.write(text)
         self.haproxy.start()
@@ -332,9 +372,15 @@ class Stack:
                 connection.execute("CREATE ROLE app LOGIN IN ROLE cedar_service")
         with psycopg.connect(self.directory("postgres")) as connection:
             for group in self.groups.values():
-                connection.execute("INSERT INTO cedar.servers VALUES (%s, %s, %s, %s)", (
-                    group.name, group.dsn("tenants", "app", self.has_haproxy), group.reads("tenants", "app"),
-                    group.dsn("tenants", "postgres", False)))
+                connection.execute(
+                    "INSERT INTO cedar.servers VALUES (%s, %s, %s, %s)",
+                    (
+                        group.name,
+                        group.dsn("tenants", "app", self.has_haproxy),
+                        group.reads("tenants", "app"),
+                        group.dsn("tenants", "postgres", False),
+                    ),
+                )
 
     def directory(self, user: str = "app") -> str:
         """Returns the connection string of the directory."""
@@ -343,12 +389,19 @@ class Stack:
     def start_service(self, port: int) -> Process:
         """Starts a process of the example application."""
         path = os.pathsep.join([os.path.dirname(HERE), os.path.join(CALLERS, "python")])
-        service = Process(self.folder, f"service{port}", ["/usr/bin/python3", "-B", os.path.join(HERE, "service.py"), str(port)],
-                          {"PYTHONPATH": path, "CEDAR_DIRECTORY": self.directory()})
+        service = Process(
+            self.folder,
+            f"service{port}",
+            ["/usr/bin/python3", "-B", os.path.join(HERE, "service.py"), str(port)],
+            {"PYTHONPATH": path, "CEDAR_DIRECTORY": self.directory()},
+        )
         service.start()
         self.services.append(service)
-        wait_until(lambda: urllib.request.urlopen(f"http://127.0.0.1:{port}/healthz", timeout=1).status == 200, 30,
-                   "an answer of the service")
+        wait_until(
+            lambda: urllib.request.urlopen(f"http://127.0.0.1:{port}/healthz", timeout=1).status == 200,
+            30,
+            "an answer of the service",
+        )
         return service
 
     def url(self) -> str:
@@ -361,6 +414,7 @@ class Stack:
         for process in [*self.services, self.haproxy, *nodes, self.etcd]:
             process.stop()
         shutil.rmtree(self.folder, ignore_errors=True)
+        atexit.unregister(self.close)
 
     def __enter__(self) -> Stack:
         return self.start()
@@ -377,8 +431,11 @@ def main(arguments: list[str]) -> int:
         return 1
     signal.signal(signal.SIGTERM, lambda *_: sys.exit(0))
     with Stack(services=services, has_haproxy=has_haproxy) as stack:
-        print(f"application: {stack.url()}\ndirectory: {stack.directory()}\n"
-              f"directory, to move tenants: {stack.directory('postgres')}", flush=True)
+        print(
+            f"application: {stack.url()}\ndirectory: {stack.directory()}\n"
+            f"directory, to move tenants: {stack.directory('postgres')}",
+            flush=True,
+        )
         for group in stack.groups.values():
             print(f"group {group.name}: {group.dsn('tenants', 'app', has_haproxy)}", flush=True)
         print(f"logs: {stack.folder}\nCtrl-C stops everything", flush=True)

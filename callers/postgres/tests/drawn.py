@@ -110,14 +110,25 @@ def entities(rng: random.Random, count: int) -> list[Entity]:
 def constraint(rng: random.Random, is_action: bool, has_slot: bool) -> Constraint:
     """Returns a constraint of a drawn form."""
     if is_action:
-        forms = [Constraint.any(), Constraint.is_eq(action(rng)),
-                 Constraint.is_in(*(action(rng) for _ in range(rng.randrange(3))))]
+        forms = [
+            Constraint.any(),
+            Constraint.is_eq(action(rng)),
+            Constraint.is_in(*(action(rng) for _ in range(rng.randrange(3)))),
+        ]
         return rng.choice([Constraint.is_eq_slot(), Constraint.is_in_slot()] if has_slot else forms)
-    forms = [Constraint.any(), Constraint.is_eq(uid(rng)), Constraint.is_in(uid(rng)),
-             Constraint.is_entity_type(rng.choice(_TYPES)), Constraint.is_entity_type_in(rng.choice(_TYPES), uid(rng))]
+    forms = [
+        Constraint.any(),
+        Constraint.is_eq(uid(rng)),
+        Constraint.is_in(uid(rng)),
+        Constraint.is_entity_type(rng.choice(_TYPES)),
+        Constraint.is_entity_type_in(rng.choice(_TYPES), uid(rng)),
+    ]
     if has_slot:
-        forms = [Constraint.is_eq_slot(), Constraint.is_in_slot(),
-                 Constraint.is_entity_type_in_slot(rng.choice(_TYPES))]
+        forms = [
+            Constraint.is_eq_slot(),
+            Constraint.is_in_slot(),
+            Constraint.is_entity_type_in_slot(rng.choice(_TYPES)),
+        ]
     return rng.choice(forms)
 
 
@@ -151,9 +162,15 @@ def insert_policy(rng: random.Random, policies: Policies, number: int, target: A
     slots = [is_template and rng.random() < 0.5 for _ in range(3)]
     clause = expr(rng, 4, has_slots=is_template and rng.random() < 0.2) if rng.random() < 0.7 else None
     insert = target.add_template if is_template else target.add_static
-    insert(id, rng.choice(list(Effect)), principal=constraint(rng, False, slots[0]),
-           action=constraint(rng, True, slots[1]), resource=constraint(rng, False, slots[2]),
-           annotations=annotations(rng), when=clause)
+    insert(
+        id,
+        rng.choice(list(Effect)),
+        principal=constraint(rng, False, slots[0]),
+        action=constraint(rng, True, slots[1]),
+        resource=constraint(rng, False, slots[2]),
+        annotations=annotations(rng),
+        when=clause,
+    )
     return id
 
 
@@ -172,11 +189,30 @@ def store(rng: random.Random, count: int, mode: Mode) -> Store:
         return Store(items)
     if mode is Mode.ASSUME:
         names = [item.uid for item in items]
-        return Store([Entity(item.uid, item.parents, attrs=item.attrs, tags=item.tags,
-                             indirect_ancestors=rng.sample(names, min(2, len(names)))) for item in items], mode)
+        return Store(
+            [
+                Entity(
+                    item.uid,
+                    item.parents,
+                    attrs=item.attrs,
+                    tags=item.tags,
+                    indirect_ancestors=rng.sample(names, min(2, len(names))),
+                )
+                for item in items
+            ],
+            mode,
+        )
     with Store(items) as computed:
-        closed = [Entity(item.uid, item.parents, attrs=item.attrs, tags=item.tags,
-                         indirect_ancestors=[uid for uid in computed.indirect_ancestors(item.uid)]) for item in items]
+        closed = [
+            Entity(
+                item.uid,
+                item.parents,
+                attrs=item.attrs,
+                tags=item.tags,
+                indirect_ancestors=[uid for uid in computed.indirect_ancestors(item.uid)],
+            )
+            for item in items
+        ]
     try:
         return Store(closed, mode)
     except CedarError:

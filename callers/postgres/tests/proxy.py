@@ -1,4 +1,4 @@
-"""A proxy between the adapter and a server, which loses answers, goes silent or cuts connections when a test asks for it."""
+"""A proxy between the adapter and a server. It loses answers, goes silent or cuts connections for a test."""
 from __future__ import annotations
 
 import asyncio
@@ -41,8 +41,10 @@ class Proxy:
         server_reader, server_writer = await asyncio.open_unix_connection(self._server_path)
         self._writers.add(writer)
         state = {"loses": False}
-        tasks = [asyncio.create_task(self._pass(reader, server_writer, state, True)),
-                 asyncio.create_task(self._pass(server_reader, writer, state, False))]
+        tasks = [
+            asyncio.create_task(self._pass(reader, server_writer, state, True)),
+            asyncio.create_task(self._pass(server_reader, writer, state, False)),
+        ]
         try:
             await asyncio.wait(tasks, return_when=asyncio.FIRST_COMPLETED)
         finally:

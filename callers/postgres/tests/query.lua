@@ -38,7 +38,9 @@ function done(summary, latency)
         for name, count in pairs(counts) do counts[name] = count + thread:get(name) end
     end
     io.write(string.format(
-        '{"passed": %d, "failed": %d, "wrong": %d, "seconds": %.3f, "p50": %.3f, "p99": %.3f, "max": %.3f, "lost": %d}\n',
+        '{"passed": %d, "failed": %d, "wrong": %d, "seconds": %.3f, ' ..
+            '"p50": %.3f, "p99": %.3f, "max": %.3f, "lost": %d}\n',
         counts.passed, counts.failed, counts.wrong, summary.duration / 1e6, latency:percentile(50) / 1e3,
-        latency:percentile(99) / 1e3, latency.max / 1e3, summary.errors.read + summary.errors.timeout + summary.errors.connect))
+        latency:percentile(99) / 1e3, latency.max / 1e3,
+        summary.errors.read + summary.errors.timeout + summary.errors.connect))
 end

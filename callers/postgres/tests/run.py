@@ -71,7 +71,7 @@ def main(arguments: list[str]) -> int:
     names = names or sorted(os.path.basename(path)[:-3] for path in glob.glob(os.path.join(HERE, "test_*.py")))
     output = io.StringIO()
     logging.getLogger("psycopg.pool").setLevel(logging.CRITICAL)  # it reports each connection that a test cuts
-    signal.signal(signal.SIGTERM, lambda *_: sys.exit(1))  # so that the servers are stopped
+    signal.signal(signal.SIGTERM, signal.default_int_handler)  # so that the servers are stopped
     tests = unittest.defaultTestLoader.loadTestsFromNames(names)
     result = unittest.TextTestRunner(stream=output, verbosity=2, resultclass=TimedResult).run(tests)
     failed = len(result.failures) + len(result.errors)

@@ -72,8 +72,15 @@ class Server:
 
     def _run(self, program: str, *arguments: str) -> None:
         command = [os.path.join(program_folder(), program), *arguments]
-        result = subprocess.run(command, cwd=self.folder, stdin=subprocess.DEVNULL, stdout=subprocess.PIPE,
-                                stderr=subprocess.STDOUT, text=True, **_server_user())
+        result = subprocess.run(
+            command,
+            cwd=self.folder,
+            stdin=subprocess.DEVNULL,
+            stdout=subprocess.PIPE,
+            stderr=subprocess.STDOUT,
+            text=True,
+            **_server_user(),
+        )
         if result.returncode != 0:
             raise RuntimeError(f"{program} failed with exit status {result.returncode}: {result.stdout}")
 
@@ -85,8 +92,7 @@ class Server:
         self._control("-l", self.folder + "/log", "start")
 
     def stop(self, mode: str = "fast") -> None:
-        """Stops the server. `immediate` is like a power failure, except that the files keep everything written to them.
-        """
+        """Stops the server. `immediate` is like a power failure, but all files stay as they were written."""
         self._control("-m", mode, "stop")
 
     def create_database(self, name: str, options: str = "") -> str:

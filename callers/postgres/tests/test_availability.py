@@ -112,9 +112,13 @@ class Availability(unittest.IsolatedAsyncioTestCase):
             each.is_stopped = True
         await asyncio.gather(*tasks)
         gaps = [longest_gap(each.acknowledged_at[:-1]) for each in (*writers, reader)]
-        errors = {name: sum(writer.errors.get(name, 0) for writer in writers) for writer in writers for name in writer.errors}
-        print(f"{what}: longest time without a write {gaps[0]:.1f} s over haproxy, {gaps[1]:.1f} s over libpq, without a "
-              f"read of any server {gaps[2]:.1f} s; errors {errors}")
+        errors = {
+            name: sum(writer.errors.get(name, 0) for writer in writers) for writer in writers for name in writer.errors
+        }
+        print(
+            f"{what}: longest time without a write {gaps[0]:.1f} s over haproxy, {gaps[1]:.1f} s over libpq, without a "
+            f"read of any server {gaps[2]:.1f} s; errors {errors}"
+        )
         await self.asyncTearDown()
         await asyncio.to_thread(self.group.wait_for_replica)
         fresh = await self._open(both)
@@ -205,11 +209,28 @@ class Lock(unittest.TestCase):
         self.addCleanup(shutil.rmtree, self.folder, True)
         self.port, peer = stack._free_ports(2)
         client, other = f"http://127.0.0.1:{self.port}", f"http://127.0.0.1:{peer}"
-        process = subprocess.Popen([
-            str(stack._program("etcd")), "--data-dir", self.folder, "--enable-v2", "--log-level", "error",
-            "--listen-client-urls", client, "--advertise-client-urls", client, "--listen-peer-urls", other,
-            "--initial-advertise-peer-urls", other, "--initial-cluster", "default=" + other],
-            stdout=subprocess.DEVNULL, stderr=subprocess.DEVNULL)
+        process = subprocess.Popen(
+            [
+                str(stack._program("etcd")),
+                "--data-dir",
+                self.folder,
+                "--enable-v2",
+                "--log-level",
+                "error",
+                "--listen-client-urls",
+                client,
+                "--advertise-client-urls",
+                client,
+                "--listen-peer-urls",
+                other,
+                "--initial-advertise-peer-urls",
+                other,
+                "--initial-cluster",
+                "default=" + other,
+            ],
+            stdout=subprocess.DEVNULL,
+            stderr=subprocess.DEVNULL,
+        )
         self.addCleanup(process.wait)
         self.addCleanup(process.kill)
         time.sleep(2)
@@ -217,8 +238,9 @@ class Lock(unittest.TestCase):
     def _owner(self, section: str) -> str:
         """Returns which of two nodes has the lock after the first one has hung and goes on."""
         command = ["/usr/bin/python3", "-c", _LOCK, section, str(self.port)]
-        return subprocess.run(command, stdout=subprocess.PIPE, stderr=subprocess.DEVNULL, text=True, timeout=60,
-                              check=True).stdout.strip()
+        return subprocess.run(
+            command, stdout=subprocess.PIPE, stderr=subprocess.DEVNULL, text=True, timeout=60, check=True
+        ).stdout.strip()
 
     def test_the_section_etcd_keeps_the_lock_of_the_successor(self) -> None:
         self.assertEqual(self._owner("etcd"), "second")

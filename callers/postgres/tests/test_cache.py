@@ -64,9 +64,13 @@ class Freshness(DatabaseTest):
 
     def _listeners(self) -> list[int]:
         """Returns the server processes of the listening connections of both databases."""
-        return [pid for pid, in self.sql(
-            "SELECT pid FROM pg_stat_activity WHERE datname = current_database() AND query LIKE '%cedar.versions%' "
-            "AND pid <> pg_backend_pid()")]
+        return [
+            pid
+            for pid, in self.sql(
+                "SELECT pid FROM pg_stat_activity WHERE datname = current_database() AND query LIKE '%cedar.versions%' "
+                "AND pid <> pg_backend_pid()"
+            )
+        ]
 
     async def test_a_request_with_the_token_of_a_write_sees_it(self) -> None:
         for _ in range(100):
@@ -77,8 +81,10 @@ class Freshness(DatabaseTest):
 
     async def test_a_notification_makes_a_change_visible(self) -> None:
         seconds = sorted([await self._seconds_until_seen() for _ in range(50)])
-        print(f"a change is seen by other processes after {seconds[25] * 1e3:.1f} ms (median of 50), at most "
-              f"{seconds[-1] * 1e3:.0f} ms")
+        print(
+            f"a change is seen by other processes after {seconds[25] * 1e3:.1f} ms (median of 50), at most "
+            f"{seconds[-1] * 1e3:.0f} ms"
+        )
         self.assertLess(seconds[25], 0.2)
         self.assertLess(seconds[-1], 1.1)
 
@@ -160,9 +166,17 @@ class Memory(DatabaseTest):
         for tenant in range(60):
             await self.database.create_tenant(tenant)
             await self.database.change(tenant, lambda draft: draft.add(staff(1000, rng)))
-            await self.database.change(tenant, lambda draft: [draft.add_static(
-                f"p{number}", principal=Constraint.is_in(group(number)), when=values.RESOURCE.is_in(values.PRINCIPAL))
-                for number in range(200)])
+            await self.database.change(
+                tenant,
+                lambda draft: [
+                    draft.add_static(
+                        f"p{number}",
+                        principal=Constraint.is_in(group(number)),
+                        when=values.RESOURCE.is_in(values.PRINCIPAL),
+                    )
+                    for number in range(200)
+                ],
+            )
         database = await self.open()
         for tenant in range(10):
             await database.view(tenant)
@@ -170,8 +184,10 @@ class Memory(DatabaseTest):
         for tenant in range(10, 60):
             await database.view(tenant)
         used, counted = memory() - before, database.cache.bytes - counted
-        print(f"50 tenants with 1,000 entities and 200 policies take {used / 50e3:.0f} kB each; the cache counts "
-              f"{counted / 50e3:.0f} kB")
+        print(
+            f"50 tenants with 1,000 entities and 200 policies take {used / 50e3:.0f} kB each; the cache counts "
+            f"{counted / 50e3:.0f} kB"
+        )
         self.assertLess(used, counted * 1.3)
         self.assertGreater(used, counted * 0.4)
 
@@ -193,7 +209,12 @@ class Memory(DatabaseTest):
                         self.assertEqual(view.ancestors(uid), whole.ancestors(uid))
                         self.assertEqual(view.entity(uid), whole.entity(uid))
         view = await database.view(1, [user(1)])
-        for call in (view.ancestors, view.entity, lambda uid: uid in view, lambda uid: view.is_descendant_of(uid, uid)):
+        for call in (
+            view.ancestors,
+            view.entity,
+            lambda uid: uid in view,
+            lambda uid: view.is_descendant_of(uid, uid),
+        ):
             self.assertRaises(NotInSlice, call, user(2))
         self.assertEqual(reason_by(view.ancestors, "no uid"), "not a uid")
         self.assertEqual(database.cache.get(1).store, None)

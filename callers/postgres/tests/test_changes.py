@@ -4,12 +4,12 @@ from __future__ import annotations
 import asyncio
 import random
 import time
-from typing import Any, Optional
+from typing import Any
 
 import drawn
 import psycopg
 from cedar_postgres import Applied, Conflict, Database, Draft, NoTenant, Retry
-from cedar_store import CedarError, Constraint, Effect, Entity, EntityUid, Mode, Policies, Store
+from cedar_store import Constraint, Effect, Entity, EntityUid, Mode, Policies, Store
 from helpers import DatabaseTest, reason_by, reason_of
 
 NAMES = [EntityUid(f'A::"{name}"') for name in "abcdefgh"]
@@ -19,7 +19,7 @@ def random_edit(rng: random.Random, mode: Mode) -> tuple[str, list[Any]]:
     """Returns the name and the argument of a random edit of a store."""
     chosen = rng.sample(NAMES, rng.randrange(1, 3))
     if rng.random() < 0.3:
-        return "remove", [*chosen, *(['no uid'] if rng.random() < 0.05 else [])]
+        return "remove", [*chosen, *(["no uid"] if rng.random() < 0.05 else [])]
     items = []
     for name in chosen:
         parents = rng.sample([*NAMES, EntityUid('A::"missing"')], rng.randrange(3))
@@ -37,8 +37,10 @@ class Edits(DatabaseTest):
         for _ in range(rounds):
             edits = [random_edit(rng, mode) for _ in range(rng.randrange(1, 4))]
             edited = expected.copy()
-            reason = next((reason for name, argument in edits
-                           if (reason := reason_by(getattr(edited, name), argument, mode))), "")
+            reason = next(
+                (reason for name, argument in edits if (reason := reason_by(getattr(edited, name), argument, mode))),
+                "",
+            )
 
             async def change(draft: Draft) -> None:
                 for name, argument in edits:
@@ -78,8 +80,9 @@ class Edits(DatabaseTest):
         for number in range(300):
             edited, seed = expected.copy(), rng.random()
             reason = reason_by(self._edit_policies, edited, edited, seed, number)
-            result = await reason_of(self.database.change(
-                1, lambda draft: self._edit_policies(draft, draft.policies, seed, number)))
+            result = await reason_of(
+                self.database.change(1, lambda draft: self._edit_policies(draft, draft.policies, seed, number))
+            )
             self.assertEqual(result, reason)
             expected = expected if reason else edited
             reasons.add(reason)
@@ -128,9 +131,13 @@ class Edits(DatabaseTest):
 
 class Rows(DatabaseTest):
     def _row_versions(self, table: str) -> dict[Any, Any]:
-        return dict(self.sql(f"SELECT CASE '{table}' WHEN 'parents' THEN to_jsonb(r) ->> 'child' || ' ' || "
-                             "(to_jsonb(r) ->> 'parent') ELSE coalesce(to_jsonb(r) ->> 'uid', to_jsonb(r) ->> 'id') END, "
-                             f"r.xmin::text || r.ctid::text FROM cedar.{table} r"))
+        return dict(
+            self.sql(
+                f"SELECT CASE '{table}' WHEN 'parents' THEN to_jsonb(r) ->> 'child' || ' ' || "
+                "(to_jsonb(r) ->> 'parent') ELSE coalesce(to_jsonb(r) ->> 'uid', to_jsonb(r) ->> 'id') END, "
+                f"r.xmin::text || r.ctid::text FROM cedar.{table} r"
+            )
+        )
 
     def _differences(self, before: dict[Any, Any], after: dict[Any, Any]) -> set[Any]:
         return {key for key in before.keys() | after.keys() if before.get(key) != after.get(key)}
@@ -138,7 +145,9 @@ class Rows(DatabaseTest):
     async def test_a_change_writes_only_the_rows_that_change(self) -> None:
         a, b, c, d = NAMES[:4]
         await self.database.create_tenant(1)
-        await self.database.change(1, lambda draft: draft.add([Entity(a, [b, c]), Entity(b, [d]), Entity(c), Entity(d)]))
+        await self.database.change(
+            1, lambda draft: draft.add([Entity(a, [b, c]), Entity(b, [d]), Entity(c), Entity(d)])
+        )
         await self.database.change(1, lambda draft: [draft.add_static(f"p{number}") for number in range(50)])
         before = {table: self._row_versions(table) for table in ("entities", "parents", "policies")}
 
@@ -154,16 +163,21 @@ class Rows(DatabaseTest):
     async def test_a_change_without_effect_writes_nothing(self) -> None:
         await self.database.create_tenant(1)
         token = (await self.database.change(1, lambda draft: draft.add([Entity(NAMES[0])]))).token
-        for edit in (lambda draft: draft.add([Entity(NAMES[0])]), lambda draft: draft.remove([NAMES[1]]),
-                     lambda draft: "nothing"):
+        for edit in (
+            lambda draft: draft.add([Entity(NAMES[0])]),
+            lambda draft: draft.remove([NAMES[1]]),
+            lambda draft: "nothing",
+        ):
             self.assertEqual((await self.database.change(1, edit)).token, token)
         self.assertEqual((await self.database.change(1, lambda draft: "nothing")).result, "nothing")
 
     async def test_the_tables_reject_invalid_rows(self) -> None:
-        for row in ("(1, 'p', 1, 1, 'static', 'allow', '{}', '{}', '{}', '{}', NULL, NULL, NULL)",
-                    "(1, 'p', 1, 1, 'static', NULL, '{}', '{}', '{}', '{}', NULL, NULL, NULL)",
-                    "(1, 'p', 1, 1, 'link', 'permit', NULL, NULL, NULL, NULL, NULL, 't', '{}')",
-                    "(1, 'p', 1, 1, 'link', NULL, NULL, NULL, NULL, NULL, NULL, 'no template', '{}')"):
+        for row in (
+            "(1, 'p', 1, 1, 'static', 'allow', '{}', '{}', '{}', '{}', NULL, NULL, NULL)",
+            "(1, 'p', 1, 1, 'static', NULL, '{}', '{}', '{}', '{}', NULL, NULL, NULL)",
+            "(1, 'p', 1, 1, 'link', 'permit', NULL, NULL, NULL, NULL, NULL, 't', '{}')",
+            "(1, 'p', 1, 1, 'link', NULL, NULL, NULL, NULL, NULL, NULL, 'no template', '{}')",
+        ):
             with self.assertRaises(psycopg.IntegrityError, msg=row):
                 self.sql("INSERT INTO cedar.policies VALUES " + row)
         with self.assertRaises(psycopg.IntegrityError):
@@ -199,7 +213,9 @@ class Administrators(DatabaseTest):
 
         for number in range(40):
             a, b = EntityUid(f'A::"{number}"'), EntityUid(f'B::"{number}"')
-            reasons = await asyncio.gather(add_edge(self.administrators[0], a, b), add_edge(self.administrators[1], b, a))
+            reasons = await asyncio.gather(
+                add_edge(self.administrators[0], a, b), add_edge(self.administrators[1], b, a)
+            )
             self.assertEqual(sorted(reasons), ["", "cycle"])
 
     async def test_a_read_and_write_of_a_counter_is_atomic(self) -> None:
@@ -208,6 +224,7 @@ class Administrators(DatabaseTest):
 
         async def count(database: Database) -> None:
             for _ in range(20):
+
                 async def increment(draft: Draft) -> None:
                     await asyncio.sleep(0)
                     base = await draft.slice([uid])
@@ -242,11 +259,15 @@ class Administrators(DatabaseTest):
         self.assertEqual(attempts, 3)
 
     async def test_a_change_with_the_same_key_is_applied_once(self) -> None:
-        tokens = {(await database.change(1, lambda draft: draft.add_static("p"), key="k")).token
-                  for database in self.administrators}
+        tokens = {
+            (await database.change(1, lambda draft: draft.add_static("p"), key="k")).token
+            for database in self.administrators
+        }
         self.assertEqual(tokens, {2})
-        results = await asyncio.gather(*(database.change(1, lambda draft: draft.add_static("q"), key="l")
-                                         for database in self.administrators), return_exceptions=True)
+        results = await asyncio.gather(
+            *(database.change(1, lambda draft: draft.add_static("q"), key="l") for database in self.administrators),
+            return_exceptions=True,
+        )
         self.assertEqual({result.token for result in results if isinstance(result, Applied)}, {3})
         self.assertEqual((await self.database.view(1, token=3)).policies.bodies(), ["p", "q"])
 
@@ -295,8 +316,10 @@ class Costs(DatabaseTest):
 
         await asyncio.gather(*(work(*item) for item in enumerate(administrators)))
         seconds = time.monotonic() - start
-        print(f"20,000 policies: one more takes {sorted(durations)[10] * 1e3:.1f} ms of processor; 40 changes by four "
-              f"administrators took {seconds:.2f} s")
+        print(
+            f"20,000 policies: one more takes {sorted(durations)[10] * 1e3:.1f} ms of processor; 40 changes by four "
+            f"administrators took {seconds:.2f} s"
+        )
         self.assertLess(seconds, 5)
         view = await (await self.open()).view(1)
         self.assertEqual(len(view.policies.bodies()), 20060)

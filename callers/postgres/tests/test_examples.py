@@ -19,6 +19,11 @@ class Examples(unittest.TestCase):
         self.assertIn('"dbname=cedar user=app"', example)
         example = example.replace("dbname=cedar user=app", shared_server().create_database("example"))
         path = os.pathsep.join(folder for folder in sys.path if folder)
-        output = subprocess.run([sys.executable, "-B", "-X", "dev", "-W", "error", "-c", example], text=True, check=True,
-                                env={**os.environ, "PYTHONPATH": path}, stdout=subprocess.PIPE).stdout
+        output = subprocess.run(
+            [sys.executable, "-B", "-X", "dev", "-W", "error", "-c", example],
+            text=True,
+            check=True,
+            env={**os.environ, "PYTHONPATH": path},
+            stdout=subprocess.PIPE,
+        ).stdout
         self.assertEqual(output, "True ['all']\n")

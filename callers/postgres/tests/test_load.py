@@ -32,8 +32,13 @@ from cedar_store import Entity, EntityUid, Store
 SECONDS = int(os.environ.get("CEDAR_LOAD_SECONDS", "15"))
 TENANTS, ENTITIES, WRITERS, CONNECTIONS = 100, 1000, 4, 4
 USERS = ENTITIES - 40  # the first half is queried, the second half is edited
-MISSING = ", ".join([*stack.missing_programs(), *(["wrk"] if shutil.which("wrk") is None else []),
-                     *(["uvicorn"] if importlib.util.find_spec("uvicorn") is None else [])])
+MISSING = ", ".join(
+    [
+        *stack.missing_programs(),
+        *(["wrk"] if shutil.which("wrk") is None else []),
+        *(["uvicorn"] if importlib.util.find_spec("uvicorn") is None else []),
+    ]
+)
 
 
 def user(number: int) -> EntityUid:
@@ -47,8 +52,10 @@ def group(number: int) -> EntityUid:
 def entities_of(tenant: int) -> list[Entity]:
     rng = random.Random(tenant)
     groups = [Entity(group(number), [group(rng.randrange(number))] if number else []) for number in range(40)]
-    return groups + [Entity(user(number), {group(rng.randrange(40)) for _ in range(rng.randrange(4))},
-                            attrs={"age": number % 90}) for number in range(USERS)]
+    return groups + [
+        Entity(user(number), {group(rng.randrange(40)) for _ in range(rng.randrange(4))}, attrs={"age": number % 90})
+        for number in range(USERS)
+    ]
 
 
 class Writer(threading.Thread):
@@ -68,8 +75,12 @@ class Writer(threading.Thread):
             # Each writer has users of its own, so the last edit that was acknowledged is the one that counts.
             edited = user(USERS // 2 + self.number + WRITERS * self.rng.randrange(USERS // 2 // WRITERS))
             parent, start = group(self.rng.randrange(40)), time.monotonic()
-            token = self._until_done("PUT", f"/tenants/{tenant}/entities", [{"uid": edited, "parents": [parent]}],
-                                     f"{self.number}-{self.changes}")["token"]
+            token = self._until_done(
+                "PUT",
+                f"/tenants/{tenant}/entities",
+                [{"uid": edited, "parents": [parent]}],
+                f"{self.number}-{self.changes}",
+            )["token"]
             self.groups[tenant, edited], self.changes = parent, self.changes + 1
             self.longest = max(self.longest, time.monotonic() - start)
             query = urllib.parse.urlencode({"child": edited, "ancestor": parent, "token": token})
@@ -125,9 +136,23 @@ class Load(unittest.IsolatedAsyncioTestCase):
         return file.name
 
     def _start_queries(self, path: str, seconds: int, connections: int = CONNECTIONS) -> subprocess.Popen[str]:
-        return subprocess.Popen(["wrk", f"-t{connections}", f"-c{connections}", f"-d{seconds}s", "--timeout", "20s", "-s",
-                                 os.path.join(HERE, "query.lua"), self.stack.url(), "--", path],
-                                stdout=subprocess.PIPE, text=True)
+        return subprocess.Popen(
+            [
+                "wrk",
+                f"-t{connections}",
+                f"-c{connections}",
+                f"-d{seconds}s",
+                "--timeout",
+                "20s",
+                "-s",
+                os.path.join(HERE, "query.lua"),
+                self.stack.url(),
+                "--",
+                path,
+            ],
+            stdout=subprocess.PIPE,
+            text=True,
+        )
 
     def _processor_seconds(self) -> float:
         """Returns the processor time of all processes of the application."""
@@ -142,8 +167,10 @@ class Load(unittest.IsolatedAsyncioTestCase):
         path = self._write_queries()
         await asyncio.to_thread(self._measure, self._start_queries(path, 5))  # until all tenants are in memory
         quiet = await asyncio.to_thread(self._measure, self._start_queries(path, 5))
-        print(f"queries only: {quiet['passed'] / quiet['seconds']:,.0f} a second, {quiet['processor'] * 1e3:.2f} ms of "
-              f"processor each, p50 {quiet['p50']:.1f} ms, p99 {quiet['p99']:.1f} ms")
+        print(
+            f"queries only: {quiet['passed'] / quiet['seconds']:,.0f} a second, {quiet['processor'] * 1e3:.2f} ms of "
+            f"processor each, p50 {quiet['p50']:.1f} ms, p99 {quiet['p99']:.1f} ms"
+        )
         stop = threading.Event()
         writers = [Writer(self.stack.url(), number, stop) for number in range(WRITERS)]
         for writer in writers:
@@ -158,12 +185,18 @@ class Load(unittest.IsolatedAsyncioTestCase):
             for writer in writers:
                 await asyncio.to_thread(writer.join)
         changes = sum(writer.changes for writer in writers)
-        print(f"{load['seconds']:.0f} s: {load['passed'] / load['seconds']:,.0f} queries a second, p50 {load['p50']:.1f} ms, "
-              f"p99 {load['p99']:.1f} ms, at most {load['max']:.0f} ms; {load['failed']} answered 503, {load['lost']} "
-              f"connections lost, {load['wrong']} wrong")
-        print(f"{changes} changes by {WRITERS} writers, {sum(writer.repeated for writer in writers)} requests repeated, the "
-              f"slowest change took {max(writer.longest for writer in writers):.1f} s; the move rejected changes for "
-              f"{moved:.2f} s")
+        print(
+            f"{load['seconds']:.0f} s: {load['passed'] / load['seconds']:,.0f} queries a second, "
+            f"p50 {load['p50']:.1f} ms, "
+            f"p99 {load['p99']:.1f} ms, at most {load['max']:.0f} ms; {load['failed']} answered 503, {load['lost']} "
+            f"connections lost, {load['wrong']} wrong"
+        )
+        print(
+            f"{changes} changes by {WRITERS} writers, {sum(writer.repeated for writer in writers)} requests repeated, "
+            "the "
+            f"slowest change took {max(writer.longest for writer in writers):.1f} s; the move rejected changes for "
+            f"{moved:.2f} s"
+        )
         self.assertEqual([fault for writer in writers for fault in writer.faults], [])
         self.assertEqual((quiet["wrong"], load["wrong"]), (0, 0))
         self.assertGreater(changes, SECONDS * 5)
@@ -204,5 +237,7 @@ class Load(unittest.IsolatedAsyncioTestCase):
                     lost += sum(view.store.parents(edit.uid) != list(edit.parents) for edit in edits.get(tenant, []))
             self.assertEqual(await cluster._read_place(0), "b")
         edited = sum(map(len, edits.values()))
-        print(f"afterwards: {TENANTS} tenants equal their stores; {edited} edited users, {lost} acknowledged edits lost")
+        print(
+            f"afterwards: {TENANTS} tenants equal their stores; {edited} edited users, {lost} acknowledged edits lost"
+        )
         self.assertEqual(lost, 0)

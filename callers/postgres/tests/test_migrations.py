@@ -19,7 +19,8 @@ SELECT 'column', table_name, column_name, data_type || is_nullable || coalesce(c
     FROM information_schema.columns WHERE table_schema = 'cedar' AND table_name <> 'migrations'
 UNION ALL SELECT 'index', tablename, indexname, indexdef FROM pg_indexes WHERE schemaname = 'cedar'
 UNION ALL SELECT 'policy', tablename, policyname, qual || with_check FROM pg_policies WHERE schemaname = 'cedar'
-UNION ALL SELECT 'function', proname, '', pg_get_functiondef(oid) FROM pg_proc WHERE pronamespace = 'cedar'::regnamespace
+UNION ALL SELECT 'function', proname, '', pg_get_functiondef(oid) FROM pg_proc
+    WHERE pronamespace = 'cedar'::regnamespace
 UNION ALL SELECT 'wall', relname, relrowsecurity::text, relforcerowsecurity::text || coalesce(relacl::text, '')
     FROM pg_class WHERE relnamespace = 'cedar'::regnamespace
 ORDER BY 1, 2, 3
@@ -46,8 +47,10 @@ class Migrations(unittest.TestCase):
         return shared_server().sql(_CATALOG, dsn=self.dsn)
 
     def _applied(self) -> list[int]:
-        return [number for number, in shared_server().sql(
-            "SELECT number FROM cedar.migrations ORDER BY number", dsn=self.dsn)]
+        return [
+            number
+            for number, in shared_server().sql("SELECT number FROM cedar.migrations ORDER BY number", dsn=self.dsn)
+        ]
 
     def test_migrations_are_numbered_and_applied_once(self) -> None:
         numbers = [migration.number for migration in migrations.all_migrations()]
@@ -106,8 +109,13 @@ class Migrations(unittest.TestCase):
     def test_the_command(self) -> None:
         path = os.pathsep.join(folder for folder in sys.path if folder)
         for expected in ("applied migration 1", "nothing to do"):
-            output = subprocess.run([sys.executable, "-B", "-m", "cedar_postgres", "migrate", self.dsn], text=True,
-                                    env={**os.environ, "PYTHONPATH": path}, stdout=subprocess.PIPE, check=True).stdout
+            output = subprocess.run(
+                [sys.executable, "-B", "-m", "cedar_postgres", "migrate", self.dsn],
+                text=True,
+                env={**os.environ, "PYTHONPATH": path},
+                stdout=subprocess.PIPE,
+                check=True,
+            ).stdout
             self.assertIn(expected, output)
 
     def _compare_with_uninterrupted(self) -> None:

@@ -70,8 +70,13 @@ class ClusterTest(unittest.IsolatedAsyncioTestCase):
     @staticmethod
     def command(*arguments: str) -> str:
         path = os.pathsep.join(folder for folder in sys.path if folder)
-        return subprocess.run([sys.executable, "-B", "-m", "cedar_postgres", *arguments], check=True, text=True,
-                              env={**os.environ, "PYTHONPATH": path}, stdout=subprocess.PIPE).stdout
+        return subprocess.run(
+            [sys.executable, "-B", "-m", "cedar_postgres", *arguments],
+            check=True,
+            text=True,
+            env={**os.environ, "PYTHONPATH": path},
+            stdout=subprocess.PIPE,
+        ).stdout
 
     async def asyncSetUp(self) -> None:
         asyncio.get_running_loop().set_debug(False)
@@ -81,16 +86,25 @@ class ClusterTest(unittest.IsolatedAsyncioTestCase):
 
     def rows(self, server: str, tenant: int) -> dict[str, int]:
         """Returns how many rows each table of a server has of a tenant."""
-        return {table: self.servers[server].sql(f"SELECT count(*) FROM cedar.{table} WHERE tenant = %s", tenant,
-                                                dsn=self.servers[server].owner_dsn("tenants"))[0][0] for table in TABLES}
+        return {
+            table: self.servers[server].sql(
+                f"SELECT count(*) FROM cedar.{table} WHERE tenant = %s",
+                tenant,
+                dsn=self.servers[server].owner_dsn("tenants"),
+            )[0][0]
+            for table in TABLES
+        }
 
     def leftovers(self) -> list[Any]:
         """Returns what a move must not leave behind."""
         found = []
         for server in self.servers.values():
-            for statement in ("SELECT slot_name FROM pg_replication_slots", "SELECT pubname FROM pg_publication",
-                              "SELECT subname FROM pg_subscription", "SELECT tenant FROM cedar.tenants "
-                              "WHERE state <> 'here'"):
+            for statement in (
+                "SELECT slot_name FROM pg_replication_slots",
+                "SELECT pubname FROM pg_publication",
+                "SELECT subname FROM pg_subscription",
+                "SELECT tenant FROM cedar.tenants " "WHERE state <> 'here'",
+            ):
                 found += server.sql(statement, dsn=server.owner_dsn("tenants"))
         return found + self.servers["a"].sql("SELECT * FROM cedar.moves", dsn=self.admin_directory)
 
@@ -125,8 +139,11 @@ class Places(ClusterTest):
         for tenant in range(100, 110):
             self.assertTrue(await self.cluster.create_tenant(tenant))
             self.assertFalse(await self.cluster.create_tenant(tenant))
-        counts = dict(self.servers["a"].sql("SELECT server, count(*) FROM cedar.directory GROUP BY server",
-                                            dsn=self.admin_directory))
+        counts = dict(
+            self.servers["a"].sql(
+                "SELECT server, count(*) FROM cedar.directory GROUP BY server", dsn=self.admin_directory
+            )
+        )
         self.assertLessEqual(abs(counts["a"] - counts["b"]), 1)
         for tenant in range(100, 110):
             self.assertTrue(await self.cluster.drop_tenant(tenant))
@@ -135,8 +152,12 @@ class Places(ClusterTest):
 
     async def test_the_service_sees_no_connection_string_of_a_superuser(self) -> None:
         with psycopg.connect(self.directory, autocommit=True) as connection:
-            for statement in ("SELECT admin FROM cedar.servers", "SELECT * FROM cedar.moves",
-                              "UPDATE cedar.directory SET server = 'a'", "DELETE FROM cedar.servers"):
+            for statement in (
+                "SELECT admin FROM cedar.servers",
+                "SELECT * FROM cedar.moves",
+                "UPDATE cedar.directory SET server = 'a'",
+                "DELETE FROM cedar.servers",
+            ):
                 with self.assertRaises(psycopg.errors.InsufficientPrivilege, msg=statement):
                     connection.execute(statement.encode())
 
@@ -144,8 +165,10 @@ class Places(ClusterTest):
 class Moves(ClusterTest):
     async def test_a_move_under_writers_loses_no_acknowledged_edit(self) -> None:
         await self.create(count=40)
-        others = [Entity(f'Filler::"{number}"', [EntityUid('Filler::"0"')] if number else [], attrs={"n": number})
-                  for number in range(5000)]
+        others = [
+            Entity(f'Filler::"{number}"', [EntityUid('Filler::"0"')] if number else [], attrs={"n": number})
+            for number in range(5000)
+        ]
         await self.cluster.change(self.tenant, lambda draft: draft.add(others))
         writers = [Writer(self.cluster, self.tenant, number) for number in range(3)]
         tasks = [asyncio.create_task(writer.run()) for writer in writers]
@@ -158,20 +181,28 @@ class Moves(ClusterTest):
         await asyncio.gather(*tasks)
         async with Cluster(self.directory) as cluster:
             view = await cluster.view(self.tenant)
-            lost = [user for writer in writers for user, group in writer.groups.items()
-                    if view.store.parents(user) != [group]]
+            lost = [
+                user
+                for writer in writers
+                for user, group in writer.groups.items()
+                if view.store.parents(user) != [group]
+            ]
             self.assertEqual(lost, [])
             self.assertEqual(view.version, 3 + sum(writer.changes for writer in writers))
         self.assertGreater(before, 10)
         self.assertEqual(set(self.rows("a", self.tenant).values()), {0})
         self.assertEqual(self.leftovers(), [])
-        print(f"move of {len(view.store)} entities: {output.splitlines()[-1]}; {sum(w.changes for w in writers)} changes, "
-              f"the slowest took {max(w.longest for w in writers):.2f} s, 0 lost")
+        print(
+            f"move of {len(view.store)} entities: {output.splitlines()[-1]}; {sum(w.changes for w in writers)} "
+            "changes, "
+            f"the slowest took {max(w.longest for w in writers):.2f} s, 0 lost"
+        )
 
     async def test_a_move_that_fails_after_any_step_goes_on(self) -> None:
         await self.create()
         target = "b"
         for step in STEPS:
+
             def fail(done: str) -> None:
                 if done == step:
                     raise Interrupted
@@ -197,6 +228,7 @@ class Moves(ClusterTest):
         """Until the fence and after the switch, an interrupted move disturbs nobody."""
         await self.create()
         for step in STEPS:
+
             def fail(done: str) -> None:
                 if done == step:
                     raise Interrupted
@@ -206,8 +238,9 @@ class Moves(ClusterTest):
                 await asyncio.to_thread(Move(self.admin_directory, self.tenant, target, fail).run)
             if step not in ("fenced", "drained", "verified", "opened"):
                 applied = await self.cluster.change(self.tenant, lambda draft: draft.add_static(f"{step} {target}"))
-                self.assertIsNotNone((await self.cluster.view(self.tenant, token=applied.token)).policies.get(
-                    f"{step} {target}"))
+                self.assertIsNotNone(
+                    (await self.cluster.view(self.tenant, token=applied.token)).policies.get(f"{step} {target}")
+                )
             await asyncio.to_thread(Move(self.admin_directory, self.tenant, target).run)
         view = await self.cluster.view(self.tenant, token=(await self.cluster.view(self.tenant)).version)
         self.assertEqual(len([id for id in view.policies.bodies() if id.split(" ")[0] in STEPS]), len(STEPS) - 4)
@@ -237,7 +270,9 @@ class Moves(ClusterTest):
     async def test_a_move_to_another_server_waits_for_the_first(self) -> None:
         await self.create()
         self.command("server", self.admin_directory, "c", "host=nowhere", self.servers["b"].owner_dsn("tenants"))
-        self.addCleanup(self.servers["a"].sql, "DELETE FROM cedar.servers WHERE server = 'c'", dsn=self.admin_directory)
+        self.addCleanup(
+            self.servers["a"].sql, "DELETE FROM cedar.servers WHERE server = 'c'", dsn=self.admin_directory
+        )
 
         def fail(step: str) -> None:
             if step == "copied":
@@ -254,6 +289,7 @@ class Moves(ClusterTest):
     async def test_a_fenced_move_can_be_cancelled_until_it_has_opened(self) -> None:
         await self.create()
         for step, can_cancel in (("verified", True), ("opened", False)):
+
             def fail(done: str) -> None:
                 if done == step:
                     raise Interrupted
@@ -275,8 +311,11 @@ class Moves(ClusterTest):
 
         def damage(step: str) -> None:
             if step == "drained":
-                self.servers["b"].sql("UPDATE cedar.policies SET effect = 'forbid' WHERE tenant = %s AND effect = 'permit'",
-                                      self.tenant, dsn=self.servers["b"].owner_dsn("tenants"))
+                self.servers["b"].sql(
+                    "UPDATE cedar.policies SET effect = 'forbid' WHERE tenant = %s AND effect = 'permit'",
+                    self.tenant,
+                    dsn=self.servers["b"].owner_dsn("tenants"),
+                )
 
         with self.assertRaisesRegex(MoveError, "the copies differ"):
             await asyncio.to_thread(Move(self.admin_directory, self.tenant, "b", damage).run)
@@ -306,7 +345,10 @@ class Moves(ClusterTest):
         await self.check_contents("b")
 
     async def test_a_move_of_what_is_not_there(self) -> None:
-        for tenant, server, text in ((999, "b", "has no tenant 999"), (self.tenant, "nowhere", "has no server nowhere")):
+        for tenant, server, text in (
+            (999, "b", "has no tenant 999"),
+            (self.tenant, "nowhere", "has no server nowhere"),
+        ):
             if tenant == self.tenant:
                 await self.create()
             with self.assertRaisesRegex(MoveError, text):

@@ -1,4 +1,4 @@
-"""Tests of connections: what callers see when the server is slow, gone, full or a replica, and when an answer is lost."""
+"""Tests of connections: the errors when the server is slow, stopped, full or a replica, and when an answer is lost."""
 from __future__ import annotations
 
 import asyncio
@@ -26,9 +26,13 @@ from servers import Server, shared_server
 class Hosts(unittest.TestCase):
     def test_each_host_is_tried_by_itself(self) -> None:
         hosts = single_hosts("host=a,b port=1,2 dbname=d target_session_attrs=read-write")
-        self.assertEqual([set(text.split()) for text in hosts], [
-            {f"host={host}", f"port={port}", "dbname=d", "target_session_attrs=read-write"}
-            for host, port in (("a", 1), ("b", 2))])
+        self.assertEqual(
+            [set(text.split()) for text in hosts],
+            [
+                {f"host={host}", f"port={port}", "dbname=d", "target_session_attrs=read-write"}
+                for host, port in (("a", 1), ("b", 2))
+            ],
+        )
         self.assertEqual(single_hosts("dbname=d"), ["dbname=d"])
         any_host = single_hosts("host=a,b port=1 dbname=d target_session_attrs=prefer-standby")
         self.assertEqual([text.split("=")[-1] for text in any_host], ["standby", "standby", "any", "any"])
@@ -43,9 +47,18 @@ class Errors(DatabaseTest):
         raise AssertionError("no error")
 
     async def test_each_error_of_the_database_has_a_type(self) -> None:
-        states = {"40001": Retry, "40P01": Retry, "55P03": Retry, "57014": Unavailable, "53100": Unavailable,
-                  "53300": Unavailable, "57P01": Unavailable, "25006": Unavailable, "58030": Unavailable,
-                  "3F000": OutdatedSchema}
+        states = {
+            "40001": Retry,
+            "40P01": Retry,
+            "55P03": Retry,
+            "57014": Unavailable,
+            "53100": Unavailable,
+            "53300": Unavailable,
+            "57P01": Unavailable,
+            "25006": Unavailable,
+            "58030": Unavailable,
+            "3F000": OutdatedSchema,
+        }
         for state, expected in states.items():
             error = self._error_of(f"DO $$ BEGIN RAISE 'x' USING ERRCODE = '{state}'; END $$")
             self.assertIs(type(error), expected, state)
@@ -177,7 +190,10 @@ class Servers(unittest.IsolatedAsyncioTestCase):
         await database.create_tenant(1)
         with open(server.folder + "/data/postmaster.pid") as file:
             postmaster = int(file.readline())
-        pids = [postmaster, *(pid for pid, in server.sql("SELECT pid FROM pg_stat_activity WHERE pid <> pg_backend_pid()"))]
+        pids = [
+            postmaster,
+            *(pid for pid, in server.sql("SELECT pid FROM pg_stat_activity WHERE pid <> pg_backend_pid()")),
+        ]
         for pid in pids:
             os.kill(pid, signal.SIGSTOP)
         try:
@@ -195,7 +211,9 @@ class Servers(unittest.IsolatedAsyncioTestCase):
     async def test_a_full_disk_loses_no_acknowledged_change(self) -> None:
         server = self._server()
         disk = tempfile.mkdtemp(prefix="cedar-disk-")
-        if subprocess.run(["mount", "-t", "tmpfs", "-o", "size=24m", "tmpfs", disk], stderr=subprocess.DEVNULL).returncode:
+        if subprocess.run(
+            ["mount", "-t", "tmpfs", "-o", "size=24m", "tmpfs", disk], stderr=subprocess.DEVNULL
+        ).returncode:
             shutil.rmtree(disk)
             self.skipTest("the right to mount a small disk")
         self.addCleanup(shutil.rmtree, disk, True)
@@ -234,9 +252,12 @@ class Pooler(DatabaseTest):
         names = [entry.pw_name for entry in pwd.getpwall()]
         user = pwd.getpwnam("postgres" if "postgres" in names else "nobody") if os.getuid() == 0 else None
         with open(folder + "/bouncer.ini", "w") as file:
-            file.write(f"[databases]\n* = host={shared_server().folder}\n[pgbouncer]\nunix_socket_dir = {folder}\n"
-                       f"listen_addr =\nlisten_port = 5432\nauth_type = trust\nauth_file = {folder}/users\npool_mode = transaction\n"
-                       f"default_pool_size = 2\nlogfile = {folder}/log\n")
+            file.write(
+                f"[databases]\n* = host={shared_server().folder}\n[pgbouncer]\nunix_socket_dir = {folder}\n"
+                f"listen_addr =\nlisten_port = 5432\nauth_type = trust\nauth_file = {folder}/users\n"
+                "pool_mode = transaction\n"
+                f"default_pool_size = 2\nlogfile = {folder}/log\n"
+            )
         with open(folder + "/users", "w") as file:
             file.write('"app" ""\n')
         as_user: dict[str, Any] = {}
@@ -244,8 +265,13 @@ class Pooler(DatabaseTest):
             os.chown(folder, user.pw_uid, user.pw_gid)
             as_user = {"user": user.pw_uid, "group": user.pw_gid, "extra_groups": []}
         program = shutil.which("pgbouncer") or "/usr/sbin/pgbouncer"
-        process = subprocess.Popen([program, folder + "/bouncer.ini"], stdout=subprocess.DEVNULL,
-                                   stderr=subprocess.DEVNULL, cwd=folder, **as_user)
+        process = subprocess.Popen(
+            [program, folder + "/bouncer.ini"],
+            stdout=subprocess.DEVNULL,
+            stderr=subprocess.DEVNULL,
+            cwd=folder,
+            **as_user,
+        )
         self.addCleanup(process.wait)
         self.addCleanup(process.kill)
         self.pooled_dsn = self.dsn.replace(shared_server().folder, folder)
@@ -277,6 +303,8 @@ class Pooler(DatabaseTest):
                 self.assertEqual(len(view.store), uids.index(uid) + 1)
 
         await asyncio.gather(*map(work, range(4)))
-        ((sessions,),) = self.sql("SELECT count(*) FROM pg_stat_activity WHERE datname = current_database() AND "
-                                  "usename = 'app' AND query LIKE '%%cedar.apply%%' OR query LIKE '%%cedar.read%%'")
+        ((sessions,),) = self.sql(
+            "SELECT count(*) FROM pg_stat_activity WHERE datname = current_database() AND "
+            "usename = 'app' AND query LIKE '%%cedar.apply%%' OR query LIKE '%%cedar.read%%'"
+        )
         self.assertLessEqual(sessions, 3)

@@ -106,12 +106,16 @@ class Backup(unittest.IsolatedAsyncioTestCase):
             async with Database(dsn) as database:
                 for tenant in (1, 2):
                     await database.create_tenant(tenant)
-                    await database.change(tenant, lambda draft: draft.add([Entity(ALICE, [EntityUid(f'A::"{tenant}"')])]))
+                    await database.change(
+                        tenant, lambda draft: draft.add([Entity(ALICE, [EntityUid(f'A::"{tenant}"')])])
+                    )
                 tables = {tenant: (await database.view(tenant)).ancestors(ALICE) for tenant in (1, 2)}
             path = os.path.join(server.folder, "backup")
-            for program, arguments in (("pg_dump", ["-Fc", "-f", path, server.owner_dsn("a")]),
-                                       ("createdb", ["-h", server.folder, "-U", "cedar", "b"]),
-                                       ("pg_restore", ["-d", server.owner_dsn("b"), path])):
+            for program, arguments in (
+                ("pg_dump", ["-Fc", "-f", path, server.owner_dsn("a")]),
+                ("createdb", ["-h", server.folder, "-U", "cedar", "b"]),
+                ("pg_restore", ["-d", server.owner_dsn("b"), path]),
+            ):
                 subprocess.run([os.path.join(program_folder(), program), *arguments], check=True)
             server.sql("UPDATE cedar.tenants SET version = version + 1000000", dsn=server.owner_dsn("b"))
             async with Database(dsn.replace("dbname=a", "dbname=b")) as database:

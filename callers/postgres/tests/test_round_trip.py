@@ -43,8 +43,22 @@ class Encoding(unittest.TestCase):
             self.assertEqual(decode_expr(encode_expr(expr)), expr)
             self.assertEqual(decode_term(encode_term(expr)), expr)
             kinds.add(type(expr))
-        self.assertEqual(kinds, {values.Lit, values.Var, values.Slot, values.UnknownExpr, values.SetOf, values.Call,
-                                 values.Not, values.And, values.Eq, values.In, values.Is})
+        self.assertEqual(
+            kinds,
+            {
+                values.Lit,
+                values.Var,
+                values.Slot,
+                values.UnknownExpr,
+                values.SetOf,
+                values.Call,
+                values.Not,
+                values.And,
+                values.Eq,
+                values.In,
+                values.Is,
+            },
+        )
 
     def test_deep_terms(self) -> None:
         """Neither the encoder nor JSON has the depth of a term."""
@@ -104,8 +118,10 @@ class Tables(DatabaseTest):
                 self.assertEqual(getattr(stored, constraint)(id), getattr(expected, constraint)(id))
         links = [id for id in expected.policies() if id not in set(expected.bodies())]
         self.assertGreater(len(links), 100)
-        self.assertEqual([(stored.env(id), stored.template_id(id)) for id in links],
-                         [(expected.env(id), expected.template_id(id)) for id in links])
+        self.assertEqual(
+            [(stored.env(id), stored.template_id(id)) for id in links],
+            [(expected.env(id), expected.template_id(id)) for id in links],
+        )
         self.assertEqual(str(stored), str(expected))
 
     async def test_import_of_a_store_with_ancestors_of_its_own(self) -> None:

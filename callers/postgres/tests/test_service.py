@@ -65,8 +65,11 @@ class Service(unittest.TestCase):
         cls.server = Server()
         cls.addClassCleanup(cls.server.close)
         cls.dsn = cls.server.create_database("tenants")
-        cls.server.sql("INSERT INTO cedar.servers (server, dsn, admin) VALUES ('a', %s, '')", cls.dsn,
-                       dsn=cls.server.owner_dsn("tenants"))
+        cls.server.sql(
+            "INSERT INTO cedar.servers (server, dsn, admin) VALUES ('a', %s, '')",
+            cls.dsn,
+            dsn=cls.server.owner_dsn("tenants"),
+        )
         cls.process, cls.port = cls.start()
         cls.addClassCleanup(cls.stop, cls.process)
 
@@ -76,10 +79,14 @@ class Service(unittest.TestCase):
         with socket.socket() as free:
             free.bind(("127.0.0.1", 0))
             port = free.getsockname()[1]
-        environment = {**os.environ, "PYTHONPATH": os.pathsep.join(folder for folder in sys.path if folder),
-                       "CEDAR_DIRECTORY": cls.dsn}
-        process = subprocess.Popen([sys.executable, "-B", SERVICE, str(port)], env=environment,
-                                   stderr=subprocess.DEVNULL)
+        environment = {
+            **os.environ,
+            "PYTHONPATH": os.pathsep.join(folder for folder in sys.path if folder),
+            "CEDAR_DIRECTORY": cls.dsn,
+        }
+        process = subprocess.Popen(
+            [sys.executable, "-B", SERVICE, str(port)], env=environment, stderr=subprocess.DEVNULL
+        )
         deadline = time.monotonic() + 20
         while time.monotonic() < deadline:
             with contextlib.suppress(OSError), socket.create_connection(("127.0.0.1", port), 1):
@@ -118,9 +125,18 @@ class Responses(Service):
     def test_changes_and_queries(self) -> None:
         a, b = uid("a"), uid("b")
         self.assertEqual(self.query(a, b)[0], 404)
-        status, content = self.request("PUT", "/tenants/1/entities", [
-            {"uid": a, "parents": [b], "attrs": {"n": 1, "of": {"__entity": {"type": "A", "id": "b"}}, "l": [True, {}]},
-             "tags": {"ip": {"__extn": {"fn": "ip", "arg": "::1"}}}}])
+        status, content = self.request(
+            "PUT",
+            "/tenants/1/entities",
+            [
+                {
+                    "uid": a,
+                    "parents": [b],
+                    "attrs": {"n": 1, "of": {"__entity": {"type": "A", "id": "b"}}, "l": [True, {}]},
+                    "tags": {"ip": {"__extn": {"fn": "ip", "arg": "::1"}}},
+                }
+            ],
+        )
         self.assertEqual((status, self.query(a, b, token=content["token"])), (200, (200, True)))
         self.assertEqual(self.request("PUT", "/tenants/1/entities", [{"uid": b, "parents": [a]}])[0], 409)
         self.assertEqual(self.request("PUT", "/tenants/1/policies/p%2F1", {"effect": "permit"})[0], 200)
@@ -131,17 +147,25 @@ class Responses(Service):
         self.assertEqual((status, self.query(a, b, token=content["token"])[0]), (200, 404))
 
     def test_an_idempotency_key_applies_a_change_once(self) -> None:
-        tokens = {self.request("PUT", "/tenants/1/policies/once", {"effect": "permit"}, {"Idempotency-Key": "k"})[1]["token"]
-                  for _ in range(3)}
+        tokens = {
+            self.request("PUT", "/tenants/1/policies/once", {"effect": "permit"}, {"Idempotency-Key": "k"})[1]["token"]
+            for _ in range(3)
+        }
         self.assertEqual(len(tokens), 1)
 
     def test_an_invalid_field_is_named(self) -> None:
         a = uid("a")
         for content, field in (
-            (5, "#"), ([5], "#/0"), ([{"uid": "a"}], "#/0/uid"), ([{"uid": a}, {}], "#/1/uid"),
-            ([{"uid": a, "parents": a}], "#/0/parents"), ([{"uid": a, "parents": [a, 5]}], "#/0/parents/1"),
-            ([{"uid": a, "attrs": []}], "#/0/attrs"), ([{"uid": a, "attrs": {"x/y": [1, None]}}], "#/0/attrs/x~1y/1"),
-            ([{"uid": a, "attrs": {"x": 1.5}}], "#/0/attrs/x"), ([{"uid": a, "attrs": {"x": 1 << 63}}], "#/0/attrs/x"),
+            (5, "#"),
+            ([5], "#/0"),
+            ([{"uid": "a"}], "#/0/uid"),
+            ([{"uid": a}, {}], "#/1/uid"),
+            ([{"uid": a, "parents": a}], "#/0/parents"),
+            ([{"uid": a, "parents": [a, 5]}], "#/0/parents/1"),
+            ([{"uid": a, "attrs": []}], "#/0/attrs"),
+            ([{"uid": a, "attrs": {"x/y": [1, None]}}], "#/0/attrs/x~1y/1"),
+            ([{"uid": a, "attrs": {"x": 1.5}}], "#/0/attrs/x"),
+            ([{"uid": a, "attrs": {"x": 1 << 63}}], "#/0/attrs/x"),
             ([{"uid": a, "other": 1}], "#/0/other"),
             ([{"uid": a, "attrs": {"x": {"__entity": {"type": "A"}}}}], "#/0/attrs/x/__entity/id"),
             ([{"uid": a, "attrs": {"x": {"__entity": {"type": "a b", "id": ""}}}}], "#/0/attrs/x"),
@@ -149,38 +173,55 @@ class Responses(Service):
             status, problem = self.request("PUT", "/tenants/1/entities", content)
             self.assertEqual((status, problem["status"], problem["errors"][0]["pointer"]), (422, 422, field), content)
         self.assertEqual(self.request("DELETE", "/tenants/1/entities", [a, "b"])[1]["errors"][0]["pointer"], "#/1")
-        self.assertEqual(self.request("PUT", "/tenants/1/policies/p", {"effect": "allow"})[1]["errors"][0]["pointer"],
-                         "#/effect")
-        for path, name in (("child=A&ancestor=A::%22b%22", "child"), ("child=A::%22b%22", "ancestor"),
-                           ("child=A::%22b%22&ancestor=A::%22b%22&token=-1", "token")):
+        self.assertEqual(
+            self.request("PUT", "/tenants/1/policies/p", {"effect": "allow"})[1]["errors"][0]["pointer"], "#/effect"
+        )
+        for path, name in (
+            ("child=A&ancestor=A::%22b%22", "child"),
+            ("child=A::%22b%22", "ancestor"),
+            ("child=A::%22b%22&ancestor=A::%22b%22&token=-1", "token"),
+        ):
             status, problem = self.request("GET", "/tenants/1/is-descendant-of?" + path)
             self.assertEqual((status, problem["errors"][0]["parameter"]), (422, name))
 
     def test_other_statuses(self) -> None:
         self.assertEqual(self.request("GET", "/healthz")[0], 200)
-        for method, path in (("GET", "/"), ("GET", "/tenants"), ("POST", "/tenants/1/entities"), ("GET", "/tenants/1/x")):
+        for method, path in (
+            ("GET", "/"),
+            ("GET", "/tenants"),
+            ("POST", "/tenants/1/entities"),
+            ("GET", "/tenants/1/x"),
+        ):
             self.assertEqual(self.request(method, path)[0], 404, path)
         self.assertEqual(self.query(uid("a"), uid("b"), tenant=99), (404, "no such tenant"))
         self.assertEqual(self.request("PUT", "/tenants/99/policies/p", {"effect": "permit"})[0], 404)
         self.assertEqual(self.request("PUT", "/tenants/x")[0], 422)
-        for body in (b"", b"{", b"\xff", b"[\"\xc3\"]"):
+        for body in (b"", b"{", b"\xff", b'["\xc3"]'):
             self.assertEqual(self.request("PUT", "/tenants/1/entities", body)[0], 400, body)
 
     def test_limits_of_the_body(self) -> None:
         status, problem = self.request("PUT", "/tenants/1/entities", b"[" + b" " * (1 << 20) + b"]")
         self.assertEqual((status, self.headers["connection"]), (413, "close"))
-        for deep in (b"[" * 10000 + b"]" * 10000, b'[{"uid": "A::\\"a\\"", "attrs": {"x": ' + b"[" * 10000 + b"]" * 10000 + b"}}]",
-                     b'[{"uid": "A::\\"a\\"", "attrs": {"x": ' + b'{"a":' * 60 + b"1" + b"}" * 60 + b"}}]"):
+        for deep in (
+            b"[" * 10000 + b"]" * 10000,
+            b'[{"uid": "A::\\"a\\"", "attrs": {"x": ' + b"[" * 10000 + b"]" * 10000 + b"}}]",
+            b'[{"uid": "A::\\"a\\"", "attrs": {"x": ' + b'{"a":' * 60 + b"1" + b"}" * 60 + b"}}]",
+        ):
             self.assertEqual(self.request("PUT", "/tenants/1/entities", deep)[0], 422)
         many = [{"uid": uid(f"m{number}"), "parents": [uid("g")]} for number in range(10000)]
         self.assertEqual(self.request("PUT", "/tenants/1/entities", many)[0], 200)
 
     def test_queries_equal_those_of_a_store(self) -> None:
         rng = random.Random(3)
-        entities = [Entity(uid(str(n)), [uid(str(rng.randrange(n))) for _ in range(2)] if n else []) for n in range(200)]
+        entities = [
+            Entity(uid(str(n)), [uid(str(rng.randrange(n))) for _ in range(2)] if n else []) for n in range(200)
+        ]
         self.request("PUT", "/tenants/2")
-        token = self.request("PUT", "/tenants/2/entities", [
-            {"uid": entity.uid, "parents": sorted(entity.parents)} for entity in entities])[1]["token"]
+        token = self.request(
+            "PUT",
+            "/tenants/2/entities",
+            [{"uid": entity.uid, "parents": sorted(entity.parents)} for entity in entities],
+        )[1]["token"]
         with Store(entities) as store:
             for _ in range(500):
                 child, ancestor = (rng.choice(entities).uid for _ in range(2))
@@ -205,16 +246,21 @@ class Hostile(Service):
             self.assertEqual(self.query(victim, victim, token=token)[0], 200)
             self._send(text)
             time.sleep(0.05)
-            rows = self.server.sql("SELECT uid FROM cedar.entities WHERE uid = %s", victim,
-                                   dsn=self.server.owner_dsn("tenants"))
+            rows = self.server.sql(
+                "SELECT uid FROM cedar.entities WHERE uid = %s", victim, dsn=self.server.owner_dsn("tenants")
+            )
             self.assertEqual(len(rows), 1, name)
 
     def test_a_hidden_request_in_the_open_runs(self) -> None:
         """The same DELETE, sent as a request of its own, has an effect: so the test above can fail."""
         self.request("PUT", "/tenants/1/entities", [{"uid": 'Victim::"1"'}])
         self.assertRegex(self._send(HIDDEN), rb"^HTTP/1.1 200")
-        self.assertEqual(self.server.sql("SELECT uid FROM cedar.entities WHERE uid = 'Victim::\"1\"'",
-                                         dsn=self.server.owner_dsn("tenants")), [])
+        self.assertEqual(
+            self.server.sql(
+                "SELECT uid FROM cedar.entities WHERE uid = 'Victim::\"1\"'", dsn=self.server.owner_dsn("tenants")
+            ),
+            [],
+        )
 
     def _seconds_until_end(self, parts: Iterator[bytes]) -> float:
         """Sends parts with pauses. Returns how long the service keeps the connection."""
@@ -240,7 +286,7 @@ class Hostile(Service):
         body = json.dumps([{"uid": uid(f"d{number}")} for number in range(3000)])
         for cut in (20, 60, 200, len(body)):
             with socket.create_connection(("127.0.0.1", self.port), 2) as client:
-                client.sendall((HEAD + f"Content-Length: {len(body)}\r\n\r\n{body}").encode()[:cut + 60])
+                client.sendall((HEAD + f"Content-Length: {len(body)}\r\n\r\n{body}").encode()[: cut + 60])
         self.assertEqual(self.request("PUT", "/tenants/1/policies/after", {"effect": "permit"})[0], 200)
 
 
@@ -252,7 +298,10 @@ class Faults(Service):
         self.server.stop("immediate")
         time.sleep(1.2)
         try:
-            for call in (lambda: self.query(a, a), lambda: self.request("PUT", "/tenants/1/policies/p", {"effect": "permit"})):
+            for call in (
+                lambda: self.query(a, a),
+                lambda: self.request("PUT", "/tenants/1/policies/p", {"effect": "permit"}),
+            ):
                 status, content = call()
                 self.assertEqual((status, self.headers["retry-after"]), (503, "1"))
                 self.assertNotRegex(str(content), re.compile("sql|server|socket|connection", re.I))

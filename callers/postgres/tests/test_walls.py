@@ -66,9 +66,11 @@ class Walls(DatabaseTest):
     async def test_a_function_without_a_condition_sees_only_the_tenant_that_is_set(self) -> None:
         """The second wall: the mistake that the first one cannot make up for."""
         for table in TABLES:
-            self.sql(f"CREATE FUNCTION cedar.all_{table}(of_tenant bigint) RETURNS SETOF bigint LANGUAGE plpgsql AS $$ "
-                     "BEGIN PERFORM set_config('cedar.tenant', of_tenant::text, true); "
-                     f"RETURN QUERY SELECT DISTINCT tenant FROM cedar.{table}; END $$")
+            self.sql(
+                f"CREATE FUNCTION cedar.all_{table}(of_tenant bigint) RETURNS SETOF bigint LANGUAGE plpgsql AS $$ "
+                "BEGIN PERFORM set_config('cedar.tenant', of_tenant::text, true); "
+                f"RETURN QUERY SELECT DISTINCT tenant FROM cedar.{table}; END $$"
+            )
             with psycopg.connect(self.dsn, autocommit=True) as connection:
                 rows = connection.execute(f"SELECT * FROM cedar.all_{table}(1)".encode()).fetchall()
                 self.assertEqual(rows, [(1,)], table)
@@ -91,8 +93,10 @@ class Walls(DatabaseTest):
                         with connection.transaction():
                             connection.execute("SELECT set_config('cedar.tenant', %s, true)", (setting,))
                             connection.execute(f"INSERT INTO cedar.{table} VALUES {row}".encode())
-                    for statement in ("UPDATE cedar.{} SET tenant = tenant WHERE tenant = 2",
-                                      "DELETE FROM cedar.{} WHERE tenant = 2"):
+                    for statement in (
+                        "UPDATE cedar.{} SET tenant = tenant WHERE tenant = 2",
+                        "DELETE FROM cedar.{} WHERE tenant = 2",
+                    ):
                         with connection.transaction(force_rollback=True):
                             connection.execute("SELECT set_config('cedar.tenant', %s, true)", (setting,))
                             self.assertEqual(connection.execute(statement.format(table).encode()).rowcount, 0)
@@ -100,9 +104,14 @@ class Walls(DatabaseTest):
 
     async def test_the_service_cannot_take_the_wall_down(self) -> None:
         with psycopg.connect(self.dsn, autocommit=True) as connection:
-            for statement in ("ALTER TABLE cedar.entities DISABLE ROW LEVEL SECURITY", "DROP POLICY wall ON cedar.entities",
-                              "TRUNCATE cedar.entities", "SET row_security = off; SELECT * FROM cedar.entities",
-                              "CREATE TABLE cedar.mine ()", "DELETE FROM cedar.migrations"):
+            for statement in (
+                "ALTER TABLE cedar.entities DISABLE ROW LEVEL SECURITY",
+                "DROP POLICY wall ON cedar.entities",
+                "TRUNCATE cedar.entities",
+                "SET row_security = off; SELECT * FROM cedar.entities",
+                "CREATE TABLE cedar.mine ()",
+                "DELETE FROM cedar.migrations",
+            ):
                 with self.assertRaises(psycopg.errors.InsufficientPrivilege, msg=statement):
                     connection.execute(statement.encode())
 

@@ -1,8 +1,8 @@
 -- The tables. Each key begins with the tenant. Texts are compared by their bytes, and each uid has only one spelling,
 -- so equal texts are equal uids. `encoding.py` describes the texts and the JSON.
 
--- The tenants of this server. Every change takes the row of its tenant first. So the row orders the changes of a tenant,
--- its version is the token that readers show, and its state is the fence of a move.
+-- The tenants of this server. Every change locks the row of its tenant first, so this row orders the changes. Its
+-- version is the token that readers show. Its state is the fence of a move.
 CREATE TABLE cedar.tenants (
     tenant bigint PRIMARY KEY,
     state text NOT NULL DEFAULT 'here' CHECK (state IN ('here', 'leaving')),
@@ -11,7 +11,7 @@ CREATE TABLE cedar.tenants (
     is_partial boolean NOT NULL DEFAULT false
 );
 
--- `indirect` has the ancestors that are not parents. It is empty if the mode is `compute`: they follow from the parents.
+-- `indirect` has the ancestors that are not parents. In the mode `compute` it is empty: they follow from the parents.
 CREATE TABLE cedar.entities (
     tenant bigint NOT NULL,
     uid text COLLATE "C" NOT NULL,

@@ -60,7 +60,8 @@ BEGIN
     ELSIF since IS NULL THEN
         RETURN QUERY SELECT 'entity', jsonb_build_array(entity.uid, ARRAY(
                 SELECT edge.parent FROM cedar.parents AS edge
-                WHERE edge.tenant = of_tenant AND edge.child = entity.uid), entity.indirect, entity.attributes, entity.tags)
+                WHERE edge.tenant = of_tenant AND edge.child = entity.uid), entity.indirect, entity.attributes,
+                entity.tags)
             FROM cedar.entities AS entity WHERE entity.tenant = of_tenant LIMIT row_limit;
     ELSIF cardinality(all_uids) > 0 THEN
         RETURN QUERY SELECT 'entity', listed.content FROM cedar.entity_rows(of_tenant, all_uids) AS listed;

@@ -145,8 +145,9 @@ BEGIN
     IF jsonb_array_length(change -> 'policies') > 0 THEN
         INSERT INTO cedar.policies (tenant, id, version, place, kind, effect, principal, action, resource, annotations,
                                     clause, template, slots)
-            SELECT of_tenant, item ->> 'id', new_version, place, item ->> 'kind', item ->> 'effect', item -> 'principal',
-                item -> 'action', item -> 'resource', item -> 'annotations', nullif(item -> 'clause', 'null'),
+            SELECT of_tenant, item ->> 'id', new_version, place, item ->> 'kind', item ->> 'effect',
+                item -> 'principal', item -> 'action', item -> 'resource', item -> 'annotations',
+                nullif(item -> 'clause', 'null'),
                 item ->> 'template', item -> 'slots'
             FROM jsonb_array_elements(change -> 'policies') WITH ORDINALITY AS listed (item, place);
     END IF;
