@@ -12,7 +12,7 @@ from cedar_store import Entity, Mode, Policies, Store, is_uid
 from .encoding import LongTexts, encode_entity, encode_policy, insertion_order
 
 # Longer lists of affected uids or ids are not written. A cache then reads the whole tenant again.
-_MAX_LISTED = 5000
+_MAX_LISTED = 20_000
 
 _Edit = Callable[[Store], None]
 

@@ -86,7 +86,7 @@ class Freshness(DatabaseTest):
             f"{seconds[-1] * 1e3:.0f} ms"
         )
         self.assertLess(seconds[25], 0.2)
-        self.assertLess(seconds[-1], 1.1)
+        self.assertLess(seconds[-1], 1.5)
 
     async def test_without_notifications_a_change_is_seen_by_the_next_question(self) -> None:
         ((definition,),) = self.sql("SELECT pg_get_functiondef('cedar.apply'::regproc)")
@@ -94,14 +94,14 @@ class Freshness(DatabaseTest):
         self.sql(definition.replace("PERFORM pg_notify", "PERFORM concat"))
         seconds = [await self._seconds_until_seen() for _ in range(10)]
         self.assertGreater(max(seconds), 0.02)
-        self.assertLess(max(seconds), 1.1)
+        self.assertLess(max(seconds), 1.5)
 
     async def test_a_lost_connection_of_the_listener_is_opened_again(self) -> None:
         for _ in range(5):
             await asyncio.sleep(0.3)
             self.assertGreaterEqual(len(self._listeners()), 1)
             self.sql("SELECT pg_terminate_backend(pid) FROM unnest(%s::int[]) AS pid", self._listeners())
-            self.assertLess(await self._seconds_until_seen(), 1.1)
+            self.assertLess(await self._seconds_until_seen(), 1.5)
 
     async def test_a_silent_listener_delays_a_change_for_the_lease(self) -> None:
         await asyncio.sleep(0.5)
@@ -111,13 +111,13 @@ class Freshness(DatabaseTest):
             os.kill(pid, signal.SIGSTOP)
         try:
             for _ in range(3):
-                self.assertLess(await self._seconds_until_seen(), 1.1)
+                self.assertLess(await self._seconds_until_seen(), 1.5)
         finally:
             for pid in pids:
                 with contextlib.suppress(ProcessLookupError):
                     os.kill(pid, signal.SIGCONT)
         await asyncio.sleep(1.5)
-        self.assertLess(await self._seconds_until_seen(), 1.1)
+        self.assertLess(await self._seconds_until_seen(), 1.5)
 
     async def test_a_token_of_the_future_is_not_answered(self) -> None:
         reader = await self.open(patience_seconds=0.2)

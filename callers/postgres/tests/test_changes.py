@@ -308,18 +308,35 @@ class Costs(DatabaseTest):
         administrators = [await self.open() for _ in range(4)]
         for database in administrators:
             await database.view(1)
-        start = time.monotonic()
+        start, processor = time.monotonic(), time.process_time()
 
         async def work(number: int, database: Database) -> None:
             for place in range(10):
                 await database.change(1, lambda draft: draft.add_static(f"{number} {place}"))
 
         await asyncio.gather(*(work(*item) for item in enumerate(administrators)))
-        seconds = time.monotonic() - start
+        seconds, processor = time.monotonic() - start, time.process_time() - processor
         print(
             f"20,000 policies: one more takes {sorted(durations)[10] * 1e3:.1f} ms of processor; 40 changes by four "
-            f"administrators took {seconds:.2f} s"
+            f"administrators took {seconds:.2f} s, and {processor:.2f} s of processor of this process"
         )
-        self.assertLess(seconds, 5)
+        # By the clock it depends on the other work of the machine.
+        self.assertLess(processor, 1)
         view = await (await self.open()).view(1)
         self.assertEqual(len(view.policies.bodies()), 20060)
+
+    async def test_a_change_of_one_of_10000_entities_costs_what_it_changes(self) -> None:
+        await self.database.create_tenant(1)
+        groups = [EntityUid(f'Group::"{number}"') for number in range(100)]
+        entities = [Entity(EntityUid(f'User::"{number}"'), [groups[number % 100]]) for number in range(10000)]
+        await self.database.change(1, lambda draft: draft.add(entities))
+        await self.database.view(1)
+        durations = []
+        for number in range(20):
+            start = time.process_time()
+            edited = Entity(entities[number].uid, [groups[99]], attrs={"n": number})
+            token = (await self.database.change(1, lambda draft: draft.upsert([edited]))).token
+            durations.append(time.process_time() - start)
+            self.assertEqual((await self.database.view(1, token=token)).ancestors(edited.uid), [groups[99]])
+        print(f"10,000 entities: the change of one takes {sorted(durations)[10] * 1e3:.1f} ms of processor")
+        self.assertLess(sorted(durations)[10], 0.02)
