@@ -66,10 +66,9 @@ crate-type = ["staticlib"]
 
 [workspace]
 
-# keep the checks of bounds, overflow and `debug_assert!`; a panic ends the program
-[profile.dev]
-opt-level = 1
-debug = 0
+# keep the checks for overflow, but not `debug_assert!`, which inspects the whole store; a panic ends the program
+[profile.release]
+overflow-checks = true
 panic = "abort"
 '''
 BEFORE, AFTER = replacements.entries()
