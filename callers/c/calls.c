@@ -140,10 +140,15 @@ static void versions_and_status_texts(void) {
     CHECK(cedar_status_text(CEDAR_NOT_A_UID, out, 16) == 9 && !memcmp(out, "not a uid.", 10));
     CHECK(cedar_status_text(CEDAR_NOT_A_NAME, out, 5) == 10 && !memcmp(out, "not a uid.", 10));
     CHECK(cedar_status_text(CEDAR_TOO_DEEP, out, 0) == 8 && cedar_status_text(CEDAR_SLOTLESS_LINK, out, 0) == 18);
-    CHECK(cedar_status_text(CEDAR_SLOTLESS_LINK + 1, out, 16) == 0);
+    CHECK(cedar_status_text(CEDAR_STATUSES, out, 16) == 0 && !*cedar_status_words((cedar_status)CEDAR_STATUSES));
     CHECK(cedar_status_text(1000, out, 16) == 0 && cedar_status_text(UINT32_MAX, out, 16) == 0);
     CHECK(!memcmp(out, "not a uid.", 10));
-    for (uint32_t status = 0; status <= CEDAR_SLOTLESS_LINK; status++) CHECK(cedar_status_text(status, out, 0) > 0);
+    for (uint32_t status = 0; status < CEDAR_STATUSES; status++) {
+        const char *words = cedar_status_words((cedar_status)status), *name = cedar_status_name((cedar_status)status);
+        uint8_t text[64];
+        size_t len = cedar_status_text(status, text, sizeof text);
+        CHECK(len == strlen(words) && !memcmp(text, words, len) && !strncmp(name, "CEDAR_", 6));
+    }
 }
 
 /* ---- stores */

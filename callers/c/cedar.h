@@ -52,6 +52,9 @@
 #include <stdbool.h>
 #include <stddef.h>
 #include <stdint.h>
+
+#include "cedar/status.h"
+
 #ifdef __cplusplus
 extern "C" {
 #endif
@@ -82,50 +85,6 @@ typedef struct cedar_edge {
     size_t from;
     size_t to;
 } cedar_edge;
-
-/* The status that a call returns. An error with a status from 7 to 25, or from 29 on, has a text. A handle stores the
- * text until its next error that has one. No other status changes the stored text, not even CEDAR_NO_MEMORY. */
-typedef enum cedar_status {
-    CEDAR_OK = 0,
-    CEDAR_NO_MEMORY = 1,    /* an allocation failed; any call that allocates can return it */
-    CEDAR_CLOSED = 2,       /* a handle is closed */
-    CEDAR_BAD_ARGUMENT = 3, /* a part is not within its text, a number is out of range, or nodes are invalid */
-    CEDAR_NOT_A_UID = 4,    /* a text is not the text of a uid */
-    CEDAR_NOT_UTF8 = 5,     /* an id, a key, the value of an annotation or a string is not UTF-8 */
-    CEDAR_NO_ENTITY = 6,    /* the store has no entity with this uid */
-    /* Errors of a store. `cedar_store_refusal` copies the text, with the names that are listed here after the
-     * semicolon. */
-    CEDAR_DUPLICATE = 7,      /* two entities with one uid differ; the uid */
-    CEDAR_CYCLE = 8,          /* a uid is one of its own ancestors; the uid */
-    CEDAR_NOT_CLOSED = 9,     /* an ancestor of an ancestor is missing; the entity, its ancestor, the missing uid */
-    CEDAR_SELF_ANCESTOR = 10, /* an entity is one of its own ancestors; its uid */
-    CEDAR_DUPLICATE_ANCESTOR = 11, /* a uid is both a parent and an indirect ancestor; the entity, the uid */
-    CEDAR_ACTION_PARENT = 12,      /* an action has an ancestor that is not an action; the action, the ancestor */
-    CEDAR_RESERVED_KEY = 13,       /* a key of a record is reserved; the key */
-    /* Errors of a policy set. `cedar_policies_refusal` copies the text, with the id, or with the names after the
-     * semicolon. */
-    CEDAR_OCCUPIED = 14,         /* the id is already in use */
-    CEDAR_NO_SUCH_TEMPLATE = 15, /* there is no template with this id to link */
-    CEDAR_ARITY = 16,            /* the bindings do not match the slots of the template; the slots */
-    CEDAR_NOT_AN_ACTION = 17,    /* the slot of the action is bound to a uid that is not an action; the uid */
-    CEDAR_ID_CONFLICT = 18,      /* the id of the new link is already in use */
-    CEDAR_NO_LINK = 19,          /* the id to unlink is not in use */
-    CEDAR_NOT_A_LINK = 20,       /* the id to unlink is not the id of a link */
-    CEDAR_NO_TEMPLATE = 21,      /* the id of the template to remove is not in use */
-    CEDAR_WITH_LINKS = 22,       /* the template has links */
-    CEDAR_NOT_A_TEMPLATE = 23,   /* the id is not the id of a template */
-    CEDAR_NO_STATIC = 24,        /* there is no policy with the id of the static policy to remove */
-    CEDAR_NOT_STATIC = 25,       /* the id is the id of a link; or a static policy to add has a slot */
-    /* Further errors without a text. */
-    CEDAR_NO_BODY = 26,    /* there is nothing of the requested kind with this id */
-    CEDAR_NOT_A_NAME = 27, /* a text is not a name, or the key of an annotation is not an identifier */
-    CEDAR_TOO_DEEP = 28,   /* a value or an expression has more than CEDAR_LEVELS levels */
-    /* Errors of `cedar_policies_validate`. `cedar_policies_refusal` copies the text, with the id. */
-    CEDAR_SLOT_IN_CLAUSE = 29,   /* the clause of this template has a slot */
-    CEDAR_NOT_ACTIONS = 30,      /* the action constraint of this policy or template has a uid that is no action */
-    CEDAR_UNKNOWN_FUNCTION = 31, /* the clause of this policy or template calls an unknown function */
-    CEDAR_SLOTLESS_LINK = 32     /* this link has a template without slots */
-} cedar_status;
 
 /* The way in which an edit keeps the ancestors of a store closed. An edit affects the entities that it inserts or
  * removes, and all entities that have one of them as an ancestor. In every mode a removal gives the affected entities

@@ -16,6 +16,8 @@ import unittest
 import warnings
 
 import cedar_store
+from cedar_store import _statuses
+from cedar_store._statuses import STATUSES
 from cedar_store import (
     CedarError,
     Closed,
@@ -103,7 +105,7 @@ class Stores(unittest.TestCase):
                 call()
             error = caught.exception
             self.assertEqual((error.reason, error.index, str(error)), ("not a uid", index, "not a uid " + text))
-            self.assertEqual((error.names, error.uids), ((), ()))
+            self.assertEqual((error.names, error.uids, error.text), ((text,), (), text))
             unpickled = pickle.loads(pickle.dumps(error))
             self.assertEqual((unpickled.reason, unpickled.index), (error.reason, index))
             self.assertEqual(str(unpickled), str(error))
@@ -407,18 +409,23 @@ class Errors(unittest.TestCase):
         self.assertEqual((caught.exception.reason, caught.exception.uids), ("not an action", (uid("a"),)))
 
     def test_reasons_of_statuses(self):
-        reasons = cedar_store._errors.REASONS
-        self.assertEqual((reasons[26], reasons[27], reasons[28]), ("no body", "not a name", "too deep"))
-        self.assertEqual((reasons[29], reasons[32]), ("slot in clause", "slotless link"))
-        self.assertEqual(set(reasons), set(range(3, 33)))
+        for number, known in STATUSES.items():
+            self.assertEqual(cedar_store.status_text(number), known.text)
+            error = CedarError(known.reason, known.text)
+            self.assertEqual((type(error), error.reason), (known.exception, known.reason))
+            self.assertIsInstance(error, CedarError)
+        self.assertEqual(list(STATUSES), [*range(1, len(STATUSES) + 1)])
+        self.assertEqual(cedar_store.status_text(len(STATUSES) + 1), "")
+        self.assertEqual({known.exception.__name__ for known in STATUSES.values()}, set(_statuses.__all__))
+        self.assertLessEqual(set(_statuses.__all__), set(cedar_store.__all__))
         store = Store(entities(("a", "b")))
         with self.assertRaises(CedarError):
             store.add(entities(("b", "a")))
         # Errors without a text of their own do not get the text of the last error.
         for status in (26, 27, 28):
-            with self.assertRaises(CedarError) as caught:
+            with self.assertRaises(STATUSES[status].exception) as caught:
                 store._raise_error(status)
-            self.assertEqual((caught.exception.reason, str(caught.exception)), (reasons[status], reasons[status]))
+            self.assertEqual((caught.exception.reason, str(caught.exception)), (STATUSES[status].reason,) * 2)
 
 
 class Pickles(unittest.TestCase):

@@ -6,7 +6,7 @@ import threading
 import warnings
 from typing import Any, Callable, Dict, List, NoReturn, Optional, Tuple, Type, TypeVar
 
-from ._errors import NOT_A_UID, STATUSES_WITH_TEXT, WrongThread, raise_error
+from ._errors import CLOSED, NOT_A_UID, WrongThread, has_error_text, raise_error
 from ._library import SIZES, Handle, UidList, key_numbers
 
 _BUFFER_SIZE = 4096
@@ -168,19 +168,21 @@ class HandleOwner:
         status = function(self._pointer, *arguments)
         index = uids.first_invalid() if status == NOT_A_UID else None
         if index is not None:
-            raise_error(status, "not a uid " + uids.text_at(index), index)
+            raise_error(status, uids.text_at(index), index=index)
         if status:
             self._raise_error(status)
 
     def _raise_error(self, status: int) -> NoReturn:
         """Raises the exception for a status other than 0, with the text of the library if it has one."""
+        if status == CLOSED:
+            raise_error(status, self._noun)
         text = ""
-        if status in STATUSES_WITH_TEXT:
+        if has_error_text(status):
             length = self._error_text(self._pointer, b"", 0)
             buffer = ctypes.create_string_buffer(max(length, 1))
             self._error_text(self._pointer, buffer, length)
             text = buffer.raw[:length].decode("utf-8", "replace")
-        raise_error(status, text)
+        raise_error(status, text=text)
 
     def _result_bytes(self) -> bytes:
         """Returns the bytes of the texts of the last result."""

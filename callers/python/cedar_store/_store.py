@@ -7,7 +7,7 @@ from typing import Any, Dict, Iterable, Iterator, List, Mapping, Optional, Tuple
 
 from ._content import Content
 from ._entity import Entity, Unknown
-from ._errors import BAD_ARGUMENT, NOT_A_UID, CedarError, WrongThread, enum_number
+from ._errors import NOT_A_UID, CedarError, WrongThread, enum_number
 from ._handle import LOCAL, NO_OWNER, HandleOwner
 from ._library import (
     SIZES,
@@ -57,6 +57,7 @@ _keys, _tag_keys, _entity_text = [quick_function("store_" + name) for name in ("
 _attrs_len, _tags_len = quick_function("store_attrs_len"), quick_function("store_tags_len")
 
 
+BAD_ARGUMENT = 3
 # A number of more bits, or below 0, belongs to no uid.
 _NUMBER_BITS = 8 * ctypes.sizeof(ctypes.c_size_t) - 1
 

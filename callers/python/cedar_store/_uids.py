@@ -37,7 +37,7 @@ class EntityUid(str):
 
     def __new__(cls, text: str) -> EntityUid:
         if not is_uid(text):
-            raise_error(NOT_A_UID, "not a uid " + text)
+            raise_error(NOT_A_UID, text)
         return str.__new__(cls, text)
 
     @classmethod

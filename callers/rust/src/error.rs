@@ -1,111 +1,15 @@
 //! Errors of calls of the library, with a reason and a message.
 use crate::ffi;
 use crate::policy::PolicyID;
+use crate::reason::{message, names_uids, STATUSES};
 use crate::uid::EntityUID;
 use std::fmt;
 
-/// The reason of an error. Each corresponds to a status of `cedar.h`.
-#[derive(Clone, Copy, Debug, PartialEq, Eq, Hash)]
-#[non_exhaustive]
-pub enum Reason {
-    /// An allocation failed.
-    Memory,
-    /// A span, an index or a number is out of range. This crate causes it only with a number of another store.
-    BadArgument,
-    /// A text is not a uid.
-    NotAUid,
-    /// The store has no entity with the uid.
-    NoEntity,
-    /// Two entities have the same uid, but are not deeply equal.
-    Duplicate,
-    /// An entity reaches itself over its ancestors.
-    Cycle,
-    /// An ancestor of an ancestor is missing.
-    NotClosed,
-    /// An entity is its own ancestor.
-    SelfAncestor,
-    /// An ancestor is both a parent and an indirect ancestor.
-    DuplicateAncestor,
-    /// An action has an ancestor that is not an action.
-    ActionParentIsNotAction,
-    /// A key of a record is reserved.
-    ReservedKey,
-    /// An id is already bound.
-    Occupied,
-    /// No template has the id of the template to link.
-    NoSuchTemplate,
-    /// The bound ids are not the ids of the template's slots.
-    Arity,
-    /// The action's slot is bound to a uid that is not an action.
-    NotAnAction,
-    /// The id of a new link is already bound.
-    IdConflict,
-    /// The id of the link to remove is not bound.
-    NoLink,
-    /// The id of the link to remove belongs to a static policy or a template.
-    NotALink,
-    /// The id of the template to remove is not bound.
-    NoTemplate,
-    /// The template to remove has links.
-    WithLinks,
-    /// The id of the template to remove belongs to a static policy or a link.
-    NotATemplate,
-    /// No policy has the id of the static policy to remove.
-    NoStatic,
-    /// The id of the static policy to remove belongs to a link, or a static policy to add contains a slot.
-    NotStatic,
-    /// The id is not bound to an item of the requested kind.
-    NoBody,
-    /// A text is not a name, or not an identifier where the call expects one.
-    NotAName,
-    /// A value, an expression or a clause has more than 1,000 levels.
-    TooDeep,
-    /// The clause of a template contains a slot.
-    SlotInClause,
-    /// The action constraint of a policy or a template has a uid that is not an action.
-    NotActions,
-    /// The clause of a policy or a template calls an unknown function.
-    UnknownFunction,
-    /// A template without slots has a link.
-    SlotlessLink,
-}
-
-// The reasons with their statuses.
-const STATUSES: [(u32, Reason); 30] = [
-    (1, Reason::Memory),
-    (3, Reason::BadArgument),
-    (4, Reason::NotAUid),
-    (6, Reason::NoEntity),
-    (7, Reason::Duplicate),
-    (8, Reason::Cycle),
-    (9, Reason::NotClosed),
-    (10, Reason::SelfAncestor),
-    (11, Reason::DuplicateAncestor),
-    (12, Reason::ActionParentIsNotAction),
-    (13, Reason::ReservedKey),
-    (14, Reason::Occupied),
-    (15, Reason::NoSuchTemplate),
-    (16, Reason::Arity),
-    (17, Reason::NotAnAction),
-    (18, Reason::IdConflict),
-    (19, Reason::NoLink),
-    (20, Reason::NotALink),
-    (21, Reason::NoTemplate),
-    (22, Reason::WithLinks),
-    (23, Reason::NotATemplate),
-    (24, Reason::NoStatic),
-    (25, Reason::NotStatic),
-    (26, Reason::NoBody),
-    (27, Reason::NotAName),
-    (28, Reason::TooDeep),
-    (29, Reason::SlotInClause),
-    (30, Reason::NotActions),
-    (31, Reason::UnknownFunction),
-    (32, Reason::SlotlessLink),
-];
+pub use crate::reason::Reason;
 
 impl Reason {
-    fn of(status: u32) -> Reason {
+    // Returns the reason with a status. A status that never reaches a user counts as a bad argument.
+    pub(crate) fn of(status: u32) -> Reason {
         let entry = STATUSES.iter().find(|(known, _)| *known == status);
         entry.map_or(Reason::BadArgument, |(_, reason)| *reason)
     }
@@ -152,15 +56,9 @@ impl Error {
     /// Creates the error of a status other than 0.
     pub(crate) fn new(status: u32, text: impl FnOnce() -> Vec<u8>) -> Error {
         let reason = Reason::of(status);
-        let text = match reason {
-            Reason::Memory => String::from("out of memory"),
-            Reason::BadArgument => String::from("bad argument"),
-            Reason::NotAUid => String::from("not a uid"),
-            Reason::NoEntity => String::from("no entity"),
-            Reason::NoBody => String::from("no body"),
-            Reason::NotAName => String::from("not a name"),
-            Reason::TooDeep => String::from("too deep"),
-            _ => String::from_utf8_lossy(&text()).into_owned(),
+        let text = match message(reason) {
+            Some(message) => message.to_owned(),
+            None => String::from_utf8_lossy(&text()).into_owned(),
         };
         Error { reason, text }
     }
@@ -202,15 +100,10 @@ impl Error {
     /// assert_eq!(error.uids(), [a]);
     /// ```
     pub fn uids(&self) -> Vec<EntityUID> {
-        match self.reason {
-            Reason::Duplicate
-            | Reason::Cycle
-            | Reason::NotClosed
-            | Reason::SelfAncestor
-            | Reason::DuplicateAncestor
-            | Reason::ActionParentIsNotAction
-            | Reason::NotAnAction => parse_uids(&self.text),
-            _ => Vec::new(),
+        if names_uids(self.reason) {
+            parse_uids(&self.text)
+        } else {
+            Vec::new()
         }
     }
 }

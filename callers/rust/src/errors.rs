@@ -23,7 +23,8 @@ pub enum ParseErrors {
 impl ParseErrors {
     /// Returns the error for a text that is not a uid.
     pub(crate) fn of_uid(text: &str) -> ParseErrors {
-        let is_name = |ty: &str| !matches!(ffi::make_uid(ty, ""), Err(27));
+        let is_name =
+            |ty: &str| ffi::make_uid(ty, "").map_err(Reason::of).err() != Some(Reason::NotAName);
         match text.split_once("::\"") {
             Some((ty, _)) if text.ends_with('"') && !is_name(ty) => ParseErrors::InvalidName,
             _ => ParseErrors::NotNormalized,

@@ -46,6 +46,7 @@ mod policies_iters;
 mod policies_queries;
 mod policy;
 mod policy_set;
+mod reason;
 mod scope;
 mod slots;
 mod stored;

@@ -1,5 +1,5 @@
 //! Names, identifiers, and source locations.
-use crate::error::Error;
+use crate::error::{Error, Reason};
 use crate::errors::ParseErrors;
 use crate::ffi;
 use std::cmp::Ordering;
@@ -121,7 +121,7 @@ impl Name {
     pub fn from_normalized_str(text: &str) -> Result<Name, ParseErrors> {
         match ffi::make_uid(text, "") {
             Ok(_) => Ok(Name::from_valid_text(text)),
-            Err(27) => Err(ParseErrors::InvalidName),
+            Err(status) if Reason::of(status) == Reason::NotAName => Err(ParseErrors::InvalidName),
             Err(status) => Err(ParseErrors::Other(Error::new(status, Vec::new))),
         }
     }

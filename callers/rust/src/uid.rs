@@ -1,5 +1,5 @@
 //! Uids of entities, their types and their ids.
-use crate::error::Error;
+use crate::error::{Error, Reason};
 use crate::errors::ParseErrors;
 use crate::ffi;
 use crate::name::{compare_names, escaped, Loc, Name};
@@ -196,7 +196,7 @@ impl EntityUID {
     pub fn with_eid_and_type(typename: &str, eid: &str) -> Result<EntityUID, ParseErrors> {
         match ffi::make_uid(typename, eid) {
             Ok(text) => Ok(EntityUID::from_valid_text(&text)),
-            Err(27) => Err(ParseErrors::InvalidName),
+            Err(status) if Reason::of(status) == Reason::NotAName => Err(ParseErrors::InvalidName),
             Err(status) => Err(ParseErrors::Other(Error::new(status, Vec::new))),
         }
     }
