@@ -1,9 +1,17 @@
-# Functions of callers/run and callers/run-unproved. Both source it in callers/. `out` is the folder for their output and has
-# both archives. The last line of a run is `N passed, M failed`, or `N passed, M failed, K skipped`.
+# Functions of callers/run and callers/run-unproved. Both source it in callers/. `out` is the folder for their output and
+# has both archives. The last line of a run is `N passed, M failed`, or `N passed, M failed, K skipped`.
 both="$out/libcedar_c.a $out/liblibc_c.a"
 warn="-std=c11 -Wall -Wextra -Wpedantic -Werror"
+# The tests in C with their titles, and the examples, whose output is compared.
+c_tests=(calls values bodies deep_copy numbers validity helpers)
+declare -A c_titles=(
+    [calls]="calls from C" [values]="values from C" [bodies]="bodies of policies from C"
+    [deep_copy]="deep copies from C" [numbers]="numbers of uids from C"
+    [validity]="validation of policy sets from C" [helpers]="helpers of the headers in C")
+c_examples=(example guide authorizer)
 # The options for c/deep_copy.c: threads, and its own allocation functions, which record each block.
-record_blocks="-pthread -Wl,--wrap=malloc -Wl,--wrap=realloc -Wl,--wrap=calloc -Wl,--wrap=posix_memalign -Wl,--wrap=free"
+record_blocks="-pthread -Wl,--wrap=malloc -Wl,--wrap=realloc -Wl,--wrap=calloc -Wl,--wrap=posix_memalign"
+record_blocks+=" -Wl,--wrap=free"
 passed=0
 failed=0
 skipped=0
@@ -71,27 +79,198 @@ writes() {
     fi
 }
 
-# Runs the tests in C with the sanitizers of gcc, if gcc has them.
+# Prints the options of gcc that a program in C needs besides the library. Argument: its name.
+c_options() {
+    [ "$1" = deep_copy ] && echo "$record_blocks"
+}
+
+# Builds a program in C. Arguments: the name of the program, the name of the output, then options of gcc.
+built() {
+    gcc -g $warn $(c_options "$1") "${@:3}" -o "$out/$2" "c/$1.c" $both
+}
+
+# Builds and runs the tests and the examples in C.
+c_programs() {
+    local name
+    for name in "${c_tests[@]}" "${c_examples[@]}"; do
+        if ! built "$name" "$name" -O2; then
+            fault "c/$name.c was not built"
+        elif [ -f "c/$name.out" ]; then
+            writes "the $name in C" "c/$name.out" "$out/$name"
+        else
+            counted "${c_titles[$name]}" "$out/$name"
+        fi
+    done
+}
+
+# Runs the tests and the examples in C with the sanitizers of gcc, if gcc has them.
 in_c_sanitized() {
     has gcc --version || return
-    local sanitizers="-fsanitize=address,undefined -fno-sanitize-recover=all"
+    local name sanitizers="-fsanitize=address,undefined -fno-sanitize-recover=all"
     echo 'int main(void) { return 0; }' > "$out/empty.c"
     if ! gcc $sanitizers -o "$out/empty" "$out/empty.c" 2> /dev/null || ! "$out/empty"; then
         without "sanitizer for gcc" "the calls from C with the address and undefined behaviour sanitizers"
-    elif gcc -O1 -g $warn $sanitizers -o "$out/calls_sanitized" c/calls.c $both &&
-        gcc -O1 -g $warn $sanitizers -o "$out/values_sanitized" c/values.c $both &&
-        gcc -O1 -g $warn $sanitizers -o "$out/bodies_sanitized" c/bodies.c $both &&
-        gcc -O1 -g $warn $sanitizers $record_blocks -o "$out/deep_copy_sanitized" c/deep_copy.c $both &&
-        gcc -O1 -g $warn $sanitizers -o "$out/numbers_sanitized" c/numbers.c $both &&
-        gcc -O1 -g $warn $sanitizers -o "$out/validity_sanitized" c/validity.c $both; then
-        counted "calls from C, with sanitizers" "$out/calls_sanitized"
-        counted "values from C, with sanitizers" "$out/values_sanitized"
-        counted "bodies of policies from C, with sanitizers" "$out/bodies_sanitized"
-        counted "deep copies from C, with sanitizers" "$out/deep_copy_sanitized"
-        counted "numbers of uids from C, with sanitizers" "$out/numbers_sanitized"
-        counted "validation of policy sets from C, with sanitizers" "$out/validity_sanitized"
+        return
+    fi
+    for name in "${c_tests[@]}" "${c_examples[@]}"; do
+        if ! built "$name" "${name}_sanitized" -O1 $sanitizers; then
+            fault "c/$name.c was not built with sanitizers"
+        elif [ -f "c/$name.out" ]; then
+            writes "the $name in C, with sanitizers" "c/$name.out" "$out/${name}_sanitized"
+        else
+            counted "${c_titles[$name]}, with sanitizers" "$out/${name}_sanitized"
+        fi
+    done
+}
+
+# Runs the tests and the examples in C with valgrind. Argument: the kinds of leaks that are errors. Memory that the
+# runtime of Rust keeps reachable is not a leak, so the library without its proof needs other kinds.
+in_c_with_valgrind() {
+    local name watch="valgrind -q --leak-check=full --error-exitcode=9 --errors-for-leak-kinds=$1"
+    if ! has valgrind --version; then
+        without valgrind "the tests in C with valgrind"
+        return
+    fi
+    for name in "${c_tests[@]}"; do
+        counted "${c_titles[$name]}, with valgrind" $watch "$out/$name"
+    done
+    for name in "${c_examples[@]}"; do
+        writes "the $name in C, with valgrind" "c/$name.out" $watch "$out/$name"
+    done
+}
+
+# Compiles the headers and the programs over them as C11, C17 and C++17, without a warning. Checks that a result that
+# is not used, and a number in place of an enum in C++, are reported.
+in_dialects() {
+    local standard name options="-Wall -Wextra -Wpedantic -Werror -Ic"
+    has gcc --version || return
+    for standard in c11 c17; do
+        for name in authorizer guide example helpers; do
+            compiles "c/$name.c as $standard" gcc -std=$standard $options -fsyntax-only "c/$name.c"
+        done
+    done
+    echo '#include "cedar.h"
+int main(void) { cedar_store s = CEDAR_EMPTY; cedar_store_new(&s, 0, 0); return 0; }' > "$out/unused.c"
+    reports "a result that is not used" 'unused.result' gcc -std=c11 $options -c -o "$out/unused.o" "$out/unused.c"
+    if ! has g++ --version; then
+        without g++ "the headers in C++"
+        return
+    fi
+    for name in authorizer guide helpers; do
+        if compiles "c/$name.c as c++17" g++ -std=c++17 $options -g -o "$out/${name}_cpp" -x c++ "c/$name.c" -x none \
+            $both; then
+            if [ -f "c/$name.out" ]; then
+                writes "the $name in C++" "c/$name.out" "$out/${name}_cpp"
+            else
+                counted "${c_titles[$name]}++" "$out/${name}_cpp"
+            fi
+        fi
+    done
+    echo '#include "cedar.h"
+cedar_mode mode() { return 1; }' > "$out/number.cpp"
+    reports "a number in place of an enum" 'invalid conversion' g++ -std=c++17 $options -fsyntax-only "$out/number.cpp"
+}
+
+# Counts a command of a compiler as passed if it succeeds. Arguments: a title, then the command.
+compiles() {
+    local what=$1
+    shift
+    if "$@"; then
+        passed=$((passed + 1))
     else
-        fault "the tests in C were not built with sanitizers"
+        fault "$what does not compile"
+        return 1
+    fi
+}
+
+# Checks that a compiler reports an error. Arguments: a title, a pattern in the error, then the command.
+reports() {
+    local what=$1 pattern=$2
+    shift 2
+    if ! "$@" 2> "$out/errors" && grep -q "$pattern" "$out/errors"; then
+        passed=$((passed + 1))
+    else
+        cat "$out/errors"
+        fault "$what is not reported"
+    fi
+}
+
+# Installs the library into a folder of its own, and builds the example only from the installed files, without the
+# checkout.
+in_c_installed() {
+    has gcc --version || return
+    local tool prefix="$PWD/$out/prefix"
+    for tool in make pkg-config objcopy nm; do
+        if ! has $tool --version; then
+            without $tool "the installation of the library for C by make"
+            return
+        fi
+    done
+    rm -rf "$out/prefix" "$out/installed"
+    if ! make -s -C c install LIBRARIES="$PWD/$out" PREFIX="$prefix" > "$out/one" 2>&1; then
+        cat "$out/one"
+        fault "make install failed"
+        return
+    fi
+    cp c/example.c c/calls.c c/short.h "$prefix"
+    local options static_options
+    options=$(PKG_CONFIG_PATH="$prefix/lib/pkgconfig" pkg-config --cflags --libs cedar)
+    static_options=$(PKG_CONFIG_PATH="$prefix/lib/pkgconfig" pkg-config --cflags --libs --static cedar)
+    over_installed example shared $options
+    over_installed calls shared $options
+    over_installed example static -Wl,-Bstatic $static_options -Wl,-Bdynamic
+    over_installed calls static -Wl,-Bstatic $static_options -Wl,-Bdynamic
+    names "$prefix/lib/libcedar.so.0" -D
+    names "$prefix/lib/libcedar.a" -g
+    says_unproved "$prefix"
+    if make -s -C c uninstall PREFIX="$prefix" > "$out/one" 2>&1 &&
+        [ -z "$(find "$prefix/lib" "$prefix/include" ! -type d)" ]; then
+        passed=$((passed + 1))
+    else
+        cat "$out/one"
+        fault "make uninstall leaves files"
+    fi
+}
+
+# Builds a program in C with an installed library, and runs it. Arguments: its name, the kind of library, the options of
+# gcc.
+over_installed() {
+    local name=$1 kind=$2 what="the example in C"
+    shift 2
+    [ "$name" = calls ] && what="calls from C"
+    what="$what, with the installed $kind library"
+    if ! gcc -O2 $warn -o "$out/prefix/$name" "$out/prefix/$name.c" "$@"; then
+        fault "$what: not built"
+    elif [ "$name" = calls ]; then
+        counted "$what" env LD_LIBRARY_PATH="$out/prefix/lib" "$out/prefix/calls"
+    else
+        writes "$what" c/example.out env LD_LIBRARY_PATH="$out/prefix/lib" "$out/prefix/example"
+    fi
+}
+
+# Checks that a library exports exactly the functions of the headers. Arguments: its path, an option of nm.
+names() {
+    (cd .. && python3 -B tools/c_header.py --names) > "$out/declared"
+    nm "$2" --defined-only "$1" | awk 'NF == 3 { print $3 }' | sort > "$out/exported"
+    if [ -s "$out/exported" ] && diff "$out/declared" "$out/exported"; then
+        echo "callers: the names that $(basename "$1") exports: passed"
+        passed=$((passed + 1))
+    else
+        fault "$1 does not export exactly the functions of the headers"
+    fi
+}
+
+# Checks that the installed header and the pkg-config file say that the library is not proved, if and only if it is not.
+# Argument: the folder.
+says_unproved() {
+    local expected=0 said
+    [ "$out" = out/try ] && expected=2
+    said=$(grep -l -e 'NOT PROVED' -e ', not proved$' "$1/include/cedar.h" "$1/lib/pkgconfig/cedar.pc" | wc -l)
+    if [ "$said" = "$expected" ] &&
+        [ "$(grep -c '^#define CEDAR_UNPROVED' "$1/include/cedar.h")" = $((expected / 2)) ]; then
+        passed=$((passed + 1))
+    else
+        fault "the installed files do not say correctly whether the library is proved"
     fi
 }
 

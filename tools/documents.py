@@ -174,7 +174,7 @@ def check_crates():
         check(f'{page} does not list {sorted(expected - named)} of crates.txt', expected <= named)
         check(f'{page} lists {sorted(named - all_names)}, which are not in crates.txt', named <= all_names)
     # names that look like crates, but are functions of the library for C
-    exports = set(re.findall(r'\b(cedar_\w+)\(', read('callers/c/cedar.h')))
+    exports = set(re.findall(r'\b(cedar_\w+)\(', ''.join(map(read, glob.glob('callers/c/cedar/*.h')))))
     for page in ('README.md', 'CONTRIBUTING.md', 'docs/ARCHITECTURE.md', 'docs/PROVED.md', 'docs/GUIDE.md'):
         named = set(re.findall(r'`(cedar_\w+)`', read(page))) - all_names - exports
         check(f'{page} names {sorted(named)}, which are not crates', not named)

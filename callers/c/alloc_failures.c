@@ -47,7 +47,7 @@ static content sample_content(void) {
     return c;
 }
 
-static uint32_t build_sample(cedar_store *s) {
+static cedar_status build_sample(cedar_store *s) {
     content c = sample_content();
     return cedar_store_build_with(s, CONTENT(c), CEDAR_COMPUTE);
 }
@@ -103,17 +103,17 @@ static void free_handles(handles *h) {
 /* ---- the calls that allocate */
 
 #define CALL(name, expression)                                                                                         \
-    static uint32_t name(handles *h) {                                                                                 \
+    static cedar_status name(handles *h) {                                                                                 \
         (void)h;                                                                                                       \
         return expression;                                                                                             \
     }
 
 /* Returns 99 if a result was written after an error, or a wrong result was written. */
-static uint32_t check_bool(uint32_t status, bool result, bool expected) {
+static cedar_status check_bool(cedar_status status, bool result, bool expected) {
     return result == (!status && expected) ? status : 99;
 }
 
-static uint32_t run_program(handles *h) {
+static cedar_status run_program(handles *h) {
     const char *expected = "ok 1\nanc\t" U("b") "\nok\nok\nok\nbodies\tt\npolicies\tl\n";
     const char *input =
         "ent\t" U("a") "\t" U("b") "\nbuild\nanc\t" U("a") "\ntemplate\tt\tprincipal\n"
@@ -122,130 +122,130 @@ static uint32_t run_program(handles *h) {
     size_t length = 0;
     uint32_t exit_status = 9;
     (void)h;
-    uint32_t status = cedar_run(TEXT(input), 1, 2, out, sizeof out, &length, &exit_status);
+    cedar_status status = cedar_run(TEXT(input), 1, 2, out, sizeof out, &length, &exit_status);
     if (status == CEDAR_OK && (length != strlen(expected) || memcmp(out, expected, length) || exit_status != 0))
         return 99;
     return status;
 }
 
-static uint32_t query_has(handles *h) {
+static cedar_status query_has(handles *h) {
     bool result = false;
-    uint32_t status = cedar_store_has(&h->s, TEXT(U("a")), &result);
+    cedar_status status = cedar_store_has(&h->s, TEXT(U("a")), &result);
     return check_bool(status, result, true);
 }
 
-static uint32_t query_descendant(handles *h) {
+static cedar_status query_descendant(handles *h) {
     bool result = false;
-    uint32_t status = cedar_store_is_descendant_of(&h->s, TEXT(U("a")), TEXT(U("c")), &result);
+    cedar_status status = cedar_store_is_descendant_of(&h->s, TEXT(U("a")), TEXT(U("c")), &result);
     return check_bool(status, result, true);
 }
 
 /* Repeats a query until the handle caches it: a failed allocation of the cache is not an error of the query. */
-static uint32_t query_until_cached(handles *h) {
-    uint32_t status = CEDAR_OK;
+static cedar_status query_until_cached(handles *h) {
+    cedar_status status = CEDAR_OK;
     for (int i = 0; i < 12 && status == CEDAR_OK; i++) status = query_descendant(h);
     return status;
 }
 
-static uint32_t make_uid(handles *h) {
+static cedar_status make_uid(handles *h) {
     uint8_t out[16];
     size_t length = 9;
     (void)h;
-    uint32_t status = cedar_uid_make(TEXT("A::B"), TEXT("it's"), out, sizeof out, &length);
+    cedar_status status = cedar_uid_make(TEXT("A::B"), TEXT("it's"), out, sizeof out, &length);
     if (status == CEDAR_OK && (length != 13 || memcmp(out, "A::B::\"it\\'s\"", 13))) return 99;
     return status;
 }
 
-static uint32_t split_uid(handles *h) {
+static cedar_status split_uid(handles *h) {
     uint8_t out[16];
     size_t type_len = 9, length = 9;
     (void)h;
-    uint32_t status = cedar_uid_parts(TEXT("A::B::\"it\\'s\""), out, sizeof out, &type_len, &length);
+    cedar_status status = cedar_uid_parts(TEXT("A::B::\"it\\'s\""), out, sizeof out, &type_len, &length);
     if (status == CEDAR_OK && (type_len != 4 || length != 8 || memcmp(out, "A::Bit's", 8))) return 99;
     return status;
 }
 
-static uint32_t query_child(handles *h) {
+static cedar_status query_child(handles *h) {
     bool result = false;
-    uint32_t status = cedar_store_is_child_of(&h->s, TEXT(U("a")), TEXT(U("b")), &result);
+    cedar_status status = cedar_store_is_child_of(&h->s, TEXT(U("a")), TEXT(U("b")), &result);
     return check_bool(status, result, true);
 }
 
-static uint32_t query_indirect_descendant(handles *h) {
+static cedar_status query_indirect_descendant(handles *h) {
     bool result = false;
-    uint32_t status = cedar_store_is_indirect_descendant_of(&h->s, TEXT(U("a")), TEXT(U("c")), &result);
+    cedar_status status = cedar_store_is_indirect_descendant_of(&h->s, TEXT(U("a")), TEXT(U("c")), &result);
     return check_bool(status, result, true);
 }
 
-static uint32_t compare_entities(handles *h) {
+static cedar_status compare_entities(handles *h) {
     bool result = false;
-    uint32_t status = cedar_store_entity_equal(&h->s, TEXT(U("a")), &h->t, &result);
+    cedar_status status = cedar_store_entity_equal(&h->s, TEXT(U("a")), &h->t, &result);
     return check_bool(status, result, false);
 }
 
 /* Returns 99 if a number was written after an error, or a wrong number was written. */
-static uint32_t check_number(uint32_t status, size_t result, size_t expected) {
+static cedar_status check_number(cedar_status status, size_t result, size_t expected) {
     return result == (status ? 9 : expected) ? status : 99;
 }
 
-static uint32_t assign_number(handles *h) {
+static cedar_status assign_number(handles *h) {
     size_t result = 9;
-    uint32_t status = cedar_store_uid_number(&h->s, TEXT(U("c")), &result);
+    cedar_status status = cedar_store_uid_number(&h->s, TEXT(U("c")), &result);
     return check_number(status, result, 1);
 }
 
-static uint32_t assign_number_of_new_type(handles *h) {
+static cedar_status assign_number_of_new_type(handles *h) {
     size_t result = 9;
-    uint32_t status = cedar_store_uid_number(&h->s, TEXT("B::C::\"c\""), &result);
+    cedar_status status = cedar_store_uid_number(&h->s, TEXT("B::C::\"c\""), &result);
     return check_number(status, result, 1);
 }
 
-static uint32_t get_number(handles *h) {
+static cedar_status get_number(handles *h) {
     size_t result = 9;
-    uint32_t status = cedar_store_uid_number(&h->s, TEXT(U("a")), &result);
+    cedar_status status = cedar_store_uid_number(&h->s, TEXT(U("a")), &result);
     return check_number(status, result, 0);
 }
 
-static uint32_t look_up_entity(handles *h) {
-    uint32_t result = 9;
-    uint32_t status = cedar_store_entity(&h->s, TEXT(U("a")), &result);
+static cedar_status look_up_entity(handles *h) {
+    cedar_found result = (cedar_found)9;
+    cedar_status status = cedar_store_entity(&h->s, TEXT(U("a")), &result);
     return check_number(status, result, 2);
 }
 
-static uint32_t look_up_unknown(handles *h) {
-    uint32_t result = 9;
-    uint32_t status = cedar_store_entity(&h->t, TEXT(U("q")), &result);
+static cedar_status look_up_unknown(handles *h) {
+    cedar_found result = (cedar_found)9;
+    cedar_status status = cedar_store_entity(&h->t, TEXT(U("q")), &result);
     return check_number(status, result, 1);
 }
 
-static uint32_t count_attributes(handles *h) {
+static cedar_status count_attributes(handles *h) {
     size_t result = 9;
-    uint32_t status = cedar_store_attrs_len(&h->s, TEXT(U("a")), &result);
+    cedar_status status = cedar_store_attrs_len(&h->s, TEXT(U("a")), &result);
     return check_number(status, result, 1);
 }
 
-static uint32_t count_tags(handles *h) {
+static cedar_status count_tags(handles *h) {
     size_t result = 9;
-    uint32_t status = cedar_store_tags_len(&h->s, TEXT(U("a")), &result);
+    cedar_status status = cedar_store_tags_len(&h->s, TEXT(U("a")), &result);
     return check_number(status, result, 1);
 }
 
-static uint32_t get_value(handles *h) {
+static cedar_status get_value(handles *h) {
     bool has = false;
-    uint32_t status = cedar_store_get(&h->s, TEXT(U("a")), TEXT("k"), &has);
+    cedar_status status = cedar_store_get(&h->s, TEXT(U("a")), TEXT("k"), &has);
     if (status == CEDAR_OK && !IS(store_value(&h->s), "'x '10.0.0.1 ip(1 'y 'z @b {2 [2")) return 99;
     return check_bool(status, has, true);
 }
 
-static uint32_t get_absent_value(handles *h) {
+static cedar_status get_absent_value(handles *h) {
     bool has = false;
-    uint32_t status = cedar_store_get(&h->s, TEXT(U("b")), TEXT("k"), &has);
+    cedar_status status = cedar_store_get(&h->s, TEXT(U("b")), TEXT("k"), &has);
     return check_bool(status, has, false);
 }
 
-static uint32_t get_tag(handles *h) {
+static cedar_status get_tag(handles *h) {
     bool has = false;
-    uint32_t status = cedar_store_get_tag(&h->s, TEXT(U("a")), TEXT("k"), &has);
+    cedar_status status = cedar_store_get_tag(&h->s, TEXT(U("a")), TEXT("k"), &has);
     return check_bool(status, has, true);
 }
 
@@ -261,78 +261,78 @@ static content more_content(const char *spec) {
     return c;
 }
 
-static uint32_t build_content(handles *h) {
+static cedar_status build_content(handles *h) {
     content c = more_content("a b;b c;c de;f");
     return cedar_store_build_with(&h->s, CONTENT(c), CEDAR_COMPUTE);
 }
 
-static uint32_t build_content_cycle(handles *h) {
+static cedar_status build_content_cycle(handles *h) {
     content c = more_content("a b;b a");
     return cedar_store_build_with(&h->s, CONTENT(c), CEDAR_COMPUTE);
 }
 
-static uint32_t build_invalid_name(handles *h) {
+static cedar_status build_invalid_name(handles *h) {
     content c = more_content("a b;b a");
     push_term(&c, 0, 0, "k", "'x 'y 1f(1 {2");
     return cedar_store_build_with(&h->s, CONTENT(c), CEDAR_COMPUTE);
 }
 
-static uint32_t add_content(handles *h) {
+static cedar_status add_content(handles *h) {
     content c = more_content("y x;z y");
     return cedar_store_add_with(&h->s, CONTENT(c), CEDAR_COMPUTE);
 }
 
-static uint32_t add_content_duplicate(handles *h) {
+static cedar_status add_content_duplicate(handles *h) {
     content c = more_content("a b");
     return cedar_store_add_with(&h->s, CONTENT(c), CEDAR_COMPUTE);
 }
 
-static uint32_t upsert_content(handles *h) {
+static cedar_status upsert_content(handles *h) {
     content c = more_content("b d;y b");
     return cedar_store_upsert_with(&h->s, CONTENT(c), CEDAR_COMPUTE);
 }
 
-static uint32_t get_kind(handles *h) {
-    uint32_t result = 9;
-    uint32_t status = cedar_policies_get(&h->p, TEXT("l"), &result);
+static cedar_status get_kind(handles *h) {
+    cedar_bound result = (cedar_bound)9;
+    cedar_status status = cedar_policies_get(&h->p, TEXT("l"), &result);
     return check_number(status, result, 2);
 }
 
-static uint32_t get_effect(handles *h) {
-    uint32_t result = 9;
-    uint32_t status = cedar_policies_effect(&h->p, TEXT("l"), &result);
+static cedar_status get_effect(handles *h) {
+    cedar_effect result = (cedar_effect)9;
+    cedar_status status = cedar_policies_effect(&h->p, TEXT("l"), &result);
     return check_number(status, result, 0);
 }
 
-static uint32_t get_slots(handles *h) {
+static cedar_status get_slots(handles *h) {
     uint32_t result = 9;
-    uint32_t status = cedar_policies_slots(&h->p, TEXT("t"), &result);
+    cedar_status status = cedar_policies_slots(&h->p, TEXT("t"), &result);
     return check_number(status, result, 5);
 }
 
-static uint32_t get_annotation(handles *h) {
+static cedar_status get_annotation(handles *h) {
     bool result = true;
-    uint32_t status = cedar_policies_annotation(&h->p, TEXT("a"), TEXT("key"), &result);
+    cedar_status status = cedar_policies_annotation(&h->p, TEXT("a"), TEXT("key"), &result);
     return result == (status != CEDAR_OK) ? status : 99;
 }
 
-static uint32_t add_full_static(handles *h) {
+static cedar_status add_full_static(handles *h) {
     policy_body g = full_body();
     return insert_static_body(&h->p, "new", &g);
 }
 
-static uint32_t add_full_template(handles *h) {
+static cedar_status add_full_template(handles *h) {
     policy_body g = full_body();
     return insert_template_body(&h->p, "new", &g);
 }
 
-static uint32_t add_full_occupied(handles *h) {
+static cedar_status add_full_occupied(handles *h) {
     policy_body g = full_body();
     return insert_template_body(&h->p, "a", &g);
 }
 
 /* Adds each kind of constraint that allocates and is not in the whole body, and slots. */
-static uint32_t add_slots(handles *h) {
+static cedar_status add_slots(handles *h) {
     policy_body g = empty_body();
     g.body.principal = push_scope(&g, 3, U("a"), "");
     g.body.action = push_scope(&g, 1, U("a"), "");
@@ -341,57 +341,57 @@ static uint32_t add_slots(handles *h) {
     return insert_template_body(&h->p, "new", &g);
 }
 
-static uint32_t add_slot_as_static(handles *h) {
+static cedar_status add_slot_as_static(handles *h) {
     policy_body g = empty_body();
     g.body.principal = push_scope(&g, 5, "", "B::C");
     push_nodes(&g.c, "?0 $0 <");
     return insert_static_body(&h->p, "new", &g);
 }
 
-static uint32_t add_invalid_name(handles *h) {
+static cedar_status add_invalid_name(handles *h) {
     policy_body g = full_body();
     g.body.principal.type = push_part(&g, "B::");
     return insert_static_body(&h->p, "new", &g);
 }
 
-static uint32_t get_scope(handles *h) {
-    uint32_t kind = 9;
-    uint32_t status = cedar_policies_scope(&h->p, TEXT("l"), 0, &kind);
+static cedar_status get_scope(handles *h) {
+    cedar_scope_kind kind = (cedar_scope_kind)9;
+    cedar_status status = cedar_policies_scope(&h->p, TEXT("l"), 0, &kind);
     return check_number(status, kind, 1);
 }
 
-static uint32_t get_action_scope(handles *h) {
-    uint32_t kind = 9;
-    uint32_t status = cedar_policies_scope(&h->p, TEXT("w"), 1, &kind);
+static cedar_status get_action_scope(handles *h) {
+    cedar_scope_kind kind = (cedar_scope_kind)9;
+    cedar_status status = cedar_policies_scope(&h->p, TEXT("w"), 1, &kind);
     return check_number(status, kind, 3);
 }
 
-static uint32_t get_resource_scope(handles *h) {
-    uint32_t kind = 9;
-    uint32_t status = cedar_policies_scope(&h->p, TEXT("t"), 2, &kind);
+static cedar_status get_resource_scope(handles *h) {
+    cedar_scope_kind kind = (cedar_scope_kind)9;
+    cedar_status status = cedar_policies_scope(&h->p, TEXT("t"), 2, &kind);
     return check_number(status, kind, 2);
 }
 
-static uint32_t get_clause(handles *h) {
+static cedar_status get_clause(handles *h) {
     bool has = false;
-    uint32_t status = cedar_policies_clause(&h->p, TEXT("w"), &has);
+    cedar_status status = cedar_policies_clause(&h->p, TEXT("w"), &has);
     return check_bool(status, has, true);
 }
 
-static uint32_t get_absent_clause(handles *h) {
+static cedar_status get_absent_clause(handles *h) {
     bool has = false;
-    uint32_t status = cedar_policies_clause(&h->p, TEXT("a"), &has);
+    cedar_status status = cedar_policies_clause(&h->p, TEXT("a"), &has);
     return check_bool(status, has, false);
 }
 
 CALL(get_condition, cedar_policies_condition(&h->p, TEXT("w")))
 CALL(check_uid, cedar_uid_check(TEXT("A::B::\"a\"")))
 CALL(check_invalid_uid, cedar_uid_check(TEXT("A::B::\"\\n\\q\"")))
-static uint32_t check_uids(handles *h) {
+static cedar_status check_uids(handles *h) {
     static const cedar_span two[2] = {{0, 6}, {6, 12}};
     size_t place = 5;
     (void)h;
-    uint32_t status = cedar_uids_check(TEXT(U("a") U("b")), two, 2, &place);
+    cedar_status status = cedar_uids_check(TEXT(U("a") U("b")), two, 2, &place);
     return status == CEDAR_OK && place != 5 ? 99 : status;
 }
 
@@ -466,7 +466,7 @@ CALL(copy_set_deep, cedar_policies_deep_copy(&h->p, &h->q))
 CALL(merge_sets_deep, cedar_policies_merge_deep_copy(&h->p, &h->q, true))
 CALL(merge_deep_without_renaming, cedar_policies_merge_deep_copy(&h->p, &h->q, false))
 
-typedef uint32_t (*call)(handles *);
+typedef cedar_status (*call)(handles *);
 
 static const call CALLS[] = {
     run_program,
@@ -669,12 +669,12 @@ static bool are_equal(handles *h, handles *after) {
 }
 
 /* Makes a call with its n-th allocation failing. Returns whether there was an n-th allocation. */
-static bool call_with_failure(size_t k, long n, uint32_t expected, handles *before, handles *after) {
+static bool call_with_failure(size_t k, long n, cedar_status expected, handles *before, handles *after) {
     handles h;
     set_up(&h);
     requests_until_failure = n;
     failed_requests = 0;
-    uint32_t status = CALLS[k](&h);
+    cedar_status status = CALLS[k](&h);
     requests_until_failure = 0;
     bool has_failed = failed_requests > 0;
     if (has_failed && status == CEDAR_NO_MEMORY) {
@@ -696,7 +696,7 @@ static void fail_each_allocation(size_t k) {
     handles before, after;
     set_up(&before);
     set_up(&after);
-    uint32_t expected = CALLS[k](&after);
+    cedar_status expected = CALLS[k](&after);
     CHECK(expected != CEDAR_NO_MEMORY && expected != 99);
     long n = 1;
     while (call_with_failure(k, n, expected, &before, &after)) n++;
@@ -708,7 +708,7 @@ static void fail_each_allocation(size_t k) {
 
 /* ---- edits of a partial store */
 
-static uint32_t edit(cedar_store *s, int edit_kind) {
+static cedar_status edit(cedar_store *s, int edit_kind) {
     if (edit_kind == 0) return add(s, "x y", CEDAR_COMPUTE);
     if (edit_kind == 1) return upsert(s, "y x", CEDAR_COMPUTE);
     return remove_uids(s, "y", CEDAR_COMPUTE);
@@ -724,7 +724,7 @@ static long emptied_by(int edit_kind) {
         CHECK(cedar_store_partial(&s) == CEDAR_OK);
         requests_until_failure = n;
         failed_requests = 0;
-        uint32_t status = edit(&s, edit_kind);
+        cedar_status status = edit(&s, edit_kind);
         requests_until_failure = 0;
         CHECK(status == CEDAR_OK || (status == CEDAR_NO_MEMORY && failed_requests > 0));
         CHECK(is_partial(&s) == 1);
@@ -747,7 +747,7 @@ static void calls_that_do_not_allocate(void) {
     requests_until_failure = 1;
     requests = 0;
     CHECK(cedar_store_partial(&h.s) == CEDAR_OK && is_partial(&h.s) == 1);
-    CHECK(cedar_version() == CEDAR_VERSION && cedar_status_text(CEDAR_OCCUPIED, out, sizeof out) == 8);
+    CHECK(cedar_version() == CEDAR_VERSION && cedar_status_copy_text(CEDAR_OCCUPIED, out, sizeof out) == 8);
     CHECK(cedar_store_len(&h.s) == 3 && equal(&h.s, &h.t) == 0);
     CHECK(cedar_store_has_number(&h.s, 0, &result) == CEDAR_OK && result);
     CHECK(cedar_store_is_descendant_of_numbers(&h.s, 0, 0, &result) == CEDAR_OK && !result);

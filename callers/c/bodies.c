@@ -164,7 +164,7 @@ static void each_kind_of_clause(void) {
         policy_body g = empty_body();
         push_nodes(&g.c, words);
         CHECK(new_set(&p) == CEDAR_OK);
-        uint32_t status = insert_static_body(&p, "s", &g);
+        cedar_status status = insert_static_body(&p, "s", &g);
         snprintf(status_text, sizeof status_text, "%u", (unsigned)status);
         snprintf(expected_body, sizeof expected_body,
                  "permit(\n  principal,\n  action,\n  resource\n) when {\n  %s\n};", expected);
@@ -196,8 +196,8 @@ static void too_many_levels(void) {
 /* ---- invalid arguments */
 
 /* Returns the status of both calls. Checks that they leave the set and the text of the last error unchanged. */
-static uint32_t fails_with_both_calls(cedar_policies *p, const char *id, const policy_body *g) {
-    uint32_t status = insert_static_body(p, id, g);
+static cedar_status fails_with_both_calls(cedar_policies *p, const char *id, const policy_body *g) {
+    cedar_status status = insert_static_body(p, id, g);
     CHECK(insert_template_body(p, id, g) == status && IS(set_error(p), "occupied a"));
     CHECK(cedar_policies_ids(p, 0) == CEDAR_OK && IS(set_result(p), ",a"));
     return status;

@@ -25,7 +25,7 @@ static inline policy_body empty_body(void) {
 
 static inline cedar_span push_part(policy_body *g, const char *text) { return push_bytes(&g->c, text, strlen(text)); }
 
-static inline cedar_scope push_scope(policy_body *g, uint32_t kind, const char *uid, const char *type) {
+static inline cedar_scope push_scope(policy_body *g, cedar_scope_kind kind, const char *uid, const char *type) {
     cedar_span at = push_part(g, uid);
     return (cedar_scope){kind, at, push_part(g, type)};
 }
@@ -53,28 +53,28 @@ static inline policy_body full_body(void) {
 
 /* ---- short forms of the calls */
 
-static inline uint32_t insert_static_body(cedar_policies *p, const char *id, const policy_body *g) {
+static inline cedar_status insert_static_body(cedar_policies *p, const char *id, const policy_body *g) {
     return cedar_policies_add_static_with(p, TEXT(id), LISTS(*g));
 }
 
-static inline uint32_t insert_template_body(cedar_policies *p, const char *id, const policy_body *g) {
+static inline cedar_status insert_template_body(cedar_policies *p, const char *id, const policy_body *g) {
     return cedar_policies_add_template_with(p, TEXT(id), LISTS(*g));
 }
 
 /* Returns the text of a template or of a static policy, or the status. */
 static inline const char *body_text(cedar_policies *p, const char *id) {
     static char status_text[16];
-    uint32_t status = cedar_policies_template_text(p, TEXT(id));
+    cedar_status status = cedar_policies_template_text(p, TEXT(id));
     snprintf(status_text, sizeof status_text, "%u", (unsigned)status);
     return status ? status_text : set_result(p) + 1;
 }
 
 /* Returns a constraint of the principal (0), the action (1) or the resource (2): its kind and its texts, with a
  * comma before each text; or the status. */
-static inline const char *scope_text(cedar_policies *p, const char *id, uint32_t variable) {
+static inline const char *scope_text(cedar_policies *p, const char *id, cedar_variable variable) {
     static char out[CAPACITY + 16];
-    uint32_t kind = 9;
-    uint32_t status = cedar_policies_scope(p, TEXT(id), variable, &kind);
+    cedar_scope_kind kind = (cedar_scope_kind)9;
+    cedar_status status = cedar_policies_scope(p, TEXT(id), variable, &kind);
     if (status) {
         snprintf(out, sizeof out, "status %u", (unsigned)(kind == 9 ? status : 99));
     } else {
@@ -99,7 +99,7 @@ static inline const char *set_expr(cedar_policies *p) {
 static inline const char *clause_of(cedar_policies *p, const char *id) {
     static char status_text[16];
     bool has = false;
-    uint32_t status = cedar_policies_clause(p, TEXT(id), &has);
+    cedar_status status = cedar_policies_clause(p, TEXT(id), &has);
     snprintf(status_text, sizeof status_text, "%u", (unsigned)(has && status ? 99 : status));
     return status ? status_text : has ? set_expr(p) : "none";
 }

@@ -40,7 +40,7 @@ static void uid_texts(void) {
 static const char *first_invalid_uid(const char *text, const cedar_span *uids, size_t uids_len) {
     static char out[32];
     size_t place = 99;
-    uint32_t status = cedar_uids_check(TEXT(text), uids, uids_len, &place);
+    cedar_status status = cedar_uids_check(TEXT(text), uids, uids_len, &place);
     snprintf(out, sizeof out, "%u at %u", (unsigned)status, (unsigned)place);
     return out;
 }
@@ -58,7 +58,7 @@ static void uid_lists(void) {
 }
 
 /* Returns the names in the text of an error, each in brackets. */
-static const char *names_in_error(uint32_t status, const char *text) {
+static const char *names_in_error(cedar_status status, const char *text) {
     static char out[160];
     cedar_span part;
     size_t at = 0, place = 0;
@@ -98,7 +98,7 @@ static const char *make_uid(const char *type, const char *id, size_t capacity) {
     uint8_t text[64];
     size_t length = 99;
     memset(text, '.', sizeof text);
-    uint32_t status = cedar_uid_make(TEXT(type), TEXT(id), text, capacity, &length);
+    cedar_status status = cedar_uid_make(TEXT(type), TEXT(id), text, capacity, &length);
     snprintf(out, sizeof out, "%.*s %u", (int)(length < capacity ? length + 1 : capacity + 1), (char *)text,
              (unsigned)(status ? 100 + status : length));
     return out;
@@ -136,17 +136,18 @@ static void versions_and_status_texts(void) {
     uint8_t out[16];
     CHECK(cedar_version() == CEDAR_VERSION);
     memset(out, '.', sizeof out);
-    CHECK(cedar_status_text(CEDAR_OK, out, 16) == 2 && !memcmp(out, "ok.", 3));
-    CHECK(cedar_status_text(CEDAR_NOT_A_UID, out, 16) == 9 && !memcmp(out, "not a uid.", 10));
-    CHECK(cedar_status_text(CEDAR_NOT_A_NAME, out, 5) == 10 && !memcmp(out, "not a uid.", 10));
-    CHECK(cedar_status_text(CEDAR_TOO_DEEP, out, 0) == 8 && cedar_status_text(CEDAR_SLOTLESS_LINK, out, 0) == 18);
-    CHECK(cedar_status_text(CEDAR_STATUSES, out, 16) == 0 && !*cedar_status_words((cedar_status)CEDAR_STATUSES));
-    CHECK(cedar_status_text(1000, out, 16) == 0 && cedar_status_text(UINT32_MAX, out, 16) == 0);
+    CHECK(cedar_status_copy_text(CEDAR_OK, out, 16) == 2 && !memcmp(out, "ok.", 3));
+    CHECK(cedar_status_copy_text(CEDAR_NOT_A_UID, out, 16) == 9 && !memcmp(out, "not a uid.", 10));
+    CHECK(cedar_status_copy_text(CEDAR_NOT_A_NAME, out, 5) == 10 && !memcmp(out, "not a uid.", 10));
+    CHECK(cedar_status_copy_text(CEDAR_TOO_DEEP, out, 0) == 8);
+    CHECK(cedar_status_copy_text(CEDAR_SLOTLESS_LINK, out, 0) == 18);
+    CHECK(cedar_status_copy_text(CEDAR_STATUSES, out, 16) == 0 && !*cedar_status_words((cedar_status)CEDAR_STATUSES));
+    CHECK(cedar_status_copy_text(1000, out, 16) == 0 && cedar_status_copy_text(UINT32_MAX, out, 16) == 0);
     CHECK(!memcmp(out, "not a uid.", 10));
     for (uint32_t status = 0; status < CEDAR_STATUSES; status++) {
         const char *words = cedar_status_words((cedar_status)status), *name = cedar_status_name((cedar_status)status);
         uint8_t text[64];
-        size_t len = cedar_status_text(status, text, sizeof text);
+        size_t len = cedar_status_copy_text(status, text, sizeof text);
         CHECK(len == strlen(words) && !memcmp(text, words, len) && !strncmp(name, "CEDAR_", 6));
     }
 }

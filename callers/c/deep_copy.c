@@ -96,7 +96,7 @@ static void begin_phases(void) {
 /* A uid with a namespace, and with non-ASCII characters in its eid. */
 #define UNUSUAL_UID "N::s::T::\"\\u{301}\xc3\xa9\\\"\""
 
-static uint32_t add_unusual_entity(cedar_store *s) {
+static cedar_status add_unusual_entity(cedar_store *s) {
     content c = with_entities("");
     c.l.count = push_text(&c.l, UNUSUAL_UID) + 1;
     c.l.edges[c.l.edges_len++] = (cedar_edge){0, push_text(&c.l, U("a"))};
@@ -108,14 +108,14 @@ static uint32_t add_unusual_entity(cedar_store *s) {
     return cedar_store_add_with(s, CONTENT(c), CEDAR_COMPUTE);
 }
 
-static uint32_t build_full_store(cedar_store *s) {
+static cedar_status build_full_store(cedar_store *s) {
     content c = with_entities("a b;b c;x ac;c");
     push_term(&c, 0, 0, "k", "'x '10.0.0.1 ip(1 'y 'z @b {2 [2");
     push_term(&c, 0, 0, "", "'n 2 'r 'm 3 [1 [2");
     push_term(&c, 0, 1, "k", "'User ~u:1 $0 = @c ^User & *");
     push_term(&c, 2, 0, "l", "'\xc3\xa9");
     push_term(&c, 3, 1, "t", "@a");
-    uint32_t status = new_store(s);
+    cedar_status status = new_store(s);
     if (!status) status = cedar_store_build_with(s, CONTENT(c), CEDAR_COMPUTE);
     return status ? status : add_unusual_entity(s);
 }
@@ -198,13 +198,13 @@ static void errors_of_store_copies(void) {
 /* ---- a policy set with every kind of content */
 
 /* Builds a set in which links come both before and after static policies. */
-static uint32_t build_full_set(cedar_policies *p) {
+static cedar_status build_full_set(cedar_policies *p) {
     policy_body full = full_body(), slots = empty_body();
     slots.body.principal = push_scope(&slots, 7, "", "N::User");
     slots.body.action = push_scope(&slots, 4, "", "");
     slots.body.resource = push_scope(&slots, 2, "", "");
     push_annotation(&slots, "if", "\xc3\xa9\"");
-    uint32_t status = new_set(p);
+    cedar_status status = new_set(p);
     if (!status) status = add_static(p, "s", 1);
     if (!status) status = insert_template_body(p, "t", &slots);
     if (!status) status = link_id(p, "t", "l", UNUSUAL_UID, "Action::\"x\"", U("r"));
@@ -263,7 +263,7 @@ static void deep_merges_share_nothing(void) {
         current_phase = 2;
         CHECK(new_set(&p) == CEDAR_OK && add_static(&p, "s", 0) == CEDAR_OK && add_template(&p, "o", 1) == CEDAR_OK);
         CHECK(link_id(&p, "o", "policy0", U("a"), "", "") == CEDAR_OK && cedar_policies_copy(&p, &r) == CEDAR_OK);
-        uint32_t (*merge)(cedar_policies *, cedar_policies *, bool) =
+        cedar_status (*merge)(cedar_policies *, cedar_policies *, bool) =
             deep ? cedar_policies_merge_deep_copy : cedar_policies_merge;
         CHECK(merge(&p, &q, false) == CEDAR_OCCUPIED && sets_equal(&p, &r) == 1);
         CHECK(strstr(set_error(&p), " s"));
@@ -363,6 +363,48 @@ static void threads_use_their_own_copies(void) {
     cedar_policies_free(&p);
 }
 
+/* ---- handles that share, used by several threads, one at a time */
+
+static pthread_mutex_t group = PTHREAD_MUTEX_INITIALIZER;
+
+/* A store, its copy and its slice, which share entities, and the errors of all threads. The mutex guards them. */
+static struct {
+    cedar_store s, copy, part;
+    cedar_policies p;
+    unsigned errors;
+} shared;
+
+/* Reads, edits and copies handles that share, and frees one of them, each time with the mutex. */
+static void *use_shared_handles(void *unused) {
+    cedar_store own = {0};
+    (void)unused;
+    for (int round = 0; round < 20; round++) {
+        pthread_mutex_lock(&group);
+        shared.errors += is_descendant(&shared.s, U("a"), U("c")) != 1 || !is_full_set(&shared.p);
+        shared.errors += upsert(&shared.copy, round % 2 ? "a" : "a b", CEDAR_COMPUTE) != CEDAR_OK;
+        shared.errors += slice(&shared.s, &shared.part, "x") != CEDAR_OK || cedar_store_copy(&shared.copy, &own);
+        pthread_mutex_unlock(&group);
+        pthread_mutex_lock(&group);
+        shared.errors += has(&own, U("c")) != 1 || has(&shared.part, U("a")) != 1;
+        cedar_store_free(&own);
+        pthread_mutex_unlock(&group);
+    }
+    return NULL;
+}
+
+static void threads_share_handles_one_at_a_time(void) {
+    pthread_t threads[THREADS];
+    CHECK(build_full_store(&shared.s) == CEDAR_OK && build_full_set(&shared.p) == CEDAR_OK);
+    CHECK(cedar_store_copy(&shared.s, &shared.copy) == CEDAR_OK);
+    for (int k = 0; k < THREADS; k++) CHECK(pthread_create(&threads[k], NULL, use_shared_handles, NULL) == 0);
+    for (int k = 0; k < THREADS; k++) CHECK(pthread_join(threads[k], NULL) == 0);
+    CHECK(shared.errors == 0 && is_full_store(&shared.s));
+    cedar_store_free(&shared.s);
+    cedar_store_free(&shared.copy);
+    cedar_store_free(&shared.part);
+    cedar_policies_free(&shared.p);
+}
+
 int main(void) {
     copies_of_stores_share_nothing();
     errors_of_store_copies();
@@ -370,5 +412,6 @@ int main(void) {
     deep_merges_share_nothing();
     errors_of_set_copies();
     threads_use_their_own_copies();
+    threads_share_handles_one_at_a_time();
     return report_counts();
 }

@@ -1,25 +1,29 @@
 /* Who may enter: a store of twenty lines. */
 #include "cedar.h"
 #include <stdio.h>
-#include <string.h>
 #include <sys/random.h>
 
+#define ALICE "User::\"alice\""
+#define ALL "Group::\"all\""
+
 int main(void) {
-    const char *uids = "User::\"alice\"Group::\"staff\"Group::\"all\"";
-    const uint8_t *text = (const uint8_t *)uids;
-    const cedar_span parts[] = {{0, 13}, {13, 27}, {27, 39}};
-    const cedar_edge edges[] = {{0, 1}, {1, 2}}; /* alice is a child of staff, and staff of all */
     uint64_t key[2];
-    uint8_t out[64];
     bool is_descendant = false;
-    cedar_store store = {0};
+    cedar_store store = CEDAR_EMPTY;
+    cedar_list list = CEDAR_EMPTY;
+    cedar_texts ancestors = CEDAR_EMPTY;
     if (getrandom(key, sizeof key, 0) != sizeof key) return 1;
-    uint32_t status = cedar_store_new(&store, key[0], key[1]);
-    if (!status) status = cedar_store_build(&store, text, strlen(uids), parts, 3, 2, edges, 2, CEDAR_COMPUTE);
-    if (!status) status = cedar_store_is_descendant_of(&store, text, 13, text + 27, 12, &is_descendant);
-    if (!status) status = cedar_store_ancestors(&store, text, 13);
-    int length = (int)cedar_store_answer(&store, 0, out, sizeof out);
-    printf("%u %d %.*s\n", status, is_descendant, length, (const char *)out);
+    size_t alice = cedar_list_uid(&list, "User", "alice"), staff = cedar_list_uid(&list, "Group", "staff");
+    cedar_list_parent(&list, alice, staff);
+    cedar_list_parent(&list, staff, cedar_list_uid(&list, "Group", "all"));
+    cedar_status status = cedar_store_new(&store, key[0], key[1]);
+    if (!status) status = cedar_store_build_list(&store, &list, CEDAR_COMPUTE);
+    if (!status) status = cedar_store_is_descendant_of(&store, CEDAR_TEXT(ALICE), CEDAR_TEXT(ALL), &is_descendant);
+    if (!status) status = cedar_store_ancestor_texts(&store, ALICE, &ancestors);
+    printf("%s %d\n", cedar_status_name(status), is_descendant);
+    for (const char *uid; (uid = cedar_texts_next(&ancestors, NULL));) printf("%s\n", uid);
+    cedar_texts_free(&ancestors);
+    cedar_list_free(&list);
     cedar_store_free(&store);
     return status != CEDAR_OK;
 }

@@ -1,8 +1,6 @@
 /* Ten tasks of an authorizer or an administration service. docs/GUIDE.md quotes most of these functions. */
 #include "cedar.h"
-#include <assert.h>
 #include <stdio.h>
-#include <string.h>
 #include <sys/random.h>
 
 #define ALICE "User::\"alice\""
@@ -17,146 +15,126 @@
 
 static uint64_t key[2];
 
-/* The two arguments of a call for a text, and a list of uids: one text and the span of each uid in it. */
-#define TEXT(text) (const uint8_t *)(text), strlen(text)
-#define LIST(...) list_of((const char *const[]){__VA_ARGS__, NULL})
-#define PARTS(l) (l).text, (l).text_len, (l).parts, (l).count
-
-typedef struct list {
-    uint8_t text[256];
-    size_t text_len;
-    cedar_span parts[8];
-    size_t count;
-} list;
-
-static list list_of(const char *const *uids) {
-    list l = {0};
-    for (; *uids; uids++) {
-        size_t start = l.text_len, len = strlen(*uids);
-        assert(l.count < 8 && len <= sizeof l.text - start);
-        memcpy(l.text + start, *uids, len);
-        l.text_len = start + len;
-        l.parts[l.count++] = (cedar_span){start, l.text_len};
-    }
-    return l;
+/* Returns a list of one entity, with a parent unless that is a null pointer. */
+static cedar_list list_of(const char *uid, const char *parent) {
+    cedar_list list = CEDAR_EMPTY;
+    cedar_list_entity(&list, cedar_list_text(&list, uid));
+    if (parent) cedar_list_parent(&list, 0, cedar_list_text(&list, parent));
+    return list;
 }
 
-static uint32_t build(cedar_store *store) {
-    list l = LIST(ALICE, ADMINS, REPORT, DRAFT, STAFF, FOLDER);    /* the first four are entities */
-    const cedar_edge parents[] = {{0, 1}, {1, 4}, {2, 5}, {3, 5}}; /* alice is a child of admins, and so on */
-    uint32_t status = cedar_store_new(store, key[0], key[1]);
-    if (!status) status = cedar_store_build(store, PARTS(l), 4, parents, 4, CEDAR_COMPUTE);
+static cedar_status build(cedar_store *store) {
+    static const char *const edges[][2] = {{ALICE, ADMINS}, {ADMINS, STAFF}, {REPORT, FOLDER}, {DRAFT, FOLDER}};
+    cedar_list list = CEDAR_EMPTY;
+    for (size_t at = 0; at < sizeof edges / sizeof *edges; at++)
+        cedar_list_parent(&list, cedar_list_text(&list, edges[at][0]), cedar_list_text(&list, edges[at][1]));
+    cedar_status status = cedar_store_new(store, key[0], key[1]);
+    if (!status) status = cedar_store_build_list(store, &list, CEDAR_COMPUTE);
+    cedar_list_free(&list);
     return status;
 }
 
-static uint32_t query(cedar_store *store) {
+static cedar_status query(cedar_store *store) {
     bool is_staff = false, has_bob = false;
-    uint8_t out[256];
-    uint32_t status = cedar_store_is_descendant_of(store, TEXT(ALICE), TEXT(STAFF), &is_staff);
-    if (!status) status = cedar_store_has(store, TEXT(BOB), &has_bob);
-    if (!status) status = cedar_store_ancestors(store, TEXT(ALICE));
-    if (status) return status;
-    size_t length = cedar_store_answer(store, 0, out, sizeof out);
-    if (length > sizeof out) length = sizeof out;
-    printf("alice is in staff: %d; the store contains bob: %d; ancestors of alice: %.*s\n", is_staff, has_bob,
-           (int)length, out);
+    cedar_texts ancestors = CEDAR_EMPTY;
+    cedar_status status = cedar_store_is_descendant_of(store, CEDAR_TEXT(ALICE), CEDAR_TEXT(STAFF), &is_staff);
+    if (!status) status = cedar_store_has(store, CEDAR_TEXT(BOB), &has_bob);
+    if (!status) status = cedar_store_ancestor_texts(store, ALICE, &ancestors);
+    printf("alice is in staff: %d; the store contains bob: %d; ancestors of alice: ", is_staff, has_bob);
+    for (const char *uid; (uid = cedar_texts_next(&ancestors, NULL));) printf("%s", uid);
+    printf("\n");
+    cedar_texts_free(&ancestors);
     return status;
 }
 
-static uint32_t edit(cedar_store *store) {
-    list bob = LIST(BOB, ADMINS), admins = LIST(ADMINS, BOARD), report = LIST(REPORT);
-    const cedar_edge parent = {0, 1};
-    uint32_t status = cedar_store_add(store, PARTS(bob), 1, &parent, 1, CEDAR_COMPUTE);
-    if (!status) status = cedar_store_upsert(store, PARTS(admins), 1, &parent, 1, CEDAR_COMPUTE);
-    if (!status) status = cedar_store_remove(store, PARTS(report), CEDAR_COMPUTE);
+static cedar_status edit(cedar_store *store) {
+    cedar_list bob = list_of(BOB, ADMINS), admins = list_of(ADMINS, BOARD), report = list_of(REPORT, NULL);
+    cedar_status status = cedar_store_add_list(store, &bob, CEDAR_COMPUTE);
+    if (!status) status = cedar_store_upsert_list(store, &admins, CEDAR_COMPUTE);
+    if (!status) status = cedar_store_remove_list(store, &report, CEDAR_COMPUTE);
+    cedar_list_free(&bob);
+    cedar_list_free(&admins);
+    cedar_list_free(&report);
     return status;
 }
 
-static uint32_t try_add(cedar_store *store, list l, const cedar_edge *edges, size_t edges_len) {
-    cedar_store copy = {0};
-    uint8_t text[128];
-    uint32_t status = cedar_store_copy(store, &copy);
-    if (!status) status = cedar_store_add(&copy, PARTS(l), 1, edges, edges_len, CEDAR_COMPUTE);
-    size_t length = cedar_store_refusal(&copy, text, sizeof text);
-    if (length > sizeof text) length = sizeof text;
-    if (status == CEDAR_DUPLICATE)
-        printf("cannot add: a different entity with this uid exists: %.*s\n", (int)length, text);
-    if (status == CEDAR_CYCLE) printf("cannot add: an entity would be its own ancestor: %.*s\n", (int)length, text);
+static cedar_status try_add(cedar_store *store, const char *uid, const char *parent) {
+    cedar_store copy = CEDAR_EMPTY;
+    cedar_list list = list_of(uid, parent);
+    char text[128];
+    cedar_status status = cedar_store_copy(store, &copy);
+    if (!status) status = cedar_store_add_list(&copy, &list, CEDAR_COMPUTE);
+    cedar_store_error(&copy, text, sizeof text);
+    if (status == CEDAR_DUPLICATE) printf("cannot add: a different entity with this uid exists: %s\n", text);
+    if (status == CEDAR_CYCLE) printf("cannot add: an entity would be its own ancestor: %s\n", text);
     if (!status) status = cedar_store_copy(&copy, store);
+    cedar_list_free(&list);
     cedar_store_free(&copy);
     return status;
 }
 
-static uint32_t slice_for(cedar_store *store, cedar_store *part, const char *principal, const char *action,
-                          const char *resource) {
-    list request = LIST(principal, action, resource);
-    return cedar_store_slice(store, part, PARTS(request));
-}
-
-static uint32_t add_and_link(cedar_policies *set) {
-    enum { PERMIT = 0, PRINCIPAL = 1, RESOURCE = 4 };
-    list bound = LIST(STAFF, "", FOLDER); /* the action's slot is unbound */
-    uint32_t status = cedar_policies_add_template(set, TEXT("readers"), PERMIT, PRINCIPAL + RESOURCE);
-    if (!status) status = cedar_policies_link(set, TEXT("readers"), TEXT("staff read reports"), PARTS(bound));
+static cedar_status slice_for(cedar_store *store, cedar_store *part, const char *principal, const char *action,
+                              const char *resource) {
+    cedar_list request = CEDAR_EMPTY;
+    cedar_list_text(&request, principal);
+    cedar_list_text(&request, action);
+    cedar_list_text(&request, resource);
+    cedar_status status = cedar_store_slice_list(store, part, &request);
+    cedar_list_free(&request);
     return status;
 }
 
-/* The last result of a set, and the arguments of `printf` for one of its texts. */
-#define ID(r, at) (int)((r).ids[at].end - (r).ids[at].start), (r).text + (r).ids[at].start
-
-typedef struct result {
-    uint8_t text[256];
-    cedar_span ids[8];
-    size_t count;
-} result;
-
-/* Copies the last result of a set. Returns whether it fits. */
-static bool copy_result(cedar_policies *set, result *r) {
-    r->count = cedar_policies_answer_spans(set, 0, r->ids, 8);
-    return r->count <= 8 && cedar_policies_answer(set, 0, r->text, sizeof r->text) <= sizeof r->text;
+static cedar_status add_and_link(cedar_policies *set) {
+    const uint32_t slots = CEDAR_PRINCIPAL_SLOT + CEDAR_RESOURCE_SLOT;
+    cedar_status status = cedar_policies_add_template(set, CEDAR_TEXT("readers"), CEDAR_PERMIT, slots);
+    if (!status) status = cedar_policies_link_text(set, "readers", "staff read reports", STAFF, NULL, FOLDER);
+    return status;
 }
 
-static bool is_met(const result *env, size_t slot, const char *uid) {
-    size_t len = env->ids[slot].end - env->ids[slot].start; /* 0 if there is no such slot */
-    return !len || (len == strlen(uid) && !memcmp(env->text + env->ids[slot].start, uid, len));
-}
-
-static uint32_t list_applicable(cedar_policies *set, const char *principal, const char *action, const char *resource) {
-    result policies = {0}, env = {0};
-    uint32_t effect = 0, status = cedar_policies_ids(set, 1);
-    if (!status && !copy_result(set, &policies)) status = CEDAR_NO_MEMORY;
-    for (size_t at = 0; !status && at < policies.count; at++) {
-        const uint8_t *id = policies.text + policies.ids[at].start;
-        size_t len = policies.ids[at].end - policies.ids[at].start;
-        status = cedar_policies_env(set, id, len);
-        if (!status && !copy_result(set, &env)) status = CEDAR_NO_MEMORY;
-        if (!status) status = cedar_policies_effect(set, id, len, &effect);
-        if (!status && is_met(&env, 0, principal) && is_met(&env, 1, action) && is_met(&env, 2, resource)) {
-            printf("applies: %.*s (%s)\n", (int)len, id, effect ? "forbid" : "permit");
-        }
+/* Returns whether each slot of a policy is bound to the uid of the request, or does not exist. */
+static bool are_met(cedar_texts *env, const char *const request[3]) {
+    bool met = true;
+    for (size_t slot = 0; slot < 3; slot++) {
+        const char *uid = cedar_texts_next(env, NULL); /* empty if there is no such slot */
+        met = met && uid && (!*uid || !strcmp(uid, request[slot]));
     }
-    return status;
+    return met;
 }
 
-static uint32_t merge(cedar_policies *set, cedar_policies *other) {
-    result r = {0};
-    uint32_t status = cedar_policies_merge(set, other, true);
-    if (!status && !copy_result(set, &r)) status = CEDAR_NO_MEMORY;
-    for (size_t at = 0; !status && at < r.count; at += 2) {
-        printf("%.*s of the other set is %.*s here\n", ID(r, at), ID(r, at + 1));
+static cedar_status list_applicable(cedar_policies *set, const char *const request[3]) {
+    cedar_texts policies = CEDAR_EMPTY, env = CEDAR_EMPTY;
+    cedar_effect effect = CEDAR_PERMIT;
+    cedar_status status = cedar_policies_id_texts(set, CEDAR_POLICIES, &policies);
+    for (const char *id; !status && (id = cedar_texts_next(&policies, NULL));) {
+        status = cedar_policies_env(set, CEDAR_TEXT(id));
+        if (!status) status = cedar_policies_texts(set, &env);
+        if (!status) status = cedar_policies_effect(set, CEDAR_TEXT(id), &effect);
+        if (!status && are_met(&env, request)) printf("applies: %s (%s)\n", id, effect ? "forbid" : "permit");
     }
+    cedar_texts_free(&policies);
+    cedar_texts_free(&env);
     return status;
 }
 
-static uint32_t print_ids(cedar_policies *set, uint32_t kind) {
-    result r = {0};
-    uint32_t status = cedar_policies_ids(set, kind); /* 0: static ones and templates; 1: static ones and links */
-    if (!status && !copy_result(set, &r)) status = CEDAR_NO_MEMORY;
-    for (size_t at = 0; !status && at < r.count; at++) printf("%u: %.*s\n", kind, ID(r, at));
+static cedar_status merge(cedar_policies *set, cedar_policies *other) {
+    cedar_texts renamed = CEDAR_EMPTY;
+    cedar_status status = cedar_policies_merge(set, other, true);
+    if (!status) status = cedar_policies_texts(set, &renamed);
+    for (const char *id; (id = cedar_texts_next(&renamed, NULL));)
+        printf("%s of the other set is %s here\n", id, cedar_texts_next(&renamed, NULL));
+    cedar_texts_free(&renamed);
     return status;
 }
 
-static const char *meaning_of(uint32_t status) {
+static cedar_status print_ids(cedar_policies *set, cedar_ids list) {
+    cedar_texts ids = CEDAR_EMPTY;
+    cedar_status status = cedar_policies_id_texts(set, list, &ids);
+    for (const char *id; (id = cedar_texts_next(&ids, NULL));) printf("%d: %s\n", (int)list, id);
+    cedar_texts_free(&ids);
+    return status;
+}
+
+static const char *meaning_of(cedar_status status) {
     switch (status) {
     case CEDAR_OCCUPIED: return "the id is in use";
     case CEDAR_NO_SUCH_TEMPLATE: return "there is no template with this id";
@@ -170,71 +148,68 @@ static const char *meaning_of(uint32_t status) {
     case CEDAR_NOT_A_TEMPLATE: return "this is not a template";
     case CEDAR_NO_STATIC: return "there is no policy with this id";
     case CEDAR_NOT_STATIC: return "this is a link";
-    default: return "another status";
+    default: return cedar_status_text(status);
     }
 }
 
-static void print_error(cedar_policies *set, uint32_t status) {
-    uint8_t text[128];
-    size_t length = cedar_policies_refusal(set, text, sizeof text);
-    if (length > sizeof text) length = sizeof text;
-    printf("%s: %.*s\n", meaning_of(status), (int)length, text);
+static void print_error(cedar_policies *set, cedar_status status) {
+    char text[128];
+    printf("%s: %s\n", meaning_of(status), cedar_policies_error(set, text, sizeof text));
 }
 
 static void failing_additions(cedar_policies *set) {
-    list unbound = LIST("", "", ""), alice = LIST("", ALICE, ""), read = LIST("", READ, "");
-    print_error(set, cedar_policies_add_static(set, TEXT("readers"), 0));
-    print_error(set, cedar_policies_link(set, TEXT("policy0"), TEXT("new"), PARTS(unbound)));
-    print_error(set, cedar_policies_link(set, TEXT("readers"), TEXT("new"), PARTS(unbound)));
-    print_error(set, cedar_policies_link(set, TEXT("doers"), TEXT("new"), PARTS(alice)));
-    print_error(set, cedar_policies_link(set, TEXT("doers"), TEXT("policy0"), PARTS(read)));
+    print_error(set, cedar_policies_add_static(set, CEDAR_TEXT("readers"), CEDAR_PERMIT));
+    print_error(set, cedar_policies_link_text(set, "policy0", "new", NULL, NULL, NULL));
+    print_error(set, cedar_policies_link_text(set, "readers", "new", NULL, NULL, NULL));
+    print_error(set, cedar_policies_link_text(set, "doers", "new", NULL, ALICE, NULL));
+    print_error(set, cedar_policies_link_text(set, "doers", "policy0", NULL, READ, NULL));
 }
 
 static void failing_removals(cedar_policies *set) {
-    print_error(set, cedar_policies_unlink(set, TEXT("nobody")));
-    print_error(set, cedar_policies_unlink(set, TEXT("policy0")));
-    print_error(set, cedar_policies_remove_static(set, TEXT("nobody")));
-    print_error(set, cedar_policies_remove_static(set, TEXT("staff read reports")));
-    print_error(set, cedar_policies_remove_template(set, TEXT("nobody")));
-    print_error(set, cedar_policies_remove_template(set, TEXT("readers")));
-    print_error(set, cedar_policies_remove_template(set, TEXT("policy0")));
+    print_error(set, cedar_policies_unlink(set, CEDAR_TEXT("nobody")));
+    print_error(set, cedar_policies_unlink(set, CEDAR_TEXT("policy0")));
+    print_error(set, cedar_policies_remove_static(set, CEDAR_TEXT("nobody")));
+    print_error(set, cedar_policies_remove_static(set, CEDAR_TEXT("staff read reports")));
+    print_error(set, cedar_policies_remove_template(set, CEDAR_TEXT("nobody")));
+    print_error(set, cedar_policies_remove_template(set, CEDAR_TEXT("readers")));
+    print_error(set, cedar_policies_remove_template(set, CEDAR_TEXT("policy0")));
 }
 
-static uint32_t stores(void) {
-    cedar_store store = {0}, other = {0};
-    const cedar_edge itself = {0, 0};
+static cedar_status stores(void) {
+    cedar_store store = CEDAR_EMPTY, other = CEDAR_EMPTY;
     bool in_board = false, in_staff = false;
-    uint32_t status = build(&store);
+    cedar_status status = build(&store);
     if (!status) status = query(&store);
     if (!status) status = cedar_store_copy(&store, &other);
     if (!status) status = edit(&other);
-    if (!status) status = cedar_store_is_descendant_of(&other, TEXT(ALICE), TEXT(BOARD), &in_board);
-    if (!status) status = cedar_store_is_descendant_of(&other, TEXT(ALICE), TEXT(STAFF), &in_staff);
+    if (!status) status = cedar_store_is_descendant_of(&other, CEDAR_TEXT(ALICE), CEDAR_TEXT(BOARD), &in_board);
+    if (!status) status = cedar_store_is_descendant_of(&other, CEDAR_TEXT(ALICE), CEDAR_TEXT(STAFF), &in_staff);
     printf("edited: %zu entities; alice is in board: %d, in staff: %d\n", cedar_store_len(&other), in_board, in_staff);
     if (!status) status = slice_for(&store, &other, ALICE, READ, REPORT);
     printf("the slice: %zu of %zu entities\n", cedar_store_len(&other), cedar_store_len(&store));
-    if (!status) status = try_add(&store, LIST(BOB), &itself, 0);
-    if (!status && try_add(&store, LIST(ADMINS), &itself, 0) != CEDAR_DUPLICATE) status = CEDAR_DUPLICATE;
-    if (!status && try_add(&store, LIST(STAFF), &itself, 1) != CEDAR_CYCLE) status = CEDAR_CYCLE;
+    if (!status) status = try_add(&store, BOB, NULL);
+    if (!status && try_add(&store, ADMINS, NULL) != CEDAR_DUPLICATE) status = CEDAR_DUPLICATE;
+    if (!status && try_add(&store, STAFF, STAFF) != CEDAR_CYCLE) status = CEDAR_CYCLE;
     printf("the store: %zu entities\n", cedar_store_len(&store));
     cedar_store_free(&store);
     cedar_store_free(&other);
     return status;
 }
 
-static uint32_t sets(void) {
-    cedar_policies set = {0}, other = {0};
-    uint32_t status = cedar_policies_new(&set, key[0], key[1]);
+static cedar_status sets(void) {
+    const char *const request[] = {STAFF, READ, FOLDER};
+    cedar_policies set = CEDAR_EMPTY, other = CEDAR_EMPTY;
+    cedar_status status = cedar_policies_new(&set, key[0], key[1]);
     if (!status) status = cedar_policies_new(&other, key[0], key[1]);
     if (!status) status = add_and_link(&set);
-    if (!status) status = list_applicable(&set, STAFF, "Action::\"read\"", FOLDER);
-    if (!status) status = cedar_policies_add_static(&set, TEXT("policy0"), 0);
-    if (!status) status = cedar_policies_add_static(&other, TEXT("policy0"), 1);
-    if (!status) status = cedar_policies_add_static(&other, TEXT("policy1"), 0);
+    if (!status) status = list_applicable(&set, request);
+    if (!status) status = cedar_policies_add_static(&set, CEDAR_TEXT("policy0"), CEDAR_PERMIT);
+    if (!status) status = cedar_policies_add_static(&other, CEDAR_TEXT("policy0"), CEDAR_FORBID);
+    if (!status) status = cedar_policies_add_static(&other, CEDAR_TEXT("policy1"), CEDAR_PERMIT);
     if (!status) status = merge(&set, &other);
-    if (!status) status = print_ids(&set, 0);
-    if (!status) status = print_ids(&set, 1);
-    if (!status) status = cedar_policies_add_template(&set, TEXT("doers"), 0, 2);
+    if (!status) status = print_ids(&set, CEDAR_BODIES);
+    if (!status) status = print_ids(&set, CEDAR_POLICIES);
+    if (!status) status = cedar_policies_add_template(&set, CEDAR_TEXT("doers"), CEDAR_PERMIT, CEDAR_ACTION_SLOT);
     if (!status) {
         failing_additions(&set);
         failing_removals(&set);
@@ -246,7 +221,7 @@ static uint32_t sets(void) {
 
 int main(void) {
     if (getrandom(key, sizeof key, 0) != sizeof key) return 1;
-    uint32_t status = stores();
+    cedar_status status = stores();
     if (!status) status = sets();
     return status != CEDAR_OK;
 }

@@ -40,7 +40,7 @@ static inline cedar_span push_bytes(content *c, const char *text, size_t len) {
     return at;
 }
 
-static inline void push_node(content *c, uint32_t kind, size_t len, cedar_span at, int64_t number) {
+static inline void push_node(content *c, cedar_kind kind, size_t len, cedar_span at, int64_t number) {
     c->nodes[c->nodes_len++] = (cedar_node){kind, len, at, number};
 }
 
@@ -88,7 +88,7 @@ static inline void push_nodes(content *c, const char *words) {
 }
 
 /* Adds an attribute (`part` 0) or a tag (1) with the value of these words to the entity with index `of`. */
-static inline cedar_term *push_term(content *c, size_t of, uint32_t part, const char *key, const char *words) {
+static inline cedar_term *push_term(content *c, size_t of, cedar_part part, const char *key, const char *words) {
     cedar_term *term = &c->terms[c->terms_len++];
     size_t from = c->nodes_len;
     push_nodes(c, words);
@@ -135,10 +135,10 @@ static inline const char *store_value(cedar_store *s) {
 }
 
 /* Returns the attribute (`part` 0) or the tag (1) with this key as words, `none` if there is none, or the status. */
-static inline const char *value_at(cedar_store *s, const char *uid, uint32_t part, const char *key) {
+static inline const char *value_at(cedar_store *s, const char *uid, cedar_part part, const char *key) {
     static char status_text[16];
     bool has = false;
-    uint32_t status =
+    cedar_status status =
         part ? cedar_store_get_tag(s, TEXT(uid), TEXT(key), &has) : cedar_store_get(s, TEXT(uid), TEXT(key), &has);
     snprintf(status_text, sizeof status_text, "%u", (unsigned)status);
     return status ? status_text : has ? store_value(s) : "none";

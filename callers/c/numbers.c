@@ -5,20 +5,20 @@
 /* Returns the number of a uid, or 100 plus the status. */
 static unsigned numbered(cedar_store *s, const char *uid) {
     size_t number = 9;
-    uint32_t status = cedar_store_uid_number(s, TEXT(uid), &number);
+    cedar_status status = cedar_store_uid_number(s, TEXT(uid), &number);
     CHECK(status == CEDAR_OK || number == 9);
     return number_or_status(status, number);
 }
 
 static unsigned has_number(cedar_store *s, size_t number) {
     bool result = false;
-    uint32_t status = cedar_store_has_number(s, number, &result);
+    cedar_status status = cedar_store_has_number(s, number, &result);
     return bool_or_status(status, result);
 }
 
 static unsigned is_descendant_by_number(cedar_store *s, size_t child, size_t ancestor) {
     bool result = false;
-    uint32_t status = cedar_store_is_descendant_of_numbers(s, child, ancestor, &result);
+    cedar_status status = cedar_store_is_descendant_of_numbers(s, child, ancestor, &result);
     return bool_or_status(status, result);
 }
 

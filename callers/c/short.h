@@ -48,7 +48,8 @@ typedef struct list {
 static inline size_t push_text(list *l, const char *text) {
     size_t len = strlen(text);
     memcpy(l->text + l->text_len, text, len);
-    l->uids[l->uids_len] = (cedar_span){l->text_len, l->text_len + len};
+    l->uids[l->uids_len].start = l->text_len;
+    l->uids[l->uids_len].end = l->text_len + len;
     l->text_len += len;
     return l->uids_len++;
 }
@@ -79,7 +80,8 @@ static inline list parse_entities(const char *spec) {
     for (const char *p = spec; *p; p++) {
         if (*p == ';') from++;
         if (p == spec || p[-1] == ';' || *p == ';' || *p == ' ') continue;
-        l.edges[l.edges_len++] = (cedar_edge){from, push_name(&l, *p)};
+        l.edges[l.edges_len].from = from;
+        l.edges[l.edges_len++].to = push_name(&l, *p);
     }
     return l;
 }
@@ -89,151 +91,151 @@ static inline list parse_entities(const char *spec) {
 #define UIDS(l) (l).text, (l).text_len, (l).uids, (l).uids_len
 #define ENTITIES(l) UIDS(l), (l).count, (l).edges, (l).edges_len
 
-static inline uint32_t new_store(cedar_store *s) { return cedar_store_new(s, 0x5eed, 0x6b6579); }
+static inline cedar_status new_store(cedar_store *s) { return cedar_store_new(s, 0x5eed, 0x6b6579); }
 
-static inline uint32_t build(cedar_store *s, const char *spec, uint32_t mode) {
+static inline cedar_status build(cedar_store *s, const char *spec, cedar_mode mode) {
     list l = parse_entities(spec);
     return cedar_store_build(s, ENTITIES(l), mode);
 }
 
-static inline uint32_t add(cedar_store *s, const char *spec, uint32_t mode) {
+static inline cedar_status add(cedar_store *s, const char *spec, cedar_mode mode) {
     list l = parse_entities(spec);
     return cedar_store_add(s, ENTITIES(l), mode);
 }
 
-static inline uint32_t upsert(cedar_store *s, const char *spec, uint32_t mode) {
+static inline cedar_status upsert(cedar_store *s, const char *spec, cedar_mode mode) {
     list l = parse_entities(spec);
     return cedar_store_upsert(s, ENTITIES(l), mode);
 }
 
-static inline uint32_t remove_uids(cedar_store *s, const char *names, uint32_t mode) {
+static inline cedar_status remove_uids(cedar_store *s, const char *names, cedar_mode mode) {
     list l = uids(names);
     return cedar_store_remove(s, UIDS(l), mode);
 }
 
-static inline uint32_t slice(cedar_store *from, cedar_store *to, const char *names) {
+static inline cedar_status slice(cedar_store *from, cedar_store *to, const char *names) {
     list l = uids(names);
     return cedar_store_slice(from, to, UIDS(l));
 }
 
-static inline uint32_t slice_deep_copy(cedar_store *from, cedar_store *to, const char *names) {
+static inline cedar_status slice_deep_copy(cedar_store *from, cedar_store *to, const char *names) {
     list l = uids(names);
     return cedar_store_slice_deep_copy(from, to, UIDS(l));
 }
 
-static inline uint32_t ancestors(cedar_store *s, const char *uid) { return cedar_store_ancestors(s, TEXT(uid)); }
+static inline cedar_status ancestors(cedar_store *s, const char *uid) { return cedar_store_ancestors(s, TEXT(uid)); }
 
-static inline uint32_t parents(cedar_store *s, const char *uid) { return cedar_store_parents(s, TEXT(uid)); }
+static inline cedar_status parents(cedar_store *s, const char *uid) { return cedar_store_parents(s, TEXT(uid)); }
 
 /* Returns a Boolean result as 0 or 1, or 100 plus the status. The functions below return this. */
-static inline unsigned bool_or_status(uint32_t status, bool result) { return status ? 100 + status : result; }
+static inline unsigned bool_or_status(cedar_status status, bool result) { return status ? 100 + status : result; }
 
 static inline unsigned has(cedar_store *s, const char *uid) {
     bool result = false;
-    uint32_t status = cedar_store_has(s, TEXT(uid), &result);
+    cedar_status status = cedar_store_has(s, TEXT(uid), &result);
     return bool_or_status(status, result);
 }
 
 static inline unsigned is_descendant(cedar_store *s, const char *child, const char *ancestor) {
     bool result = false;
-    uint32_t status = cedar_store_is_descendant_of(s, TEXT(child), TEXT(ancestor), &result);
+    cedar_status status = cedar_store_is_descendant_of(s, TEXT(child), TEXT(ancestor), &result);
     return bool_or_status(status, result);
 }
 
 static inline unsigned is_child(cedar_store *s, const char *child, const char *parent) {
     bool result = false;
-    uint32_t status = cedar_store_is_child_of(s, TEXT(child), TEXT(parent), &result);
+    cedar_status status = cedar_store_is_child_of(s, TEXT(child), TEXT(parent), &result);
     return bool_or_status(status, result);
 }
 
 static inline unsigned is_indirect_descendant(cedar_store *s, const char *child, const char *ancestor) {
     bool result = false;
-    uint32_t status = cedar_store_is_indirect_descendant_of(s, TEXT(child), TEXT(ancestor), &result);
+    cedar_status status = cedar_store_is_indirect_descendant_of(s, TEXT(child), TEXT(ancestor), &result);
     return bool_or_status(status, result);
 }
 
 static inline unsigned is_partial(cedar_store *s) {
     bool result = false;
-    uint32_t status = cedar_store_is_partial(s, &result);
+    cedar_status status = cedar_store_is_partial(s, &result);
     return bool_or_status(status, result);
 }
 
 static inline unsigned entity_equal(cedar_store *s, const char *uid, cedar_store *other) {
     bool result = false;
-    uint32_t status = cedar_store_entity_equal(s, TEXT(uid), other, &result);
+    cedar_status status = cedar_store_entity_equal(s, TEXT(uid), other, &result);
     return bool_or_status(status, result);
 }
 
 static inline unsigned equal(cedar_store *first, cedar_store *second) {
     bool result = false;
-    uint32_t status = cedar_store_equal(first, second, &result);
+    cedar_status status = cedar_store_equal(first, second, &result);
     return bool_or_status(status, result);
 }
 
 static inline unsigned sets_equal(cedar_policies *first, cedar_policies *second) {
     bool result = false;
-    uint32_t status = cedar_policies_equal(first, second, &result);
+    cedar_status status = cedar_policies_equal(first, second, &result);
     return bool_or_status(status, result);
 }
 
 /* Returns a number, or 100 plus the status. */
-static inline unsigned number_or_status(uint32_t status, size_t count) {
+static inline unsigned number_or_status(cedar_status status, size_t count) {
     return status ? 100 + status : (unsigned)count;
 }
 
 static inline unsigned look_up(cedar_store *s, const char *uid) {
-    uint32_t result = 9;
-    uint32_t status = cedar_store_entity(s, TEXT(uid), &result);
+    cedar_found result = (cedar_found)9;
+    cedar_status status = cedar_store_entity(s, TEXT(uid), &result);
     return number_or_status(status, result);
 }
 
 static inline unsigned attributes(cedar_store *s, const char *uid) {
     size_t count = 9;
-    uint32_t status = cedar_store_attrs_len(s, TEXT(uid), &count);
+    cedar_status status = cedar_store_attrs_len(s, TEXT(uid), &count);
     return number_or_status(status, count);
 }
 
 static inline unsigned tags(cedar_store *s, const char *uid) {
     size_t count = 9;
-    uint32_t status = cedar_store_tags_len(s, TEXT(uid), &count);
+    cedar_status status = cedar_store_tags_len(s, TEXT(uid), &count);
     return number_or_status(status, count);
 }
 
 static inline unsigned kind_of(cedar_policies *p, const char *id) {
-    uint32_t kind = 9;
-    uint32_t status = cedar_policies_get(p, TEXT(id), &kind);
+    cedar_bound kind = (cedar_bound)9;
+    cedar_status status = cedar_policies_get(p, TEXT(id), &kind);
     return number_or_status(status, kind);
 }
 
 static inline unsigned effect_of(cedar_policies *p, const char *id) {
-    uint32_t effect = 9;
-    uint32_t status = cedar_policies_effect(p, TEXT(id), &effect);
+    cedar_effect effect = (cedar_effect)9;
+    cedar_status status = cedar_policies_effect(p, TEXT(id), &effect);
     return number_or_status(status, effect);
 }
 
 static inline unsigned slots_of(cedar_policies *p, const char *id) {
     uint32_t slots = 9;
-    uint32_t status = cedar_policies_slots(p, TEXT(id), &slots);
+    cedar_status status = cedar_policies_slots(p, TEXT(id), &slots);
     return number_or_status(status, slots);
 }
 
 static inline unsigned has_annotation(cedar_policies *p, const char *id, const char *key) {
     bool result = false;
-    uint32_t status = cedar_policies_annotation(p, TEXT(id), TEXT(key), &result);
+    cedar_status status = cedar_policies_annotation(p, TEXT(id), TEXT(key), &result);
     return bool_or_status(status, result);
 }
 
-static inline uint32_t new_set(cedar_policies *p) { return cedar_policies_new(p, 0x5eed, 0x6b6579); }
+static inline cedar_status new_set(cedar_policies *p) { return cedar_policies_new(p, 0x5eed, 0x6b6579); }
 
-static inline uint32_t add_static(cedar_policies *p, const char *id, uint32_t effect) {
+static inline cedar_status add_static(cedar_policies *p, const char *id, cedar_effect effect) {
     return cedar_policies_add_static(p, TEXT(id), effect);
 }
 
-static inline uint32_t add_template(cedar_policies *p, const char *id, uint32_t slots) {
-    return cedar_policies_add_template(p, TEXT(id), 0, slots);
+static inline cedar_status add_template(cedar_policies *p, const char *id, uint32_t slots) {
+    return cedar_policies_add_template(p, TEXT(id), CEDAR_PERMIT, slots);
 }
 
-static inline uint32_t link_id(cedar_policies *p, const char *template_id, const char *id, const char *principal,
+static inline cedar_status link_id(cedar_policies *p, const char *template_id, const char *id, const char *principal,
                                const char *action, const char *resource) {
     list l = uids("");
     push_text(&l, principal);
@@ -242,13 +244,13 @@ static inline uint32_t link_id(cedar_policies *p, const char *template_id, const
     return cedar_policies_link(p, TEXT(template_id), TEXT(id), UIDS(l));
 }
 
-static inline uint32_t unlink_id(cedar_policies *p, const char *id) { return cedar_policies_unlink(p, TEXT(id)); }
+static inline cedar_status unlink_id(cedar_policies *p, const char *id) { return cedar_policies_unlink(p, TEXT(id)); }
 
-static inline uint32_t remove_static(cedar_policies *p, const char *id) {
+static inline cedar_status remove_static(cedar_policies *p, const char *id) {
     return cedar_policies_remove_static(p, TEXT(id));
 }
 
-static inline uint32_t remove_template(cedar_policies *p, const char *id) {
+static inline cedar_status remove_template(cedar_policies *p, const char *id) {
     return cedar_policies_remove_template(p, TEXT(id));
 }
 

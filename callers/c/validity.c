@@ -12,7 +12,7 @@ static policy_body body_with_clause(const char *words) {
 }
 
 /* Returns a body whose action must be this uid (kind 1), or in this uid or Action::"get" (kind 3). */
-static policy_body body_with_action(uint32_t kind, const char *uid) {
+static policy_body body_with_action(cedar_scope_kind kind, const char *uid) {
     policy_body g = empty_body();
     g.body.action = push_scope(&g, kind, uid, "");
     push_text(&g.c.l, "Action::\"get\"");
@@ -23,7 +23,7 @@ static policy_body body_with_action(uint32_t kind, const char *uid) {
 /* Returns the result of a validation: `ok`, or the status and the text of the error. */
 static const char *validate(cedar_policies *p) {
     static char out[CAPACITY];
-    uint32_t status = cedar_policies_validate(p);
+    cedar_status status = cedar_policies_validate(p);
     if (status == CEDAR_OK) return "ok";
     snprintf(out, sizeof out, "%u %s", (unsigned)status, set_error(p));
     return out;
@@ -123,7 +123,7 @@ static void names_in_fault_texts(void) {
 /* Returns the unknown entities of a policy, with a comma before each, or the status. */
 static const char *unknown_entities_of(cedar_policies *p, const char *id) {
     static char status_text[16];
-    uint32_t status = cedar_policies_unknown_entities(p, TEXT(id));
+    cedar_status status = cedar_policies_unknown_entities(p, TEXT(id));
     snprintf(status_text, sizeof status_text, "%u", (unsigned)status);
     return status ? status_text : set_result(p);
 }

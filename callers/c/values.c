@@ -16,7 +16,7 @@ static const char *round_trip(const char *words) {
     content c = with_entities("a");
     push_term(&c, 0, 0, "k", words);
     CHECK(new_store(&s) == CEDAR_OK);
-    uint32_t status = BUILD(&s, c, CEDAR_COMPUTE);
+    cedar_status status = BUILD(&s, c, CEDAR_COMPUTE);
     snprintf(text, sizeof text, "%u", (unsigned)status);
     const char *actual = status ? text : value_at(&s, U("a"), 0, "k");
     cedar_store_free(&s);
@@ -241,7 +241,7 @@ static void closed_handles(void) {
 static cedar_store test_store;
 
 /* Returns whether each of the three calls fails with this status and leaves the store unchanged. */
-static bool fails_with(content c, uint32_t status) {
+static bool fails_with(content c, cedar_status status) {
     return BUILD(&test_store, c, 0) == status && ADD(&test_store, c, 0) == status &&
            UPSERT(&test_store, c, 0) == status && cedar_store_len(&test_store) == 1 && has(&test_store, U("q")) == 1;
 }
@@ -274,7 +274,7 @@ static void terms_out_of_range(void) {
 /* Words that are not a partial value, and the status. */
 static const struct {
     const char *words;
-    uint32_t status;
+    cedar_status status;
 } INVALID[] = {
     {"", CEDAR_BAD_ARGUMENT},
     {"1 2", CEDAR_BAD_ARGUMENT},
@@ -359,7 +359,7 @@ static void invalid_fields(void) {
 static cedar_node deep[CEDAR_LEVELS + 2];
 
 /* Builds nested sets or nested negations with this number of levels. */
-static uint32_t build_levels(size_t number_of_levels, uint32_t kind, bool residual) {
+static cedar_status build_levels(size_t number_of_levels, cedar_kind kind, bool residual) {
     content c = with_entities("a");
     const cedar_span none = {0, 0};
     size_t count = 0;
@@ -481,7 +481,7 @@ static bool is_rebuilt_equal(cedar_store *s, const content *c, cedar_store *t) {
         const uint8_t *uid = term->of ? bytes(U("b")) : bytes(U("a")), *key = c->l.text + term->key.start;
         size_t len = term->key.end - term->key.start;
         bool has = false;
-        uint32_t status =
+        cedar_status status =
             term->part ? cedar_store_get_tag(s, uid, 6, key, len, &has) : cedar_store_get(s, uid, 6, key, len, &has);
         if (status || !has) return false;
         push_returned(&rebuilt, s, *term);
@@ -496,7 +496,7 @@ static void random_nodes(long rounds) {
     CHECK(new_store(&s) == CEDAR_OK && new_store(&t) == CEDAR_OK);
     for (long k = 0; k < rounds; k++) {
         content c = random_content();
-        uint32_t status = BUILD(&s, c, CEDAR_COMPUTE);
+        cedar_status status = BUILD(&s, c, CEDAR_COMPUTE);
         if (status == CEDAR_OK) {
             accepted++;
             if (!is_rebuilt_equal(&s, &c, &t)) unexpected++;

@@ -1,7 +1,7 @@
 """Writes the functions of the C library over the package: one for each function that `cedar_c` exports.
 
 A slice is passed as a pointer and a length, and a reference as a pointer. The hand-written `c_references.rs` converts them to
-references. Each signature is compared with the declaration in `callers/c/cedar.h`.
+references. Each signature is compared with the declaration in the headers of `callers/c`.
 """
 import os
 import re
@@ -104,11 +104,14 @@ def exported(sources, found):
     return out
 
 
-def declarations(header):
-    """Returns the types of each function that a header declares, the type of the result first."""
-    code = re.sub(r'/\*.*?\*/', '', header, flags=re.S)
+def declarations(headers):
+    """Returns the types of each function that the headers declare, the type of the result first."""
+    code = re.sub(r'/\*.*?\*/', '', headers, flags=re.S)
+    # An enum has the size of a number of the library.
+    for name in re.findall(r'^typedef enum (\w+)', code, re.M):
+        code = re.sub(rf'\b{name}\b', 'uint32_t', code)
     out = {}
-    for answer, name, params in re.findall(r'^(\w+) (cedar_\w+)\(([^)]*)\);', code, re.M):
+    for answer, name, params in re.findall(r'^(?:CEDAR_WARN_UNUSED )?(\w+) (cedar_\w+)\(([^)]*)\);', code, re.M):
         types = [] if params.strip() == 'void' else [type_of(p) for p in params.split(',')]
         out[name] = [answer, *types]
     return out
@@ -121,9 +124,12 @@ def type_of(param):
 
 
 def faults(found, top):
-    """Returns the differences between the exports and the header."""
-    with open(os.path.join(top, 'callers', 'c', 'cedar.h'), encoding='utf-8') as f:
-        declared = declarations(f.read())
+    """Returns the differences between the exports and the headers."""
+    headers = ''
+    for name in ('status.h', 'values.h', 'store.h', 'policies.h'):
+        with open(os.path.join(top, 'callers', 'c', 'cedar', name), encoding='utf-8') as f:
+            headers += f.read()
+    declared = declarations(headers)
     exported_types = {e.name: e.declared() for e in found}
     out = [u for e in found for u in e.unknown]
     out += [f'rust_edition: cedar.h does not declare {name}, which cedar_c exports' for name in sorted(exported_types.keys() - declared.keys())]
