@@ -1,5 +1,19 @@
 /* Tests of what the headers add to the library: checks of null pointers, names and texts of statuses, lists of uids and
  * edges, and iteration over results. It is also compiled as C++. */
+#include <stdbool.h>
+#include <stdlib.h>
+
+/* The number of allocations of the headers until one fails, or a negative number. The library's own do not fail. */
+static long allocations_left = -1;
+
+static bool fails(void) { return allocations_left >= 0 && allocations_left-- == 0; }
+
+static void *test_malloc(size_t size) { return fails() ? NULL : malloc(size); }
+
+static void *test_realloc(void *block, size_t size) { return fails() ? NULL : realloc(block, size); }
+
+#define malloc test_malloc
+#define realloc test_realloc
 #include "short.h"
 
 static void *volatile null; /* volatile, so that the compiler does not know that it is null */
@@ -183,7 +197,46 @@ static void texts_are_iterated(void) {
     cedar_texts_free(&texts);
 }
 
+/* Builds a store by a list, and reads its answer, while one allocation of the headers fails. Returns the status. */
+static cedar_status build_and_read(cedar_store *s, cedar_policies *p, cedar_list *list, cedar_texts *texts, long n) {
+    char id[8];
+    cedar_status status = CEDAR_OK;
+    allocations_left = n;
+    for (int k = 0; k < 20; k++) {
+        snprintf(id, sizeof id, "%d", k);
+        cedar_list_parent(list, cedar_list_uid(list, "A", id), cedar_list_text(list, U("root")));
+    }
+    status = cedar_store_build_list(s, list, CEDAR_COMPUTE);
+    if (!status) status = cedar_store_ancestor_texts(s, U("7"), texts);
+    if (!status) status = cedar_policies_link_text(p, "t", "l", U("a"), NULL, NULL);
+    allocations_left = -1;
+    return status;
+}
+
+static void failed_allocations_are_reported(void) {
+    cedar_status status = CEDAR_NO_MEMORY;
+    long n = 0;
+    for (; status == CEDAR_NO_MEMORY && n < 100; n++) {
+        cedar_store s = CEDAR_EMPTY;
+        cedar_policies p = CEDAR_EMPTY;
+        cedar_list list = CEDAR_EMPTY;
+        cedar_texts texts = CEDAR_EMPTY;
+        CHECK(new_store(&s) == CEDAR_OK && build(&s, "q", CEDAR_COMPUTE) == CEDAR_OK);
+        CHECK(new_set(&p) == CEDAR_OK && add_template(&p, "t", CEDAR_PRINCIPAL_SLOT) == CEDAR_OK);
+        status = build_and_read(&s, &p, &list, &texts, n);
+        CHECK(status == CEDAR_OK || status == CEDAR_NO_MEMORY);
+        CHECK(has(&s, U("q")) == 1 ? status == CEDAR_NO_MEMORY : cedar_store_len(&s) == 20);
+        CHECK((kind_of(&p, "l") == CEDAR_LINK) == (status == CEDAR_OK));
+        cedar_list_free(&list);
+        cedar_texts_free(&texts);
+        cedar_store_free(&s);
+        cedar_policies_free(&p);
+    }
+    CHECK(status == CEDAR_OK && n > 12);
+}
+
 int main(void) {
+    failed_allocations_are_reported();
     null_handles();
     null_lists();
     statuses();
