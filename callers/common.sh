@@ -299,6 +299,76 @@ shared_library() {
         -Wl,--whole-archive $both -Wl,--no-whole-archive
 }
 
+# Checks the type annotations of the package and of the examples.
+python_types() {
+    if ! has mypy --version; then
+        without mypy "the type annotations of the Python package"
+    elif mypy --strict --cache-dir="$out/mypy" python/cedar_store python/example.py python/guide.py > "$out/one"; then
+        echo "callers: the type annotations of the Python package: passed"
+        passed=$((passed + 1))
+    else
+        cat "$out/one"
+        fault "mypy reports errors in the Python package"
+    fi
+}
+
+# Builds the wheel and the source distribution, and runs the example with each in a new environment that does not use
+# the checkout. Installs the checkout too, as it is and editable.
+in_python_installed() {
+    if ! has python3 -c 'import ensurepip, venv'; then
+        without "python3 with venv" "the Python wheel"
+        return
+    fi
+    rm -rf "$out/wheels" "$out/venv"
+    local wheel sdist proved=True
+    [ "$out" = out/try ] && proved=False
+    export CEDAR_LIBRARY="$PWD/$out/libcedar.so" PYTHONDONTWRITEBYTECODE=1
+    mkdir -p "$out/wheels/again"
+    if ! wheel=$(python/build "$out/wheels") || ! in_venv -m pip wheel -q --no-index --no-deps -w "$out/wheels/again" \
+        ./python || ! cmp "$wheel" "$out/wheels/again/$(basename "$wheel")"; then
+        cat "$out/one"
+        fault "pip does not build the same wheel of callers/python as callers/python/build"
+        return
+    fi
+    sdist=$out/wheels/$(cd python && python3 -B -c 'import sys, wheel_builder as w; print(w.build_sdist(sys.argv[1]))' \
+        "$PWD/../$out/wheels")
+    installs "the wheel" "$wheel"
+    installs "the source distribution" "$sdist"
+    installs "pip install ." ./python
+    installs "pip install -e ." -e ./python
+    unset CEDAR_LIBRARY PYTHONDONTWRITEBYTECODE
+}
+
+# Runs the Python of the environment, and makes it first.
+in_venv() {
+    { [ -d "$out/venv" ] || python3 -m venv "$out/venv"; } && "$out/venv/bin/python" "$@" > "$out/one" 2>&1
+}
+
+# Installs the package with pip, runs the example, and checks what the package says of its library. Arguments: a title,
+# then the argument of pip.
+installs() {
+    local what=$1 summary
+    shift
+    if ! in_venv -m pip --disable-pip-version-check install -q --no-index --no-deps --force-reinstall "$@"; then
+        cat "$out/one"
+        fault "$what was not installed"
+        return
+    fi
+    cp python/example.py "$out/venv/"
+    # An editable installation finds the library in the checkout, the others their own.
+    [ "$1" = -e ] || unset CEDAR_LIBRARY
+    writes "the example in Python, with $what" python/example.out "$out/venv/bin/python" -I "$out/venv/example.py"
+    summary=$("$out/venv/bin/python" -I -c 'import cedar_store, importlib.metadata as m
+text = m.metadata("cedar-store")
+print(cedar_store.__proved__, "unproved" not in text["Summary"], "NOT PROVED" not in str(text.get_payload()))')
+    export CEDAR_LIBRARY="$PWD/$out/libcedar.so"
+    if [ "$summary" = "$proved $proved $proved" ]; then
+        passed=$((passed + 1))
+    else
+        fault "$what does not say correctly whether its library is proved: $summary"
+    fi
+}
+
 # Prints the number of tests that cargo reports as passed or failed. Argument: `passed` or `failed`.
 tests() {
     grep '^test result: ' "$out/rust" | sed -E "s/.* ([0-9]+) $1.*/\1/" | awk '{ n += $1 } END { print n + 0 }'

@@ -51,6 +51,9 @@ TAIL = '''
 #endif
 #endif
 '''
+# What a function with a result returns for a null handle, and for another wrong pointer.
+FAILURES = {'cedar_status': ('return CEDAR_CLOSED;', 'return CEDAR_BAD_ARGUMENT;'), 'bool': ('', 'return false;'),
+            'void': ('return;', 'return;'), 'size_t': ('return 0;', 'return 0;')}
 PASSED, FAILED = [0], []
 
 
@@ -94,8 +97,7 @@ def wrapper(declaration):
     parameters, name, result = parameters_of(declaration), declaration['name'], declaration['result']
     if not any('*' in kind for kind, _ in parameters):
         return ''
-    closed, bad = {'cedar_status': ('return CEDAR_CLOSED;', 'return CEDAR_BAD_ARGUMENT;'), 'bool': ('', 'return false;'),
-                   'void': ('return;', 'return;'), 'size_t': ('return 0;', 'return 0;')}[result]
+    closed, bad = FAILURES[result]
     handles, lines = pointer_checks(parameters, bad)
     checks = [f'if ({" || ".join("!" + one for one in handles)}) {closed}'] if handles else []
     if len(handles) == 2:
@@ -103,7 +105,7 @@ def wrapper(declaration):
     checked = name.replace('cedar_', 'cedar_checked_', 1)
     call = f'{name}({", ".join(one for _, one in parameters)})'
     head = (declaration['unused'] or '') + f'static inline {result} {checked}('
-    text = wrapped(head, [f'{kind.strip()}{"" if kind.strip().endswith("*") else " "}{one}' for kind, one in parameters], ') {')
+    text = wrapped(head, [kind + one for kind, one in parameters], ') {')
     body = ''.join(f'    {line}\n' for line in checks + lines)
     returned = wrapped(f'    {"" if result == "void" else "return "}{name}(', [one for _, one in parameters], ');')
     return f'\n{text}\n{body}{returned}\n}}\n#define {name} {checked}\n' if call else ''

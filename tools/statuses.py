@@ -195,6 +195,10 @@ class Status(NamedTuple):
 
 STATUSES: Dict[int, Status] = {{
 {rows}}}
+
+# The public name of each exception, for example in a traceback.
+for _status in STATUSES.values():
+    _status.exception.__module__ = "cedar_store"
 '''
 
 

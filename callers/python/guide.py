@@ -1,7 +1,7 @@
 """Ten tasks of an authorizer or an administration service. `docs/GUIDE.md` quotes these functions."""
 from typing import Callable
 
-from cedar_store import CedarError, Effect, Entities, Policies, Store
+from cedar_store import CedarError, Constraint, Cycle, DuplicateEntity, Effect, Entities, Policies, Store
 
 
 def build() -> Store:
@@ -17,7 +17,7 @@ def build() -> Store:
 
 def query(store: Store) -> None:
     print("alice is in the staff group:", store.is_descendant_of('User::"alice"', 'Group::"staff"'))
-    print("ancestors of alice:", store.ancestors('User::"alice"'))
+    print("ancestors of alice:", *store.ancestors('User::"alice"'))
     print("the store contains bob:", 'User::"bob"' in store)
 
 
@@ -32,14 +32,11 @@ def try_add(store: Store, entities: Entities) -> Store:
     try:
         edited.add(entities)
         return edited
-    except CedarError as error:
-        if error.reason == "duplicate":
-            print("cannot add: a different entity with this uid exists:", error)
-        elif error.reason == "cycle":
-            print("cannot add: an entity would be its own ancestor:", error)
-        else:
-            print("cannot add:", error)
-        return store
+    except DuplicateEntity as error:
+        print("cannot add: a different entity with this uid exists:", error.uid)
+    except Cycle as error:
+        print("cannot add: an entity would be its own ancestor:", error.uid)
+    return store
 
 
 def slice_for(store: Store, principal: str, action: str, resource: str) -> Store:
@@ -47,7 +44,7 @@ def slice_for(store: Store, principal: str, action: str, resource: str) -> Store
 
 
 def add_and_link(policies: Policies) -> None:
-    policies.add_template("readers", principal=True, resource=True)
+    policies.add_template("readers", principal=Constraint.is_eq_slot(), resource=Constraint.is_eq_slot())
     policies.link("readers", "staff read reports", principal='Group::"staff"', resource='Folder::"reports"')
 
 
@@ -72,25 +69,25 @@ def print_error(call: Callable[..., None], *ids: str, **slots: str) -> None:
     try:
         call(*ids, **slots)
     except CedarError as error:
-        print(f"{error.reason}: {error}")
+        print(f"{type(error).__name__}: {error}")
 
 
 def failing_additions(policies: Policies) -> None:
-    print_error(policies.add_static, "readers")  # occupied
-    print_error(policies.link, "policy0", "new")  # no such template
-    print_error(policies.link, "readers", "new")  # arity
-    print_error(policies.link, "doers", "new", action='User::"alice"')  # not an action
-    print_error(policies.link, "doers", "policy0", action='Action::"read"')  # id conflict
+    print_error(policies.add_static, "readers")
+    print_error(policies.link, "policy0", "new")
+    print_error(policies.link, "readers", "new")
+    print_error(policies.link, "doers", "new", action='User::"alice"')
+    print_error(policies.link, "doers", "policy0", action='Action::"read"')
 
 
 def failing_removals(policies: Policies) -> None:
-    print_error(policies.unlink, "nobody")  # no link
-    print_error(policies.unlink, "policy0")  # not a link
-    print_error(policies.remove_static, "nobody")  # no static
-    print_error(policies.remove_static, "staff read reports")  # not static
-    print_error(policies.remove_template, "nobody")  # no template
-    print_error(policies.remove_template, "readers")  # with links
-    print_error(policies.remove_template, "policy0")  # not a template
+    print_error(policies.unlink, "nobody")
+    print_error(policies.unlink, "policy0")
+    print_error(policies.remove_static, "nobody")
+    print_error(policies.remove_static, "staff read reports")
+    print_error(policies.remove_template, "nobody")
+    print_error(policies.remove_template, "readers")
+    print_error(policies.remove_template, "policy0")
 
 
 def main() -> None:
@@ -98,7 +95,7 @@ def main() -> None:
         query(store)
         with store.copy() as edited:
             edit(edited)
-            print("edited:", len(edited), "entities; ancestors of alice:", edited.ancestors('User::"alice"'))
+            print("edited:", len(edited), "entities; ancestors of alice:", *edited.ancestors('User::"alice"'))
         print("with bob:", len(try_add(store, {'User::"bob"': []})), "entities")
         print("unchanged:", len(try_add(store, {'Group::"admins"': []})), "entities")
         print("unchanged:", len(try_add(store, {'Group::"staff"': ['Group::"staff"']})), "entities")
@@ -111,7 +108,7 @@ def main() -> None:
         other.add_static("policy1")
         merge(policies, other)
         print_ids(policies)
-        policies.add_template("doers", action=True)
+        policies.add_template("doers", action=Constraint.is_eq_slot())
         failing_additions(policies)
         failing_removals(policies)
 

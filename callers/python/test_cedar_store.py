@@ -21,6 +21,7 @@ from cedar_store._statuses import STATUSES
 from cedar_store import (
     CedarError,
     Closed,
+    Constraint,
     Effect,
     Entity,
     EntityUid,
@@ -28,7 +29,6 @@ from cedar_store import (
     Policies,
     Store,
     Unknown,
-    WrongThread,
     is_uid,
     run,
     status_text,
@@ -160,21 +160,6 @@ class Stores(unittest.TestCase):
         with self.assertRaises(Closed):
             store.ancestors(uid("a"))
 
-    def test_another_thread_cannot_use_a_store(self):
-        store, errors = Store(entities(("a", ""))), []
-
-        def query():
-            try:
-                len(store)
-            except WrongThread as error:
-                errors.append(error)
-
-        other = threading.Thread(target=query)
-        other.start()
-        other.join()
-        self.assertEqual(len(errors), 1)
-        self.assertEqual(len(store), 1)
-
 
 class Reads(unittest.TestCase):
     def test_iterate_over_uids(self):
@@ -212,15 +197,19 @@ class Reads(unittest.TestCase):
             self.assertEqual(store.is_child_of(uid("a"), uid(name)), is_child)
             self.assertEqual(store.is_indirect_descendant_of(uid("a"), uid(name)), is_indirect)
         for call in (store.is_child_of, store.is_indirect_descendant_of):
-            for pair, reason in (((uid("z"), uid("a")), "no entity"), ((uid("a"), "b"), "not a uid")):
+            for pair, reason, name in (
+                ((uid("z"), uid("a")), "no entity", uid("z")), ((uid("a"), "b"), "not a uid", "b"),
+                (("b", uid("a")), "not a uid", "b"),
+            ):
                 with self.assertRaises(CedarError) as caught:
                     call(*pair)
-                self.assertEqual((caught.exception.reason, str(caught.exception)), (reason, reason))
+                self.assertEqual((caught.exception.reason, caught.exception.names), (reason, (name,)))
+                self.assertEqual(str(caught.exception), f"{reason} {name}")
 
     def test_entity_without_attributes_and_tags(self):
         store = Store(entities(("a", "b")))
         for call, expected in (
-            (store.keys, []),
+            (store.attr_keys, []),
             (store.tag_keys, []),
             (store.attrs_len, 0),
             (store.tags_len, 0),
@@ -254,7 +243,7 @@ class Reads(unittest.TestCase):
         expected = large._result_texts()
         self.assertEqual([str(large)], expected)
         self.assertEqual(repr(store), "<Store of 2 entities>")
-        self.assertEqual(on_thread(lambda: repr(store)), "<Store of another thread>")
+        self.assertEqual(on_thread(lambda: repr(store)), "<Store of 2 entities>")
         store.close()
         self.assertEqual(repr(store), "<Store, closed>")
 
@@ -268,19 +257,13 @@ class Reads(unittest.TestCase):
             lambda: list(store),
             lambda: str(store),
             lambda: store.entity(uid("a")),
-            lambda: store.keys(uid("a")),
+            lambda: store.attr_keys(uid("a")),
             lambda: store.attrs_len(uid("a")),
             lambda: store.is_child_of(uid("a"), uid("b")),
             lambda: pickle.dumps(store),
         ):
             with self.assertRaises(Closed):
                 call()
-
-    def test_another_thread_cannot_read_a_store(self):
-        store = Store(entities(("a", "b")))
-        for call in (store.uids, store.partial, store.is_partial, lambda: str(store), lambda: store.entity(uid("a"))):
-            with self.assertRaises(WrongThread):
-                on_thread(call)
 
 
 class Uids(unittest.TestCase):
@@ -306,7 +289,7 @@ class Uids(unittest.TestCase):
         for type in ("", "A B", "if", "A::", "1", "A::\"a\"", "\ud800"):
             with self.assertRaises(CedarError) as caught:
                 EntityUid.make(type, "a")
-            self.assertEqual((caught.exception.reason, str(caught.exception)), ("not a name", "not a name"))
+            self.assertEqual((caught.exception.reason, str(caught.exception)), ("not a name", "not a name " + type))
         with self.assertRaises(CedarError) as caught:
             EntityUid.make("A", "\ud800")
         self.assertEqual(caught.exception.reason, "not UTF-8")
@@ -403,7 +386,7 @@ class Errors(unittest.TestCase):
         with self.assertRaises(CedarError) as caught:
             Store().parents("a")
         self.assertEqual(caught.exception.uids, ())
-        policies.add_template("t", action=True)
+        policies.add_template("t", action=Constraint.is_eq_slot())
         with self.assertRaises(CedarError) as caught:
             policies.link("t", "l", action=uid("a"))
         self.assertEqual((caught.exception.reason, caught.exception.uids), ("not an action", (uid("a"),)))
@@ -430,7 +413,7 @@ class Errors(unittest.TestCase):
 
 class Pickles(unittest.TestCase):
     def test_pickle_exceptions(self):
-        for error in (CedarError("cycle", 'cycle at A::"a"'), Closed("closed"), WrongThread("a store")):
+        for error in (CedarError("cycle", 'cycle at A::"a"'), Closed("closed", "cannot use a store: it was closed")):
             for protocol in range(pickle.HIGHEST_PROTOCOL + 1):
                 unpickled = pickle.loads(pickle.dumps(error, protocol))
                 self.assertEqual((type(unpickled), str(unpickled)), (type(error), str(error)))
@@ -465,60 +448,20 @@ class Pickles(unittest.TestCase):
     def test_pickle_a_store_that_no_mode_builds(self):
         store = Store(entities(("a", "b"), ("b", "c")), Mode.ASSUME)
         store.upsert(entities(("x", "y"), ("y", "z")))
-        if cedar_store._library.has_function("store_build_with"):
-            unpickled = pickle.loads(pickle.dumps(store))
-            self.assertEqual([unpickled.entity(uid) for uid in unpickled], [store.entity(uid) for uid in unpickled])
-        else:
-            with self.assertRaisesRegex(TypeError, "no mode computes"):
-                pickle.dumps(store)
+        unpickled = pickle.loads(pickle.dumps(store))
+        self.assertEqual([unpickled.entity(uid) for uid in unpickled], [store.entity(uid) for uid in unpickled])
         self.assertEqual(len(store), 4)
-
-    def test_portable_stores(self):
-        store = Store(entities(("a", "b"), ("b", "c")))
-        portable = store.portable()
-        self.assertEqual(repr(portable), "<Store that no thread has called yet>")
-        self.assertEqual(on_thread(lambda: portable.ancestors(uid("a"))), [uid("b"), uid("c")])
-        for call in (lambda: len(portable), lambda: portable == store, lambda: pickle.dumps(portable)):
-            with self.assertRaises(WrongThread):
-                call()
-        for call in (
-            lambda other: other == store and store == other,
-            lambda other: uid("a") in other,
-            lambda other: other.is_descendant_of(uid("a"), uid("c")),
-            lambda other: len(other) == 2,
-            lambda other: other.copy() == store,
-            lambda other: not other.is_partial(),
-            lambda other: not other.attrs_len(uid("a")),
-            lambda other: store.entity_equal(uid("a"), other) and other.entity_equal(uid("b"), store),
-            lambda other: on_thread(lambda: pickle.loads(pickle.dumps(other))) == store,
-        ):
-            self.assertTrue(call(store.portable()))
-        other = store.portable()
-        other.close()
-        with self.assertRaises(Closed):
-            other.uids()
-
-    def test_portable_store_that_cannot_be_built(self):
-        unbuilt = cedar_store._store._unbuilt_store(Store, {uid("a"): [uid("a")]}, Mode.COMPUTE, False)
-        open_count = len(cedar_store._handle.LOCAL.thread.open_handles)
-        for call in (unbuilt.uids, lambda: on_thread(unbuilt.uids)):
-            with self.assertRaises(CedarError) as caught:
-                call()
-            self.assertEqual(caught.exception.reason, "cycle")
-        self.assertEqual(len(cedar_store._handle.LOCAL.thread.open_handles), open_count)
 
     def test_pass_a_store_to_another_process(self):
         store = Store(entities(("a", "b"), ("b", "c")))
         with concurrent.futures.ProcessPoolExecutor(1) as pool:
-            edited = pool.submit(add_child_of_a, store.portable(), uid("x")).result()
             # A process pool pickles on a thread of its own.
-            with self.assertRaisesRegex(WrongThread, "portable"):
-                pool.submit(add_child_of_a, store, uid("x")).result()
+            edited = pool.submit(add_child_of_a, store, uid("x")).result()
         self.assertEqual((set(edited), edited.parents(uid("x"))), ({uid("a"), uid("b"), uid("x")}, [uid("a")]))
         self.assertTrue(edited.is_descendant_of(uid("x"), uid("c")))
         self.assertEqual(len(store), 2)
         with multiprocessing.Pool(1) as pool:
-            self.assertEqual(len(pool.apply(add_child_of_a, (store.portable(), uid("x")))), 3)
+            self.assertEqual(len(pool.apply(add_child_of_a, (store, uid("x")))), 3)
 
 
 class Arguments(unittest.TestCase):
@@ -547,7 +490,7 @@ class Arguments(unittest.TestCase):
                 policies.add_template("p", effect)
         self.assertEqual(policies.bodies(), [])
         policies.add_static("p", 0)
-        policies.add_template("t", 1, principal=2, action="yes")
+        policies.add_template("t", 1, principal=Constraint.is_eq_slot(), action=Constraint.is_eq_slot())
         policies.link("t", "l", principal=uid("a"), action='Action::"go"')
 
     def test_in_accepts_any_object(self):
@@ -644,81 +587,6 @@ class Memory(unittest.TestCase):
             # Five hundred stores take more than a hundred megabytes.
             self.assertLess(resident_bytes() - before, 8 * self.MEGABYTE)
 
-    def test_owner_frees_a_store_that_another_thread_dropped(self):
-        stores = [Store(self.large)]
-        other = stores[0].copy()
-        with self.assertWarnsRegex(ResourceWarning, "a store dropped by another thread"):
-            on_thread(stores.clear)
-        thread = cedar_store._handle.LOCAL.thread
-        self.assertEqual(len(thread.dropped), 1)
-        open_count = len(thread.open_handles)
-        self.assertEqual(len(other), 300)
-        self.assertEqual((len(thread.dropped), len(thread.open_handles)), (0, open_count - 1))
-
-    def test_new_thread_drops_a_store_before_its_state_exists(self):
-        """Checks an object that a thread drops before its own state exists, as the garbage collector may do.
-
-        The owning thread has to free it.
-        """
-        stores, owner = [Store(entities(("a", "b")))], cedar_store._handle.LOCAL.thread
-        original_init = cedar_store._handle.Thread.__init__
-
-        def clear_and_init(thread):
-            stores.clear()
-            original_init(thread)
-
-        cedar_store._handle.Thread.__init__ = clear_and_init
-        try:
-            with self.assertWarnsRegex(ResourceWarning, "a store dropped by another thread"):
-                on_thread(lambda: Store(entities(("c", "d"))).close())
-        finally:
-            cedar_store._handle.Thread.__init__ = original_init
-        self.assertEqual(len(owner.dropped), 1)
-        owner.free_dropped()
-
-    def test_each_call_frees_dropped_handles(self):
-        store, policies = Store(entities(("a", "b"))), Policies()
-        thread = cedar_store._handle.LOCAL.thread
-        for call in (
-            lambda: uid("a") in store,
-            lambda: store.is_descendant_of(uid("a"), uid("b")),
-            lambda: store.ancestors(uid("a")),
-            lambda: len(store),
-            lambda: store.copy(),
-            lambda: policies.policies(),
-            lambda: Policies(),
-        ):
-            objects = [Policies(), Store()]
-            with self.assertWarns(ResourceWarning):
-                on_thread(objects.clear)
-            self.assertEqual(len(thread.dropped), 2)
-            call()
-            self.assertEqual(thread.dropped, [])
-
-    def test_a_thread_that_ends_frees_its_stores(self):
-        def create():
-            return [Store(self.large) for _ in range(100)], cedar_store._handle.LOCAL.thread
-
-        def create_on_thread():
-            result = []
-            other = threading.Thread(target=lambda: result.extend(create()))
-            other.start()
-            other.join()
-            return result
-
-        stores, thread = create_on_thread()
-        self.assertTrue(thread.has_ended)
-        self.assertEqual(thread.open_handles, {})
-        with self.assertRaises(WrongThread):
-            len(stores[0])
-        before = resident_bytes()
-        results = [create_on_thread() for _ in range(40)]
-        # All stores together take a thousand megabytes. The rest is memory that the allocator keeps for threads.
-        self.assertLess(resident_bytes() - before, 100 * self.MEGABYTE)
-        with warnings.catch_warnings():
-            warnings.simplefilter("error")
-            del stores, results
-
 
 class Package(unittest.TestCase):
     def test_search_for_the_library(self):
@@ -741,6 +609,39 @@ class Package(unittest.TestCase):
             self.assertIn("OSError", output(CEDAR_LIBRARY=os.path.join(folder, "none.so")))
             shutil.copy(library, os.path.join(package_copy, "libcedar.so"))
             self.assertEqual(output(), "True\n")
+
+    @unittest.skipUnless(shutil.which("gcc"), "gcc is missing")
+    def test_libraries_of_another_version(self):
+        version_of = "unsigned cedar_version(void) { return %d; }"
+        functions = "run uid_check uids_check refusal_part status_text".split()
+        program = "".join(f"int cedar_{name}(void) {{ return 0; }}\n" for name in functions)
+        for text, error in (
+            (program + version_of % 0x200, "has the version 0.2.0, but cedar_store 0.1.0 needs"),
+            (program + version_of % 0x100, "has no function cedar_uid_make"),
+            ("int other;", "has no function cedar_run: cedar_store 0.1.0 needs a library of version 0.1.0"),
+        ):
+            with tempfile.TemporaryDirectory() as folder:
+                library, source = os.path.join(folder, "other.so"), os.path.join(folder, "other.c")
+                with open(source, "w") as file:
+                    file.write(text)
+                subprocess.run(["gcc", "-shared", "-fPIC", "-o", library, source], check=True)
+                environment = {**os.environ, "CEDAR_LIBRARY": library}
+                here = os.path.dirname(os.path.abspath(__file__))
+                command = [sys.executable, "-B", "-c", "import cedar_store"]
+                result = subprocess.run(command, cwd=here, env=environment, capture_output=True, text=True)
+                self.assertIn("ImportError: the library", result.stderr)
+                self.assertIn(error, result.stderr)
+
+    def test_proved_mark(self):
+        library = cedar_store._library._LIBRARY._name
+        with open(library, "rb") as file:
+            self.assertEqual(cedar_store.__proved__, b"\0.cedar_unproved\0" not in file.read())
+        with tempfile.TemporaryDirectory() as folder:
+            for content in (b"", b"\x7fELF", bytes(100)):
+                path = os.path.join(folder, "other.so")
+                with open(path, "wb") as file:
+                    file.write(content)
+                self.assertIn(cedar_store._library._is_proved(path), (True, False))
 
     def test_version_is_the_version_of_the_project(self):
         self.assertEqual(version(), cedar_store.__version__)
@@ -773,7 +674,7 @@ class Functions(unittest.TestCase):
 
 if __name__ == "__main__":
     tests = unittest.defaultTestLoader.loadTestsFromModule(sys.modules["__main__"])
-    for module in ("test_deep_copy", "test_numbers", "test_policies", "test_values"):
+    for module in ("test_deep_copy", "test_examples", "test_numbers", "test_policies", "test_threads", "test_values"):
         tests.addTests(unittest.defaultTestLoader.loadTestsFromName(module))
     output = io.StringIO()
     result = unittest.TextTestRunner(stream=output, verbosity=0).run(tests)

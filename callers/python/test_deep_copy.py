@@ -2,12 +2,10 @@
 import concurrent.futures
 import os
 import pickle
-import threading
 import unittest
 import warnings
 
-import cedar_store
-from cedar_store import CedarError, Closed, Effect, Entity, EntityUid, Policies, Store, WrongThread
+from cedar_store import CedarError, Closed, Constraint, Effect, Entity, EntityUid, Policies, Store
 from cedar_store.values import PRINCIPAL, RESOURCE
 
 
@@ -35,7 +33,6 @@ def resident_bytes():
         return 0
 
 
-@unittest.skipUnless(cedar_store._library.has_function("store_deep_copy"), "an older library")
 class DeepCopies(unittest.TestCase):
     large = {uid(n): [uid(n // 8)] for n in range(1, 301)}
 
@@ -50,7 +47,7 @@ class DeepCopies(unittest.TestCase):
         for _ in range(8):
             copies.append(store.deep_copy())
             slices.append(store.slice_deep_copy([uid("b")]))
-        self.assertEqual(repr(copies[0]), "<Store that no thread has called yet>")
+        self.assertEqual(repr(copies[0]), "<Store of 2 entities>")
 
         def query(copy, part):
             results = [copy.is_partial(), part.is_partial(), len(copy), len(part)]
@@ -69,11 +66,9 @@ class DeepCopies(unittest.TestCase):
                 self.assertEqual(future.result()[:4], [True, False, 2, 1])
                 self.assertEqual(future.result()[4:], expected[4:])
             self.assertTrue(all(expected[5:]))
-            for call in (copies[0].uids, lambda: store == copies[0], slices[0].close, lambda: pickle.dumps(slices[0])):
-                with self.assertRaises(WrongThread):
-                    call()
+        self.assertTrue(all(store == copy for copy in copies) and pickle.loads(pickle.dumps(slices[0])) == slices[1])
 
-    def test_a_deep_copy_belongs_to_the_first_thread_that_calls_it(self):
+    def test_any_thread_calls_a_deep_copy(self):
         store = Store(entities(("a", "b"), ("b", "c")))
         for call in (
             lambda other: other == store and store == other,
@@ -82,43 +77,20 @@ class DeepCopies(unittest.TestCase):
             lambda other: len(other) == 2,
             lambda other: other.copy() == store,
             lambda other: store.entity_equal(uid("a"), other),
-            lambda other: other.portable() == store,
             lambda other: pickle.loads(pickle.dumps(other)) == store,
             lambda other: other.deep_copy().slice_deep_copy([uid("b")]) == store.slice([uid("b")]),
             lambda other: other.close() is None,
         ):
             other = store.deep_copy()
-            self.assertTrue(call(other))
-            with self.assertRaises(WrongThread):
-                on_thread(other.uids)
-        lengths = []
-        for _ in range(50):
-            other, start = store.deep_copy(), threading.Barrier(4)
-
-            def query(other=other, start=start):
-                start.wait()
-                try:
-                    lengths.append(len(other))
-                except WrongThread:
-                    lengths.append(0)
-
-            threads = [threading.Thread(target=query) for _ in range(4)]
-            for thread in threads:
-                thread.start()
-            for thread in threads:
-                thread.join()
-            self.assertEqual(sorted(lengths), [0, 0, 0, 2])
-            lengths.clear()
+            self.assertTrue(on_thread(lambda: call(other)) and call(store.deep_copy()))
         with self.assertRaises(CedarError):
             store.slice_deep_copy(["no uid"])
         store.close()
         with self.assertRaises(Closed):
             store.deep_copy()
 
-    def test_any_thread_frees_a_deep_copy_without_an_owner(self):
+    def test_any_thread_frees_a_deep_copy(self):
         store = Store(self.large)
-        thread = cedar_store._handle.LOCAL.thread
-        open_count = len(thread.open_handles)
         with warnings.catch_warnings():
             warnings.simplefilter("error")
             for _ in range(2):
@@ -130,12 +102,12 @@ class DeepCopies(unittest.TestCase):
                     on_thread(copies.clear)
         # Four hundred copies take more than eighty megabytes.
         self.assertLess(resident_bytes() - before, 8 << 20)
-        self.assertEqual((len(thread.open_handles), thread.dropped), (open_count, []))
 
     def test_four_threads_use_deep_copies_of_a_policy_set(self):
         policies = Policies()
         policies.add_static("s", Effect.FORBID)
-        policies.add_template("t", principal=True, when=PRINCIPAL.eq(RESOURCE), annotations={"if": "é"})
+        slot, when = Constraint.is_eq_slot(), PRINCIPAL.eq(RESOURCE)
+        policies.add_template("t", principal=slot, when=when, annotations={"if": "é"})
         policies.link("t", "l", principal=uid("a"))
         policies.add_static("w")
         copies = [policies.deep_copy() for _ in range(4)]
@@ -154,7 +126,5 @@ class DeepCopies(unittest.TestCase):
             self.assertEqual(expected[:2], (["s", "t", "w"], ["s", "l", "w"]))
             for future in futures:
                 self.assertEqual(future.result(), expected)
-            for call in (copies[0].policies, lambda: policies == copies[0], lambda: policies.merge(copies[0])):
-                with self.assertRaises(WrongThread):
-                    call()
+        self.assertEqual((policies == copies[0], policies.merge(copies[0])), (True, {}))
         self.assertTrue(policies.deep_copy() == policies)

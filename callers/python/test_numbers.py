@@ -10,7 +10,9 @@ class Numbers(unittest.TestCase):
     def assert_fails(self, reason, call, *arguments):
         with self.assertRaises(CedarError) as caught:
             call(*arguments)
-        self.assertEqual((caught.exception.reason, str(caught.exception)), (reason, reason))
+        self.assertEqual(caught.exception.reason, reason)
+        self.assertRegex(str(caught.exception), f"^{reason} .")
+        self.assertTrue(caught.exception.names)
 
     def test_a_uid_has_one_number(self):
         store = Store({A: [B]})

@@ -2,10 +2,10 @@
 import unittest
 
 from cedar_store import Bound, CedarError, Closed, Constraint, Effect, Policies
-from cedar_store._library import has_function
 from cedar_store.values import ACTION, CONTEXT, PRINCIPAL, RESOURCE, Call, Lit, SetOf, Slot, UnknownExpr
 
 ZEROS = bytes(16)
+SLOT = Constraint.is_eq_slot()
 
 
 def uid(name):
@@ -16,7 +16,7 @@ class Edits(unittest.TestCase):
     def test_add_link_and_remove(self):
         with Policies() as policies:
             policies.add_static("s", Effect.FORBID)
-            policies.add_template("t", principal=True, action=True, resource=True)
+            policies.add_template("t", principal=SLOT, action=SLOT, resource=SLOT)
             policies.link("t", "l", principal=uid("a"), action='Action::"go"', resource=uid("b"))
             self.assertEqual((policies.bodies(), policies.policies()), (["s", "t"], ["s", "l"]))
             policies.unlink("l")
@@ -26,7 +26,7 @@ class Edits(unittest.TestCase):
 
     def test_failed_edits_report_the_id_and_change_nothing(self):
         policies = Policies()
-        policies.add_template("t", principal=True)
+        policies.add_template("t", principal=SLOT)
         policies.link("t", "l", principal=uid("a"))
         for call, text in (
             (lambda: policies.add_static("l"), "occupied l"),
@@ -49,7 +49,7 @@ class Edits(unittest.TestCase):
         with self.assertRaises(CedarError) as caught:
             policies.add_static("\ud800")
         self.assertEqual(caught.exception.reason, "not UTF-8")
-        policies.add_template("t", principal=True)
+        policies.add_template("t", principal=SLOT)
         for value, reason in (("", "not a uid"), ("a", "not a uid"), (None, "arity")):
             with self.assertRaises(CedarError) as caught:
                 policies.link("t", "l", principal=value)
@@ -69,12 +69,11 @@ class Edits(unittest.TestCase):
         self.assertFalse(policies == before)
 
 
-@unittest.skipUnless(has_function("policies_get"), "the library cannot read a policy set")
 class Reads(unittest.TestCase):
     def setUp(self):
         self.policies = Policies(key=ZEROS)
         self.policies.add_static("s", Effect.FORBID)
-        self.policies.add_template("t", principal=True, resource=True)
+        self.policies.add_template("t", principal=SLOT, resource=SLOT)
         self.policies.link("t", "l", principal=uid("a"), resource=uid("b"))
 
     def test_read_the_parts_of_each_kind_of_item(self):
@@ -116,7 +115,6 @@ class Reads(unittest.TestCase):
             policies.get("s")
 
 
-@unittest.skipUnless(has_function("policies_scope"), "the library cannot add and read bodies of policies")
 class Bodies(unittest.TestCase):
     def setUp(self):
         self.policies = Policies(key=ZEROS)
@@ -167,8 +165,8 @@ class Bodies(unittest.TestCase):
         other = Policies(key=ZEROS)
         self.policies.add_static("s")
         other.add_static("s", principal=Constraint.any())
-        self.policies.add_template("t", principal=True, resource=True)
-        other.add_template("t", principal=Constraint.is_eq_slot(), action=False, resource=True)
+        self.policies.add_template("t", principal=SLOT, resource=SLOT)
+        other.add_template("t", principal=Constraint.is_eq_slot(), resource=SLOT)
         self.assertTrue(self.policies == other)
         self.assertIsNone(other.non_scope_constraints("s"))
         other.add_static("u", when=True)
@@ -205,12 +203,11 @@ class Bodies(unittest.TestCase):
             self.assertEqual(caught.exception.reason, "no body")
 
 
-@unittest.skipUnless(has_function("policies_validate"), "the library cannot validate a policy set")
 class Validity(unittest.TestCase):
     def setUp(self):
         self.policies = Policies(key=ZEROS)
         self.policies.add_static("s", Effect.FORBID, action=Constraint.is_in('Action::"get"'), when=Call("ip", "::1"))
-        self.policies.add_template("t", principal=True)
+        self.policies.add_template("t", principal=SLOT)
         self.policies.link("t", "l", principal=uid("a"))
 
     def validation_error(self):
@@ -248,7 +245,7 @@ class Validity(unittest.TestCase):
             unknown(uid("b"), "A"), unknown(uid("a"), "B"), unknown(uid("c")), unknown("x", "A"), unknown(uid("b"), "A")
         )
         policies.add_static("v", when=clause)
-        policies.add_template("w", resource=True, when=~unknown(uid("é"), "A"))
+        policies.add_template("w", resource=SLOT, when=~unknown(uid("é"), "A"))
         policies.link("w", "m", resource=uid("r"))
         self.assertEqual(policies.unknown_entities("v"), [uid("a"), uid("b")])
         self.assertEqual(policies.unknown_entities("v")[0].id, "a")

@@ -10,7 +10,6 @@ import unittest
 
 from cedar_store import CedarError, Closed, Entity, EntityUid, Mode, Store
 from cedar_store import values as v
-from cedar_store._library import has_function
 from cedar_store.values import Extension, Node, Record, expr_from_nodes, expr_to_nodes, from_nodes, same, to_nodes
 
 ALICE = EntityUid('User::"alice"')
@@ -68,21 +67,20 @@ class Values(unittest.TestCase):
             self.assertTrue(same(from_nodes(*encoded), value), value)
         types = [type(from_nodes(*to_nodes(value))) for value in (True, 1, ALICE)]
         self.assertEqual(types, [bool, int, EntityUid])
-        self.assertEqual(v.unpack_nodes(v.pack_nodes(nodes)), nodes)
-        self.assertEqual(len(v.pack_nodes(nodes)), 40 * len(nodes))
+        encoder = v.Encoder()
+        encoder.term(value)
+        self.assertEqual(v.unpack_nodes(encoder.packed().tobytes()), encoder.nodes)
+        self.assertEqual(len(encoder.packed().tobytes()), 40 * len(encoder.nodes))
 
     def test_encode_and_decode_random_values(self):
-        rng, equal_members = random.Random(1), 0
+        rng, mixed_sets = random.Random(1), 0
         for _ in range(3000):
             value = random_value(rng, 4)
-            try:
-                decoded = from_nodes(*to_nodes(value))
-            except ValueError:
-                equal_members += 1
-                continue
+            decoded = from_nodes(*to_nodes(value))
+            mixed_sets += "CedarSet" in repr(decoded)
             self.assertTrue(same(value, decoded), value)
             self.assertEqual(from_nodes(*to_nodes(decoded)), decoded)
-        self.assertTrue(0 < equal_members < 300, equal_members)
+        self.assertTrue(0 < mixed_sets < 300, mixed_sets)
 
     def test_deep_values(self):
         for wrap, other in (
@@ -109,8 +107,25 @@ class Values(unittest.TestCase):
         self.assertFalse(same(True, 1) or same(0, False) or same([True], [1]) or same({"a": True}, {"a": 1}))
         self.assertFalse(same(ALICE, str(ALICE)) or same([1], 1) or same([], {}))
         for members in ([True, 1], [[0], [False]], [ALICE, str(ALICE)], [{"a": 0}, {"a": False}]):
-            with self.assertRaisesRegex(ValueError, "equal in Python"):
-                from_nodes(*to_nodes(members))
+            read = from_nodes(*to_nodes(members))
+            self.assertEqual((type(read), len(read), read), (v.CedarSet, 2, v.CedarSet(members[::-1])))
+            self.assertTrue(all(member in read for member in members) and same(read, members))
+            self.assertEqual(hash(read), hash(v.CedarSet(members[::-1])))
+            self.assertTrue(read != v.CedarSet(members[:1]) and v.CedarSet(members[:1]) == frozenset(list(read)[:1]))
+            store = Store([Entity(uid("a"), attrs={"set": members})])
+            self.assertEqual((store.get(uid("a"), "set"), store[uid("a")].attrs), (read, {"set": read}))
+            self.assertEqual(pickle.loads(pickle.dumps(read)), read)
+        nested = 0
+        for _ in range(900):
+            nested = [nested, 1, True]
+        self.assertTrue(same(from_nodes(*to_nodes(nested)), nested))
+        for members in ([], [1, "a"], [2, [3]]):
+            read = from_nodes(*to_nodes(members))
+            self.assertIs(type(read), frozenset)
+            self.assertEqual((v.CedarSet(read), hash(v.CedarSet(read))), (read, hash(read)))
+            self.assertEqual(read, v.CedarSet(read))
+        self.assertEqual(v.CedarSet([1]) | v.CedarSet([True]), v.CedarSet([True, 1]))
+        self.assertFalse(object() in v.CedarSet([1]) or v.CedarSet([1]) == 1)
         self.assertEqual(from_nodes(*to_nodes([[True], 1])), frozenset({frozenset({True}), 1}))
         decoded = from_nodes(*to_nodes({"a": [1, 1, {"b": 2}], "c": True}))
         self.assertEqual(decoded, {"a": {1, Record(b=2)}, "c": True})
@@ -326,80 +341,62 @@ DOC = Entity(
     tags={"": "no key", "set": []},
 )
 
-if has_function("store_build_with"):
 
-    class Contents(unittest.TestCase):
-        def test_build_and_read_content(self):
-            store = Store.build([DOC, Entity(uid("b"), [uid("c")], attrs={"x": True})])
-            for key, term in DOC.attrs.items():
-                read = store.get(uid("a"), key)
-                self.assertTrue(read == term if isinstance(term, v.Expr) else same(read, term), key)
-            self.assertEqual((store.get_tag(uid("a"), ""), store.get(uid("a"), "x")), ("no key", None))
-            self.assertEqual((store.attrs_len(uid("a")), store.tags_len(uid("a"))), (3, 2))
-            self.assertEqual((store.keys(uid("a")), store.tag_keys(uid("a"))), (["later", "owner", "é"], ["", "set"]))
-            expected = Entity(DOC.uid, DOC.parents, attrs=DOC.attrs, tags=DOC.tags, indirect_ancestors=[uid("c")])
-            self.assertEqual(store.entity(uid("a")), expected)
-            self.assertIs(store.get(uid("b"), "x"), True)
-            for call in (lambda: store.get(uid("z"), "x"), lambda: store.get_tag("z", "x")):
-                with self.assertRaises(CedarError):
-                    call()
-            with self.assertRaises(TypeError):
-                store.get(uid("a"), 5)
-            store.close()
-            with self.assertRaises(Closed):
-                store.get(uid("a"), "x")
+class Contents(unittest.TestCase):
+    def test_build_and_read_content(self):
+        store = Store.build([DOC, Entity(uid("b"), [uid("c")], attrs={"x": True})])
+        for key, term in DOC.attrs.items():
+            read = store.get(uid("a"), key)
+            self.assertTrue(read == term if isinstance(term, v.Expr) else same(read, term), key)
+        self.assertEqual((store.get_tag(uid("a"), ""), store.get(uid("a"), "x")), ("no key", None))
+        self.assertEqual((store.attrs_len(uid("a")), store.tags_len(uid("a"))), (3, 2))
+        self.assertEqual((store.attr_keys(uid("a")), store.tag_keys(uid("a"))), (["later", "owner", "é"], ["", "set"]))
+        expected = Entity(DOC.uid, DOC.parents, attrs=DOC.attrs, tags=DOC.tags, indirect_ancestors=[uid("c")])
+        self.assertEqual(store.entity(uid("a")), expected)
+        self.assertIs(store.get(uid("b"), "x"), True)
+        for call in (lambda: store.get(uid("z"), "x"), lambda: store.get_tag("z", "x")):
+            with self.assertRaises(CedarError):
+                call()
+        with self.assertRaises(TypeError):
+            store.get(uid("a"), 5)
+        store.close()
+        with self.assertRaises(Closed):
+            store.get(uid("a"), "x")
 
-        def test_add_and_upsert_content(self):
-            store = Store({uid("b"): [uid("c")]})
-            store.add([DOC])
-            self.assertEqual((store.get(uid("a"), "owner"), store.ancestors(uid("a"))), (ALICE, [uid("b"), uid("c")]))
-            store.upsert([Entity(uid("a"), attrs={"owner": 1})])
-            self.assertEqual((store.get(uid("a"), "owner"), store.tags_len(uid("a"))), (1, 0))
+    def test_add_and_upsert_content(self):
+        store = Store({uid("b"): [uid("c")]})
+        store.add([DOC])
+        self.assertEqual((store.get(uid("a"), "owner"), store.ancestors(uid("a"))), (ALICE, [uid("b"), uid("c")]))
+        store.upsert([Entity(uid("a"), attrs={"owner": 1})])
+        self.assertEqual((store.get(uid("a"), "owner"), store.tags_len(uid("a"))), (1, 0))
 
-        def test_build_with_indirect_ancestors(self):
-            entity = Entity(uid("a"), [uid("b")], indirect_ancestors=[uid("c"), uid("d")])
-            store = Store.build([entity], Mode.ASSUME)
-            self.assertEqual(store.entity(uid("a")), entity)
+    def test_build_with_indirect_ancestors(self):
+        entity = Entity(uid("a"), [uid("b")], indirect_ancestors=[uid("c"), uid("d")])
+        store = Store.build([entity], Mode.ASSUME)
+        self.assertEqual(store.entity(uid("a")), entity)
 
-        def test_pickle_stores_with_content(self):
-            for store in (
-                Store.build([DOC, Entity(uid("b"), [uid("c")])]),
-                Store.build([Entity(uid("a"), [uid("b")], indirect_ancestors=[uid("d")], attrs={"x": 1})], Mode.ASSUME),
-            ):
-                unpickled = pickle.loads(pickle.dumps(store))
-                self.assertEqual([unpickled.entity(uid) for uid in unpickled], [store.entity(uid) for uid in unpickled])
-                self.assertEqual(len(unpickled), len(store))
+    def test_pickle_stores_with_content(self):
+        for store in (
+            Store.build([DOC, Entity(uid("b"), [uid("c")])]),
+            Store.build([Entity(uid("a"), [uid("b")], indirect_ancestors=[uid("d")], attrs={"x": 1})], Mode.ASSUME),
+        ):
+            unpickled = pickle.loads(pickle.dumps(store))
+            self.assertEqual([unpickled.entity(uid) for uid in unpickled], [store.entity(uid) for uid in unpickled])
+            self.assertEqual(len(unpickled), len(store))
 
-        def test_values_of_1000_levels_are_too_deep(self):
-            for levels, is_too_deep in ((999, False), (1000, True)):
-                value = 0
-                for _ in range(levels):
-                    value = [value]
-                store = Store()
-                if is_too_deep:
-                    with self.assertRaises(CedarError) as caught:
-                        store.add([Entity(uid("a"), attrs={"x": value})])
-                    self.assertEqual((caught.exception.reason, str(caught.exception)), ("too deep", "too deep"))
-                else:
+    def test_values_of_1000_levels_are_too_deep(self):
+        for levels, is_too_deep in ((999, False), (1000, True)):
+            value = 0
+            for _ in range(levels):
+                value = [value]
+            store = Store()
+            if is_too_deep:
+                with self.assertRaises(CedarError) as caught:
                     store.add([Entity(uid("a"), attrs={"x": value})])
-                    self.assertTrue(same(store.get(uid("a"), "x"), value))
-
-else:
-
-    class Contents(unittest.TestCase):
-        def test_calls_with_content_need_a_newer_library(self):
-            store = Store({uid("a"): []})
-            for call, name in (
-                (lambda: store.add([DOC]), "add_with"),
-                (lambda: store.upsert([DOC]), "upsert_with"),
-                (lambda: Store.build([DOC]), "build_with"),
-                (lambda: store.get(uid("a"), "x"), "get"),
-                (lambda: store.get_tag(uid("a"), "x"), "get_tag"),
-                (lambda: store.add([Entity(uid("x"), indirect_ancestors=[uid("a")])]), "add_with"),
-            ):
-                with self.assertRaisesRegex(NotImplementedError, f"has no cedar_store_{name}$"):
-                    call()
-            self.assertEqual(list(store), [uid("a")])
+                self.assertEqual((caught.exception.reason, str(caught.exception)), ("too deep", "too deep"))
+            else:
+                store.add([Entity(uid("a"), attrs={"x": value})])
+                self.assertTrue(same(store.get(uid("a"), "x"), value))
 
 
 if __name__ == "__main__":

@@ -4,22 +4,23 @@ The package calls a library whose functions are proved, within the limits that `
 is tested, not proved. It encodes Python lists for the library, copies results out of it and frees its handles.
 
 `CEDAR_LIBRARY` names the shared library. If it is not set, the package loads the `libcedar.so` in its own folder, which
-a wheel contains. In a checkout it then tries `callers/out/libcedar.so`, which `callers/run` builds.
+a wheel contains. In a checkout it then tries `callers/out/libcedar.so`, which `callers/run` builds, and
+`callers/out/try/libcedar.so`, which `callers/run-unproved` builds. `__proved__` says whether the library is proved.
 
 A uid is a text like `A::B::"c"`: a type, and an escaped id in quotes. `EntityUid.make` builds one from a type and an
 id. The id of a policy or of a template is any text.
 
-Raises:
-    CedarError: the library returned an error. `reason` and the text describe it.
-    Closed: the store or the policy set was closed before the call.
-    WrongThread: the store or the policy set belongs to another thread.
-    ValueError: a mode, an effect or a key is invalid.
-    MemoryError: an allocation failed.
-    NotImplementedError: the loaded library is older than the call.
+All exceptions that report an error of the library are subclasses of `CedarError`. Each names the items concerned in its
+text and in attributes like `uid` and `id`. A wrong type raises `TypeError`. An invalid mode, effect or key raises
+`ValueError`.
 
-A store or a policy set belongs to the thread that created it. If another thread drops the last reference, the owning
-thread frees it at its next call on a store or a set. A `ResourceWarning` reports this. When a thread ends, everything
-that it created is freed.
+Any thread may call a store or a policy set. Handles that share memory (a store, its copies and its slices) have one
+lock, which each call takes. So their calls happen one after another, and two stores that share nothing work in
+parallel. `deep_copy` makes such a store. The rule that handles which share are used by one thread at a time is the rule
+of `cedar.h` under which the library is proved. That this package keeps the rule is tested, not proved.
+
+A fork waits for the calls of other threads. Ctrl-C during a call raises `KeyboardInterrupt` after the call. A signal
+handler that calls a store in the middle of another call of its thread can get a `RuntimeError`.
 
 Entities can have attributes and tags: see `Entity` and the module `values`. Policies can have constraints (see
 `Constraint`), annotations and a condition.
@@ -31,10 +32,10 @@ several cycles, or of several missing ancestors, an error names.
 from __future__ import annotations
 
 from . import values
-from ._bodies import Constraint
+from ._bodies import Constraint, ConstraintKind
 from ._entity import Entity, Unknown
-from ._errors import CedarError, WrongThread
-from ._library import run, status_text, version
+from ._errors import CedarError
+from ._library import PROVED, VERSION, run, status_text, version
 from ._policies import Bound, Effect, Env, Policies
 from ._statuses import (  # noqa: F401
     BadArgument,
@@ -69,7 +70,9 @@ from ._statuses import (  # noqa: F401
 from ._store import Entities, Mode, Store
 from ._uids import EntityUid, is_uid
 
-__version__ = "0.1.0"
+__version__ = VERSION
+# Whether the loaded library is proved. `callers/run-unproved` builds one that is only tested.
+__proved__ = PROVED
 
 __all__ = [
     "BadArgument",
@@ -77,6 +80,7 @@ __all__ = [
     "CedarError",
     "Closed",
     "Constraint",
+    "ConstraintKind",
     "Cycle",
     "DuplicateAncestor",
     "DuplicateEntity",
@@ -112,7 +116,6 @@ __all__ = [
     "UnknownFunction",
     "UnknownPolicy",
     "UnknownTemplate",
-    "WrongThread",
     "is_uid",
     "run",
     "status_text",

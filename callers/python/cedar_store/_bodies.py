@@ -1,21 +1,42 @@
 """Bodies of policies and templates, encoded for the library: constraints, annotations and a clause."""
 from __future__ import annotations
 
+import enum
 from array import array
-from typing import List, Mapping, NamedTuple, Optional, Tuple
+from typing import List, Mapping, NamedTuple, Optional, Tuple, Union
 
-from ._expressions import Operand, expr_of
+from ._errors import NOT_A_NAME, NOT_A_UID
+from ._expressions import Expr, Operand, Slot, expr_of
 from ._library import list_of_texts
-from ._uids import EntityUid
-from .values import Encoder, pack_nodes
+from ._uids import EntityUid, is_name, is_uid
+from .values import Encoder
 
-_ANY, _EQ, _EQ_SLOT, _IN, _IN_SLOT, _IS, _IS_IN, _IS_IN_SLOT = range(8)
+
+class ConstraintKind(enum.IntEnum):
+    """The kind of a constraint. The kinds with a slot take the uid from the link of a template."""
+
+    ANY = 0
+    EQ = 1
+    EQ_SLOT = 2
+    IN = 3
+    IN_SLOT = 4
+    IS = 5
+    IS_IN = 6
+    IS_IN_SLOT = 7
+
+
+_WITH_TYPE = (ConstraintKind.IS, ConstraintKind.IS_IN, ConstraintKind.IS_IN_SLOT)
+_WITH_UID = (ConstraintKind.EQ, ConstraintKind.IN, ConstraintKind.IS_IN)
 
 
 class Constraint(NamedTuple):
-    """A constraint of a policy on the principal, the action or the resource. The default has no effect."""
+    """A constraint of a policy on the principal, the action or the resource. The default has no effect.
 
-    kind: int = _ANY
+    >>> Constraint.is_in('Group::"staff"')
+    Constraint(kind=<ConstraintKind.IN: 3>, type=None, uids=('Group::"staff"',))
+    """
+
+    kind: ConstraintKind = ConstraintKind.ANY
     type: Optional[str] = None
     uids: Tuple[str, ...] = ()
 
@@ -27,88 +48,135 @@ class Constraint(NamedTuple):
     @classmethod
     def is_eq(cls, uid: str) -> Constraint:
         """Returns the constraint `== uid`."""
-        return cls(_EQ, None, (uid,))
+        return cls(ConstraintKind.EQ, None, (uid,))
 
     @classmethod
     def is_eq_slot(cls) -> Constraint:
         """Returns the constraint `==` with the slot on the right."""
-        return cls(_EQ_SLOT)
+        return cls(ConstraintKind.EQ_SLOT)
 
     @classmethod
     def is_in(cls, *uids: str) -> Constraint:
         """Returns the constraint `in uid`. For an action it takes a list of uids: `in [uid, ..]`."""
-        return cls(_IN, None, uids)
+        return cls(ConstraintKind.IN, None, uids)
 
     @classmethod
     def is_in_slot(cls) -> Constraint:
         """Returns the constraint `in` with the slot on the right."""
-        return cls(_IN_SLOT)
+        return cls(ConstraintKind.IN_SLOT)
 
     @classmethod
     def is_entity_type(cls, type: str) -> Constraint:
         """Returns the constraint `is type`. Not for actions."""
-        return cls(_IS, type)
+        return cls(ConstraintKind.IS, type)
 
     @classmethod
     def is_entity_type_in(cls, type: str, uid: str) -> Constraint:
         """Returns the constraint `is type in uid`. Not for actions."""
-        return cls(_IS_IN, type, (uid,))
+        return cls(ConstraintKind.IS_IN, type, (uid,))
 
     @classmethod
     def is_entity_type_in_slot(cls, type: str) -> Constraint:
         """Returns the constraint `is type in` with the slot on the right. Not for actions."""
-        return cls(_IS_IN_SLOT, type)
+        return cls(ConstraintKind.IS_IN_SLOT, type)
 
 
 ANY = Constraint()
+_EQ_SLOT = Constraint.is_eq_slot()
+_KINDS = list(ConstraintKind)
+
+
+def _constraint_of(value: Union[Constraint, Slot], variable: str) -> Constraint:
+    """Returns a constraint unchanged. A slot of the variable becomes the constraint `==` with the slot on the right.
+
+    Raises:
+        TypeError: the value is neither a constraint nor a slot.
+        ValueError: the slot is the slot of another variable.
+    """
+    if isinstance(value, Constraint):
+        return value
+    if isinstance(value, Slot):
+        if value.name != "?" + variable:
+            raise ValueError(f"the constraint on the {variable} cannot have the slot {value.name}")
+        return _EQ_SLOT
+    raise TypeError(
+        f"the constraint on the {variable} must be a Constraint or a Slot, got {value!r}: write "
+        f'Constraint.is_eq_slot() or Slot("?{variable}") for a slot, Constraint.is_eq(..) for a uid'
+    )
+
+
+def constraints_of(
+    principal: Union[Constraint, Slot], action: Union[Constraint, Slot], resource: Union[Constraint, Slot]
+) -> Tuple[Constraint, Constraint, Constraint]:
+    """Returns the three constraints of a policy."""
+    return (
+        _constraint_of(principal, "principal"),
+        _constraint_of(action, "action"),
+        _constraint_of(resource, "resource"),
+    )
 
 
 def decode_constraint(kind: int, texts: List[str]) -> Constraint:
     """Decodes a constraint from its kind and the texts of its type and its uids."""
-    type_count = int(kind in (_IS, _IS_IN, _IS_IN_SLOT))
-    return Constraint(kind, texts[0] if type_count else None, tuple(map(EntityUid, texts[type_count:])))
+    if not kind:
+        return ANY
+    type_count = int(kind >= ConstraintKind.IS)
+    uids = tuple([str.__new__(EntityUid, text) for text in texts[type_count:]])
+    return Constraint(_KINDS[kind], texts[0] if type_count else None, uids)
 
 
 class Body:
     """A body, encoded as one text and lists of spans in it. It must live until the call returns."""
 
+    __slots__ = ("_encoder", "_text", "_lists", "_uids", "_names")
+
     def __init__(
         self,
         effect: int,
-        principal: Constraint,
-        action: Constraint,
-        resource: Constraint,
+        scope: Tuple[Constraint, Constraint, Constraint],
         annotations: Mapping[str, str],
         when: Optional[Operand],
     ) -> None:
-        encoder = Encoder()
-        scope = [
-            *_encode_constraint(encoder, principal),
-            *_encode_constraint(encoder, action, lists_uids=True),
-            *_encode_constraint(encoder, resource),
-        ]
-        pair_spans = [bound for pair in annotations.items() for text in pair for bound in encoder.span(text)]
-        action_uids = list_of_texts(action.uids) if action.kind == _IN else []
-        uid_spans = [bound for uid in action_uids for bound in encoder.span(uid)]
+        principal, action, resource = scope
+        self._encoder = encoder = Encoder()
+        head = [effect, *self._encode(principal), *self._encode(action, lists_uids=True), *self._encode(resource)]
+        pairs = [bound for pair in annotations.items() for text in pair for bound in encoder.span(text)]
+        action_uids = list_of_texts(action.uids) if action.kind == ConstraintKind.IN else []
+        uids = [bound for uid in action_uids for bound in encoder.span(uid)]
         if when is not None:
-            encoder.expr(expr_of(when))
-        self.text = bytes(encoder.text)
-        encoded = [effect, *scope], pair_spans, uid_spans, pack_nodes(encoder.nodes)
-        self.lists = [array("Q", numbers or bytes(8)) for numbers in encoded]
-        self.counts = len(pair_spans) // 4, len(uid_spans) // 2, len(encoder.nodes)
+            encoder.expr(when if isinstance(when, Expr) else expr_of(when))
+        self._text = bytes(encoder.text)
+        self._uids = [uid for one in scope for uid in one.uids]
+        self._names = [one.type for one in scope if one.type is not None]
+        self._names += annotations
+        self._lists = array("Q", head), array("Q", pairs or (0,)), array("Q", uids or (0,)), encoder.packed()
+
+    def _encode(self, constraint: Constraint, lists_uids: bool = False) -> List[int]:
+        """Encodes a constraint as its kind, the span of its uid and the span of its type."""
+        kind, type, uids = constraint
+        if kind == ConstraintKind.ANY:
+            return [0, 0, 0, 0, 0]
+        expected_len = int(kind in _WITH_UID)
+        is_list = lists_uids and kind == ConstraintKind.IN
+        if not is_list and len(uids) != expected_len:
+            raise ValueError(f"a constraint of kind {kind} needs {expected_len} uids, got {len(uids)}")
+        uid_span = (0, 0) if is_list or not uids else self._encoder.span(uids[0])
+        return [kind, *uid_span, *((0, 0) if type is None else self._encoder.span(type))]
 
     def arguments(self) -> Tuple[object, ...]:
         """Returns the arguments of the call that follow the handle and the id."""
-        scope, pairs, uids, nodes = (numbers.buffer_info()[0] for numbers in self.lists)
-        pairs_len, uids_len, nodes_len = self.counts
-        return self.text, len(self.text), scope, pairs, pairs_len, uids, uids_len, nodes, nodes_len
+        (head, _), *lists = (numbers.buffer_info() for numbers in self._lists)
+        (pairs, pairs_len), (uids, uids_len), (nodes, nodes_len) = lists
+        return (
+            *(self._text, len(self._text), head),
+            *(pairs, pairs_len // 4, uids, uids_len // 2, nodes, nodes_len // 5),
+        )
 
-
-def _encode_constraint(encoder: Encoder, constraint: Constraint, lists_uids: bool = False) -> List[int]:
-    """Encodes a constraint as its kind, the span of its uid and the span of its type."""
-    kind, type, uids = constraint
-    expected_len = int(kind in (_EQ, _IN, _IS_IN))
-    if not (lists_uids and kind == _IN) and len(uids) != expected_len:
-        raise ValueError(f"a constraint of kind {kind} needs {expected_len} uids, got {len(uids)}")
-    uid_span = (0, 0) if lists_uids and kind == _IN or not uids else encoder.span(uids[0])
-    return [kind, *uid_span, *((0, 0) if type is None else encoder.span(type))]
+    def names_of(self, status: int) -> Tuple[str, ...]:
+        """Returns the text of the body that is not what a status requires: a uid, a name, or UTF-8."""
+        invalid: List[str] = []
+        if status == NOT_A_UID:
+            invalid = [uid for uid in self._uids if not is_uid(uid)]
+        if status == NOT_A_NAME:
+            invalid = [name for name in self._names if not is_name(name)]
+        return tuple(invalid[:1]) or self._encoder.first_invalid(status)

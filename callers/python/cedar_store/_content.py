@@ -2,57 +2,55 @@
 from __future__ import annotations
 
 from array import array
-from typing import Dict, Iterable, List, Tuple
+from typing import Dict, List, Tuple
 
 from ._entity import Entity
+from ._errors import NOT_A_UID
 from ._library import UidList, encode_edges
-from .values import Encoder, pack_nodes
+from .values import Encoder
 
 
-class Content:
+class Content(UidList):
     """Entities, encoded as one text and lists of spans in it. It must live until the call returns."""
 
+    __slots__ = ("count_of_entities", "_encoder", "_content", "_terms", "_nodes", "_parent_edges", "_indirect_edges")
+
     def __init__(self, entities: List[Entity]) -> None:
-        self.count = len(entities)
-        uids = [str(entity.uid) for entity in entities]
-        uid_indices: Dict[str, int] = {}
+        self.count_of_entities = len(entities)
+        uids: List[str] = [entity.uid for entity in entities]
+        indices: Dict[str, int] = {}
         for index, uid in enumerate(uids):
-            uid_indices.setdefault(uid, index)
-
-        def edges_to(ancestors_of: Iterable[Tuple[int, Iterable[str]]]) -> List[int]:
-            edges: List[int] = []
-            for child_index, ancestors in ancestors_of:
+            indices.setdefault(uid, index)
+        parents: List[int] = []
+        indirect: List[int] = []
+        for child_index, entity in enumerate(entities):
+            for ancestors, edges in ((entity.parents, parents), (entity.indirect_ancestors, indirect)):
                 for uid in ancestors:
-                    index = uid_indices.get(uid)
-                    if index is None:
-                        index = uid_indices[uid] = len(uids)
-                        uids.append(str(uid))
+                    index = indices.setdefault(uid, len(uids))
+                    if index == len(uids):
+                        uids.append(uid)
                     edges += (child_index, index)
-            return edges
-
-        parent_edges = edges_to(enumerate(entity.parents for entity in entities))
-        indirect_edges = edges_to(enumerate(entity.indirect_ancestors for entity in entities))
-        self.uids = UidList(uids)
-        encoder = Encoder(self.uids.text)
+        super().__init__(uids)
+        encoder = Encoder(self.text)
         terms: List[int] = []
-        for entity_index, entity in enumerate(entities):
-            for part, fields in enumerate((entity.attrs, entity.tags)):
+        span, encode_term = encoder.span, encoder.term
+        for index, entity in enumerate(entities):
+            for part, fields in ((0, entity.attrs), (1, entity.tags)):
                 for key, term in fields.items():
-                    terms += (entity_index, part, *encoder.span(key), *encoder.term(term))
-        self.text = bytes(encoder.text)
-        self.terms = array("Q", terms or bytes(8))
-        self.terms_len = len(terms) // 6
-        self.nodes = array("Q", pack_nodes(encoder.nodes) or bytes(8))
-        self.nodes_len = len(encoder.nodes)
-        self.parent_edges, self.parent_edges_len = encode_edges(parent_edges), len(parent_edges) // 2
-        self.indirect_edges, self.indirect_edges_len = encode_edges(indirect_edges), len(indirect_edges) // 2
+                    terms += (index, part, *span(key), *encode_term(term))
+        self._encoder, self._content = encoder, bytes(encoder.text)
+        self._terms, self._nodes = array("Q", terms or (0,)), encoder.packed()
+        self._parent_edges, self._indirect_edges = encode_edges(parents), encode_edges(indirect)
 
-    def arguments(self) -> Tuple[object, ...]:
+    def call_arguments(self) -> Tuple[object, ...]:
         """Returns the arguments of the call between the handle and the mode."""
-        _, _, spans, uids_len = self.uids.arguments()
-        return (
-            *(self.text, len(self.text), spans, uids_len, self.count),
-            *(self.parent_edges.buffer_info()[0], self.parent_edges_len),
-            *(self.indirect_edges.buffer_info()[0], self.indirect_edges_len),
-            *(self.terms.buffer_info()[0], self.terms_len, self.nodes.buffer_info()[0], self.nodes_len),
-        )
+        _, _, spans, uids_len = self.arguments()
+        arguments = [self._content, len(self._content), spans, uids_len, self.count_of_entities]
+        for numbers, size in ((self._parent_edges, 2), (self._indirect_edges, 2), (self._terms, 6), (self._nodes, 5)):
+            address, length = numbers.buffer_info()
+            arguments += (address, length // size)
+        return tuple(arguments)
+
+    def names_of(self, status: int) -> Tuple[str, ...]:
+        """Returns the text of a value that is not what a status requires."""
+        return self._encoder.first_invalid(status) if status >= NOT_A_UID else ()

@@ -7,7 +7,7 @@ from typing import TYPE_CHECKING, Any, NoReturn, Optional, Tuple, Type
 if TYPE_CHECKING:
     from ._uids import EntityUid
 
-CLOSED, NOT_A_UID = 2, 4
+CLOSED, BAD_ARGUMENT, NOT_A_UID, NOT_UTF8, UNKNOWN_ENTITY, NOT_A_NAME = 2, 3, 4, 5, 6, 27
 
 
 class CedarError(Exception):
@@ -28,7 +28,7 @@ class CedarError(Exception):
             from ._statuses import STATUSES
 
             cls = {known.reason: known.exception for known in STATUSES.values()}.get(reason, cls)
-        new: CedarError = Exception.__new__(cls, text)
+        new: CedarError = Exception.__new__(cls, text)  # type: ignore[call-arg]
         return new
 
     def __init__(
@@ -85,10 +85,6 @@ class CedarError(Exception):
         return type(self), (self.reason, str(self), self.index, self._names), self.__dict__.copy()
 
 
-class WrongThread(Exception):
-    """The store or the policy set belongs to another thread."""
-
-
 def has_error_text(status: int) -> bool:
     """Returns whether the library has a text for errors with this status."""
     from ._statuses import STATUSES
@@ -108,6 +104,8 @@ def raise_error(status: int, *names: str, text: str = "", index: Optional[int] =
         raise CedarError(f"status {status}", f"status {status}")
     if text:
         raise known.exception(known.reason, text, index)
+    if status == CLOSED:
+        raise known.exception(known.reason, f"cannot use {names[0]}: it was closed", index, names)
     raise known.exception(known.reason, " ".join((known.text, *names)), index, names)
 
 

@@ -19,17 +19,13 @@ class Expr:
     operands: Tuple[Expr, ...]
     _hash: int
 
-    def __new__(cls, *_: Any, **__: Any) -> Any:
-        if cls is Expr:
-            raise TypeError("Expr is abstract: create one of its subclasses")
-        return super().__new__(cls)
+    def __init__(self, *_: Any, **__: Any) -> None:
+        raise TypeError("Expr is abstract: create one of its subclasses")
 
     def _set_fields(self, data: Tuple[Any, ...], *operands: Expr) -> None:
         """Sets the fields: the expression's own data, and its operands."""
-        set_field = object.__setattr__
-        set_field(self, "_data", data)
-        set_field(self, "operands", operands)
-        set_field(self, "_hash", hash((type(self), data, tuple(map(hash, operands)))))
+        _set_data(self, data)
+        _set_operands(self, operands)
 
     def __setattr__(self, _: str, __: object) -> NoReturn:
         raise AttributeError("an expression is immutable")
@@ -74,6 +70,16 @@ class Expr:
         raise TypeError("an expression has no truth value: combine expressions with & and ~, compare with eq")
 
     def __hash__(self) -> int:
+        pending: List[Expr] = [self]
+        while pending:
+            expr = pending[-1]
+            missing = [operand for operand in expr.operands if not hasattr(operand, "_hash")]
+            if missing:
+                pending += missing
+                continue
+            pending.pop()
+            operand_hashes = tuple([operand._hash for operand in expr.operands])
+            object.__setattr__(expr, "_hash", hash((type(expr).__name__, expr._data, operand_hashes)))
         return self._hash
 
     def __eq__(self, other: object) -> bool:
@@ -84,7 +90,7 @@ class Expr:
             left, right = pairs.pop()
             if left is right:
                 continue
-            if left._hash != right._hash or type(left) is not type(right) or left._data != right._data:
+            if type(left) is not type(right) or left._data != right._data:
                 return False
             if len(left.operands) != len(right.operands):
                 return False
@@ -119,12 +125,27 @@ class Expr:
         raise NotImplementedError
 
 
-Operand = Union[Expr, Literal]
+# The setters of the slots, which are faster than `object.__setattr__`.
+_set_data: Any = vars(Expr)["_data"].__set__
+_set_operands: Any = vars(Expr)["operands"].__set__
+
+Operand = Union[Expr, bool, int, EntityUid]
 
 
 def expr_of(operand: Operand) -> Expr:
-    """Returns an expression unchanged, and a `bool`, an `int`, a text or a uid as a literal."""
-    return operand if isinstance(operand, Expr) else Lit(operand)
+    """Returns an expression unchanged, and a `bool`, an `int` or a uid as a literal.
+
+    Raises:
+        TypeError: the operand is a plain `str`, which could mean a uid or a string, or is no operand at all.
+    """
+    if isinstance(operand, Expr):
+        return operand
+    if isinstance(operand, str) and not isinstance(operand, EntityUid):
+        raise TypeError(
+            f"{operand!r} could be an entity or a string: write EntityUid({operand!r}) for the entity, "
+            f"or Lit({operand!r}) for the string"
+        )
+    return Lit(operand)
 
 
 def _quoted(text: str) -> str:
@@ -137,16 +158,12 @@ class Lit(Expr):
     __slots__ = ()
 
     def __init__(self, value: Literal) -> None:
-        if isinstance(value, bool):
-            self._set_fields((bool, value))
-        elif isinstance(value, int):
-            self._set_fields((int, int(value)))
-        elif isinstance(value, EntityUid):
-            self._set_fields((EntityUid, value))
-        elif isinstance(value, str):
-            self._set_fields((str, str(value)))
-        else:
-            raise TypeError(f"a {type(value).__name__} is not a literal")
+        kind = type(value)
+        if kind not in (EntityUid, str, int, bool):
+            value = _plain_literal(value)
+            kind = type(value)
+        _set_data(self, (kind, value))
+        _set_operands(self, ())
 
     @property
     def value(self) -> Literal:
@@ -160,6 +177,17 @@ class Lit(Expr):
         if isinstance(self.value, EntityUid) or not isinstance(self.value, str):
             return str(self.value)
         return _quoted(self.value)
+
+
+def _plain_literal(value: object) -> Literal:
+    """Returns an instance of a subclass of `int`, `str` or `EntityUid` as an instance of that class."""
+    if isinstance(value, EntityUid):
+        return str.__new__(EntityUid, str(value))
+    if isinstance(value, str):
+        return str(value)
+    if isinstance(value, int):
+        return int(value)
+    raise TypeError(f"a {type(value).__name__} is not a literal: {value!r}")
 
 
 class _NamedExpr(Expr):
@@ -245,12 +273,13 @@ class SetOf(Expr):
 
 
 class Call(Expr):
-    """A call of an extension function."""
+    """A call of an extension function. A plain text among its arguments is a string."""
 
     __slots__ = ()
 
-    def __init__(self, function: str, *arguments: Operand) -> None:
-        self._set_fields((_checked_text(function),), *map(expr_of, arguments))
+    def __init__(self, function: str, *arguments: Union[Operand, str]) -> None:
+        operands = [Lit(one) if isinstance(one, str) else expr_of(one) for one in arguments]
+        self._set_fields((_checked_text(function),), *operands)
 
     @property
     def function(self) -> str:
@@ -280,7 +309,8 @@ class _BinaryExpr(Expr):
     _operator = ""
 
     def __init__(self, left: Operand, right: Operand) -> None:
-        self._set_fields((), expr_of(left), expr_of(right))
+        _set_data(self, ())
+        _set_operands(self, (expr_of(left), expr_of(right)))
 
     def _text(self, operands: List[str]) -> str:
         return f"({operands[0]} {self._operator} {operands[1]})"

@@ -1,85 +1,24 @@
-"""Handles of the library: which thread owns each one, and when it is freed."""
+"""The base of stores and policy sets: an object with a handle of the library, in a group."""
 from __future__ import annotations
 
 import ctypes
-import threading
-import warnings
-from typing import Any, Callable, Dict, List, NoReturn, Optional, Tuple, Type, TypeVar
+from typing import Any, Dict, List, NoReturn, Optional, Tuple, Type, TypeVar
 
-from ._errors import CLOSED, NOT_A_UID, WrongThread, has_error_text, raise_error
+from ._errors import CLOSED, NOT_A_UID, has_error_text, raise_error
+from ._groups import Group, both
 from ._library import SIZES, Handle, UidList, key_numbers
 
-_BUFFER_SIZE = 4096
 _FIRST_ITEM = SIZES[0]
-_Free = Callable[[Any], None]
-
-
-class Thread:
-    """The state of one thread: its open handles, its handles that other threads dropped, and reusable buffers."""
-
-    def __init__(self) -> None:
-        self.ident = threading.get_ident()
-        self.has_ended = False
-        self.open_handles: Dict[int, Tuple[Handle, _Free]] = {}
-        self.dropped: List[int] = []
-        self.bool_out = ctypes.c_bool(False)
-        self.bool_pointer = ctypes.byref(self.bool_out)
-        self.number_out = ctypes.c_size_t(0)
-        self.number_pointer = ctypes.byref(self.number_out)
-        self.text_buffer = (ctypes.c_char * _BUFFER_SIZE)()
-        self.span_buffer = (ctypes.c_size_t * (_BUFFER_SIZE // 4))()
-
-    def free(self, address: int) -> None:
-        """Frees a handle. Only the owning thread calls it."""
-        handle, free_handle = self.open_handles.pop(address)
-        free_handle(ctypes.byref(handle))
-
-    def free_dropped(self) -> None:
-        """Frees the handles that other threads dropped. Only the owning thread calls it."""
-        while self.dropped:
-            self.free(self.dropped.pop())
-
-    def end(self, ident: Callable[[], int] = threading.get_ident) -> None:
-        """Frees all handles when the thread ends.
-
-        After a fork, the child process destroys the state of the parent's threads on another thread. Nothing is freed
-        then.
-        """
-        if self.ident == ident():
-            self.has_ended = True
-            while self.open_handles:
-                self.free(next(iter(self.open_handles)))
-
-
-class _ThreadGuard:
-    """A thread-local guard that frees the handles of its thread when the thread ends."""
-
-    def __init__(self) -> None:
-        self.thread = Thread()
-
-    def __del__(self) -> None:
-        self.thread.end()
-
-
-class _Local(threading.local):
-    def __init__(self) -> None:
-        self.guard = _ThreadGuard()
-        self.thread = self.guard.thread
-
-
-LOCAL = _Local()
-
-# The owner of handles that no thread has opened yet, and of deep copies that no thread has called yet. Frees nothing.
-NO_OWNER = Thread()
-NO_OWNER.has_ended = True
-
 _Self = TypeVar("_Self", bound="HandleOwner")
 
 
 class HandleOwner:
-    """The base of stores and policy sets: an object with a handle that only its own thread uses and frees."""
+    """The base of stores and policy sets: an object with a handle, which any thread may use.
 
-    __slots__ = ("_handle", "_pointer", "_thread", "_unclaimed", "__weakref__")
+    A call with several steps, for example one that reads a result, has the lock of the group during all of them.
+    """
+
+    __slots__ = ("_handle", "_pointer", "_group", "__weakref__")
     _noun = ""
     _new: Any
     _free: Any
@@ -91,115 +30,117 @@ class HandleOwner:
     _error_text: Any
     _handle: Handle
     _pointer: Any
-    _thread: Thread
-    # Only in a deep copy: one item. The first thread that calls the copy pops it.
-    _unclaimed: List[bool]
+    _group: Group
 
     def __new__(cls, *_: Any, **__: Any) -> Any:
-        new = cls._without_owner()
-        new._open()
-        return new
+        return cls._closed(Group())
 
     @classmethod
-    def _without_owner(cls: Type[_Self]) -> _Self:
-        """Returns an object with a closed handle that no thread owns yet."""
+    def _closed(cls: Type[_Self], group: Group) -> _Self:
+        """Returns an object of a group, with a closed handle."""
         new = object.__new__(cls)
-        new._thread = NO_OWNER
         new._handle = handle = Handle()
         new._pointer = ctypes.byref(handle)
-        return new
-
-    def _open(self) -> None:
-        """Makes the current thread the owner."""
-        self._thread = thread = LOCAL.thread
-        if thread.dropped:
-            thread.free_dropped()
-        thread.open_handles[ctypes.addressof(self._handle)] = self._handle, self._free
-
-    def _claim(self) -> None:
-        """Makes the current thread the owner of an object without an owner. If several threads call it at the same
-        time, one wins.
-        """
-        try:
-            self._unclaimed.pop()
-        except (AttributeError, IndexError):
-            raise self._wrong_thread() from None
-        self._open()
-
-    def _wrong_thread(self) -> WrongThread:
-        return WrongThread(f"cannot use {self._noun}: it belongs to another thread")
-
-    def _call_deep_copy(self: _Self, function: Any, *arguments: Any) -> _Self:
-        """Calls a library function that makes a deep copy, and returns the copy. No thread owns the copy yet."""
-        self._check_thread()
-        new = type(self)._without_owner()
-        self._call(function, new._pointer, *arguments)
-        new._unclaimed = [True]
+        new._group = group
         return new
 
     def __init__(self, *, key: Optional[bytes] = None) -> None:
         numbers = key_numbers(key)
-        self._check_thread()
-        status = self._new(self._pointer, *numbers)
-        if status:
-            raise_error(status)
+        with self._group.steps():
+            self._raise_unless_ok(self._new(self._pointer, *numbers))
 
-    def _check_thread(self) -> None:
-        """Checks that the current thread owns the handle, and frees the handles that other threads dropped."""
-        thread = self._thread
-        if thread is NO_OWNER:
-            self._claim()
-        elif thread is not LOCAL.thread:
-            raise self._wrong_thread()
-        elif thread.dropped:
-            thread.free_dropped()
-
-    def _call(self, function: Any, *arguments: Any) -> None:
+    def _call(self, function: Any, *arguments: Any, names: Tuple[str, ...] = ()) -> None:
         """Calls a library function that returns a status. Raises an exception if it is not 0."""
-        self._check_thread()
-        status = function(self._pointer, *arguments)
-        if status:
-            self._raise_error(status)
+        group = self._group
+        with group.lock:
+            group.begin()
+            try:
+                status = function(self._pointer, *arguments)
+                if status:
+                    self._raise_error(status, *names)
+            finally:
+                group.is_busy = False
 
     def _call_with_uids(self, function: Any, uids: UidList, *arguments: Any) -> None:
         """Calls a library function on a list of uids. If a text is not a uid, the exception has the text and its index.
         """
-        self._check_thread()
-        status = function(self._pointer, *arguments)
-        index = uids.first_invalid() if status == NOT_A_UID else None
-        if index is not None:
-            raise_error(status, uids.text_at(index), index=index)
+        with self._group.steps():
+            status = function(self._pointer, *arguments)
+            if status:
+                self._raise_error(status, uids=uids)
+
+    def _call_for_texts(self, function: Any, *arguments: Any, names: Tuple[str, ...] = ()) -> List[str]:
+        """Calls a library function that stores texts as its result, and returns them. `names` are the items that the
+        call concerns, for an exception without a text of the library.
+        """
+        group = self._group
+        with group.lock:
+            group.begin()
+            try:
+                status = function(self._pointer, *arguments)
+                if status:
+                    self._raise_error(status, *names)
+                return self._result_texts()
+            finally:
+                group.is_busy = False
+
+    def _call_for_number(self, function: Any, *arguments: Any, names: Tuple[str, ...] = ()) -> int:
+        """Calls a library function that writes a number of 32 bits, and returns it."""
+        number = ctypes.c_uint32(0)
+        with self._group.lock:
+            status = function(self._pointer, *arguments, ctypes.byref(number))
+        if status:
+            self._raise_error(status, *names)
+        return number.value
+
+    def _call_for_bool(self, function: Any, *arguments: Any, names: Tuple[str, ...] = ()) -> bool:
+        """Calls a library function that writes a Boolean, and returns it."""
+        result = ctypes.c_bool(False)
+        with self._group.lock:
+            status = function(self._pointer, *arguments, ctypes.byref(result))
+        if status:
+            self._raise_error(status, *names)
+        return result.value
+
+    def _raise_unless_ok(self, status: int) -> None:
         if status:
             self._raise_error(status)
 
-    def _raise_error(self, status: int) -> NoReturn:
-        """Raises the exception for a status other than 0, with the text of the library if it has one."""
+    def _raise_error(self, status: int, *names: str, uids: Optional[UidList] = None) -> NoReturn:
+        """Raises the exception for a status other than 0, with the text of the library if it has one.
+
+        Otherwise the text has the names. If a text of a list is not a uid, the names are that text.
+        """
         if status == CLOSED:
             raise_error(status, self._noun)
-        text = ""
-        if has_error_text(status):
-            length = self._error_text(self._pointer, b"", 0)
-            buffer = ctypes.create_string_buffer(max(length, 1))
-            self._error_text(self._pointer, buffer, length)
-            text = buffer.raw[:length].decode("utf-8", "replace")
-        raise_error(status, text=text)
+        if status == NOT_A_UID and uids is not None:
+            index = uids.first_invalid()
+            if index is not None:
+                raise_error(status, uids.text_at(index), index=index)
+        if not has_error_text(status):
+            raise_error(status, *(names or (uids.names_of(status) if uids else ())))
+        length = self._error_text(self._pointer, b"", SIZES[0])
+        buffer = ctypes.create_string_buffer(max(length, 1))
+        self._error_text(self._pointer, buffer, SIZES[length])
+        raise_error(status, text=buffer.raw[:length].decode("utf-8", "replace"))
 
     def _result_bytes(self) -> bytes:
-        """Returns the bytes of the texts of the last result."""
-        buffer: Any = self._thread.text_buffer
-        length = self._result(self._pointer, _FIRST_ITEM, buffer, SIZES[_BUFFER_SIZE])
-        if length > _BUFFER_SIZE:
+        """Returns the bytes of the texts of the last result. The caller has the lock."""
+        buffer: Any = self._group.text_buffer
+        length = self._result(self._pointer, _FIRST_ITEM, buffer, SIZES[len(buffer)])
+        if length > len(buffer):
             buffer = (ctypes.c_char * length)()
             self._result(self._pointer, _FIRST_ITEM, buffer, SIZES[length])
         encoded: bytes = buffer[:length]
         return encoded
 
     def _result_texts(self) -> List[str]:
-        """Returns the texts of the last result."""
+        """Returns the texts of the last result. The caller has the lock."""
         encoded = self._result_bytes()
-        buffer: Any = self._thread.span_buffer
-        count = self._result_spans(self._pointer, _FIRST_ITEM, buffer, SIZES[_BUFFER_SIZE // 8])
-        if count > _BUFFER_SIZE // 8:
+        buffer: Any = self._group.span_buffer
+        capacity = len(buffer) // 2
+        count = self._result_spans(self._pointer, _FIRST_ITEM, buffer, SIZES[capacity])
+        if count > capacity:
             buffer = (ctypes.c_size_t * (2 * count))()
             self._result_spans(self._pointer, _FIRST_ITEM, buffer, SIZES[count])
         bounds = buffer[: 2 * count]
@@ -208,37 +149,38 @@ class HandleOwner:
             return [text[start:end] for start, end in zip(bounds[::2], bounds[1::2])]
         return [encoded[start:end].decode("utf-8", "replace") for start, end in zip(bounds[::2], bounds[1::2])]
 
-    def copy(self: _Self) -> _Self:
-        """Returns a copy with the same key. It shares its contents with the original, and belongs to the current
-        thread.
-
-        Raises:
-            Closed: it was closed.
-            WrongThread: it belongs to another thread.
-            MemoryError: an allocation failed.
-        """
-        self._check_thread()
-        new: _Self = type(self).__new__(type(self))
-        self._call(self._copy, new._pointer)
+    def _fill(self: _Self, new: _Self, function: Any, *arguments: Any, uids: Optional[UidList] = None) -> _Self:
+        """Calls a library function that fills another handle from this one. Returns the object of that handle."""
+        with self._group.steps():
+            status = function(self._pointer, new._pointer, *arguments)
+            if status:
+                self._raise_error(status, uids=uids)
         return new
 
-    def deep_copy(self: _Self) -> _Self:
-        """Returns a deep copy with the same key, for use by another thread.
-
-        The copy shares nothing with the original. It belongs to the first thread that calls one of its methods. Until
-        then, any thread may drop it.
+    def copy(self: _Self) -> _Self:
+        """Returns a copy with the same key. It shares its contents with the original, and also its lock.
 
         Raises:
             Closed: it was closed.
-            WrongThread: it belongs to another thread.
-            MemoryError: an allocation failed.
+            OutOfMemory: an allocation failed.
         """
-        return self._call_deep_copy(self._deep_copy)
+        return self._fill(self._closed(self._group), self._copy)
+
+    def deep_copy(self: _Self) -> _Self:
+        """Returns a deep copy with the same key. It shares nothing with the original.
+
+        Calls on the copy and on the original run in parallel on two threads.
+
+        Raises:
+            Closed: it was closed.
+            OutOfMemory: an allocation failed.
+        """
+        return self._fill(self._closed(Group()), self._deep_copy)
 
     __copy__ = copy
 
     def __deepcopy__(self: _Self, _: Dict[int, Any]) -> _Self:
-        return self.copy()
+        return self.deep_copy()
 
     def __reduce__(self) -> Tuple[Any, ...]:
         raise TypeError(f"{self._noun} cannot be pickled: no call lists all its contents. Pickle its input instead")
@@ -248,10 +190,10 @@ class HandleOwner:
             return NotImplemented
         if self is other:
             return True
-        self._check_thread()
-        other._check_thread()
-        self._call(self._equal, other._pointer, self._thread.bool_pointer)
-        return self._thread.bool_out.value
+        result = ctypes.c_bool(False)
+        with both(self._group, other._group):
+            self._raise_unless_ok(self._equal(self._pointer, other._pointer, ctypes.byref(result)))
+        return result.value
 
     __hash__ = None  # type: ignore[assignment]
 
@@ -259,12 +201,9 @@ class HandleOwner:
         """Frees the contents. Closing again has no effect.
 
         Later calls raise `Closed`, except that the `len` of a closed store is 0.
-
-        Raises:
-            WrongThread: it belongs to another thread.
         """
-        self._check_thread()
-        self._free(self._pointer)
+        with self._group.steps():
+            self._free(self._pointer)
 
     def __enter__(self: _Self) -> _Self:
         return self
@@ -273,16 +212,9 @@ class HandleOwner:
         self.close()
 
     def __del__(self) -> None:
-        thread = self._thread
-        if thread.has_ended:
-            # A deep copy that no thread has called is freed by the thread that drops it.
-            if thread is NO_OWNER and self._handle.is_open:
-                self._free(self._pointer)
+        try:
+            group, handle = self._group, self._handle
+        except AttributeError:
             return
-        address = ctypes.addressof(self._handle)
-        # A thread whose local state is still being created has no `thread` yet.
-        if thread is getattr(LOCAL, "thread", None):
-            thread.free(address)
-            return
-        thread.dropped.append(address)
-        warnings.warn(f"{self._noun} dropped by another thread: its own thread frees it", ResourceWarning, source=self)
+        if handle.is_open:
+            group.drop(self._pointer, handle, self._free)

@@ -10,7 +10,7 @@ import os
 import struct
 from array import array
 from itertools import accumulate
-from typing import Any, Dict, Iterable, List, NoReturn, Optional, Tuple
+from typing import Any, Dict, Iterable, List, Optional, Tuple
 
 from ._errors import NOT_A_UID, raise_error
 
@@ -54,6 +54,7 @@ _DECLARED: Dict[str, Tuple[Any, List[Any]]] = {
     "policies_remove_static": (_U, [_P] + _TEXT),
     "policies_remove_template": (_U, [_P] + _TEXT),
     "policies_merge": (_U, [_P, _P, ctypes.c_bool]),
+    "policies_merge_deep_copy": (_U, [_P, _P, ctypes.c_bool]),
     "policies_ids": (_U, [_P, _U]),
     "policies_annotation": (_U, [_P] + _TEXT + _TEXT + [_P]),
     "policies_text": (_U, [_P]),
@@ -90,49 +91,65 @@ def _path() -> str:
     if os.path.exists(in_package):
         return in_package
     callers = os.path.dirname(os.path.dirname(package))
-    in_checkout = os.path.join(callers, "out", "libcedar.so")
-    if os.path.exists(os.path.join(callers, "c", "cedar.h")) and os.path.exists(in_checkout):
-        return in_checkout
-    raise ImportError("cannot find libcedar.so: run callers/run in the checkout, or set CEDAR_LIBRARY to its path "
-                      "(callers/run-unproved builds one without the proofs, in callers/out/try)")
+    if os.path.exists(os.path.join(callers, "c", "cedar.h")):
+        for folder in (("out",), ("out", "try")):
+            in_checkout = os.path.join(callers, *folder, "libcedar.so")
+            if os.path.exists(in_checkout):
+                return in_checkout
+    raise ImportError("cannot find libcedar.so: run callers/run or callers/run-unproved in the checkout, or set "
+                      "CEDAR_LIBRARY to its path")
+
+
+def _section_names(path: str) -> bytes:
+    """Returns the names of the sections of a library for Linux, each with a zero after it."""
+    with open(path, "rb") as file:
+        (sections_at,) = struct.unpack_from("<Q", file.read(64), 40)
+        file.seek(58)
+        size, count, names_index = struct.unpack("<HHH", file.read(6))
+        file.seek(sections_at + size * names_index)
+        names_at, names_size = struct.unpack_from("<QQ", file.read(size), 24)
+        file.seek(names_at)
+        return file.read(names_size)
+
+
+def _is_proved(path: str) -> bool:
+    """Returns whether a library is proved. `callers/run-unproved` marks its library with a section."""
+    try:
+        return b"\0.cedar_unproved\0" not in _section_names(path)
+    except (OSError, struct.error):
+        return False
 
 
 _LIBRARY = ctypes.CDLL(_path())
 # The same library. Its functions keep the lock of the Python interpreter during a call.
 _LOCKED_LIBRARY = ctypes.PyDLL(_LIBRARY._name)
 
+PROVED = _is_proved(_LIBRARY._name)
+VERSION = "0.1.0"
+
+
+def _symbol(library: Any, name: str) -> Any:
+    try:
+        return library["cedar_" + name]
+    except AttributeError:
+        raise ImportError(f"the library {_LIBRARY._name} has no function cedar_{name}: cedar_store {VERSION} needs a "
+                          f"library of version {VERSION}") from None
+
 
 def function(name: str) -> Any:
     """Returns a library function that can take long. It converts its arguments and lets other Python threads run
     meanwhile.
     """
-    symbol = _LIBRARY["cedar_" + name]
+    symbol = _symbol(_LIBRARY, name)
     symbol.restype, symbol.argtypes = _DECLARED[name]
     return symbol
 
 
 def quick_function(name: str, result: Any = _U) -> Any:
     """Returns a library function that returns quickly. It takes bytes, sizes and addresses, and converts nothing."""
-    symbol = _LOCKED_LIBRARY["cedar_" + name]
+    symbol = _symbol(_LOCKED_LIBRARY, name)
     symbol.restype = result
     return symbol
-
-
-def optional_function(name: str) -> Any:
-    """Returns a function that older libraries do not have. If it is missing, calling it raises `NotImplementedError`.
-    """
-    if has_function(name):
-        return function(name)
-
-    def missing(*_: object) -> NoReturn:
-        raise NotImplementedError(f"the loaded library, {_LIBRARY._name}, has no cedar_{name}")
-
-    return missing
-
-
-def has_function(name: str) -> bool:
-    """Returns whether the library has the function."""
-    return hasattr(_LIBRARY, "cedar_" + name)
 
 
 class _Sizes(Dict[int, Any]):
@@ -150,7 +167,7 @@ SIZES = _Sizes({size: _N.from_param(size) for size in range(513)})
 def encode(text: str) -> bytes:
     """Encodes a text as UTF-8. A lone surrogate is encoded too, so that the library reports it."""
     if not isinstance(text, str):
-        raise TypeError(f"expected a str, got a {type(text).__name__}")
+        raise TypeError(f"expected a str, got a {type(text).__name__}: {text!r}")
     return text.encode("utf-8", "surrogatepass")
 
 
@@ -166,7 +183,11 @@ class UidList:
     __slots__ = ("text", "spans", "count")
 
     def __init__(self, uids: List[str]) -> None:
-        joined = "".join(uids)
+        try:
+            joined = "".join(uids)
+        except TypeError:
+            wrong = next(uid for uid in uids if not isinstance(uid, str))
+            raise TypeError(f"expected a uid as a str, got a {type(wrong).__name__}: {wrong!r}") from None
         self.text = encode(joined)
         if len(self.text) == len(joined):
             ends = array("Q", accumulate(map(len, uids)))
@@ -192,15 +213,20 @@ class UidList:
         return index.value if _uids_check(*self.arguments(), ctypes.byref(index)) == NOT_A_UID else None
 
 
+    def names_of(self, status: int) -> Tuple[str, ...]:
+        """Returns the texts that an exception for a status names, besides the uids of the list."""
+        return ()
+
+
 def encode_edges(edges: List[int]) -> "array[int]":
     """Encodes edges, two numbers each. The array has an address even if there are no edges."""
-    return array("Q", edges or (0, 0))
+    return array("Q", edges or (0,))
 
 
 def list_of_texts(texts: Iterable[str]) -> List[str]:
     """Returns the texts as a list. Raises `TypeError` for a single text."""
     if isinstance(texts, str):
-        raise TypeError("expected a list of texts, got one text")
+        raise TypeError(f"expected a list of texts, got one text: {texts!r}")
     return list(texts)
 
 
@@ -214,7 +240,7 @@ def key_numbers(key: Optional[bytes]) -> Tuple[int, int]:
 
 
 _run, _status_text, _version = function("run"), function("status_text"), function("version")
-_uids_check, _name_span = optional_function("uids_check"), optional_function("refusal_part")
+_uids_check, _name_span = function("uids_check"), function("refusal_part")
 
 
 def names_in_error_text(status: int, text: str) -> List[str]:
@@ -228,6 +254,9 @@ def names_in_error_text(status: int, text: str) -> List[str]:
 
 def status_text(status: int) -> str:
     """Returns the words for a status of `cedar.h`, like `not a uid`. Returns an empty text if there is no such status.
+
+    >>> status_text(4)
+    'not a uid'
     """
     if not 0 <= status < 1 << 32:
         return ""
@@ -237,17 +266,29 @@ def status_text(status: int) -> str:
 
 
 def version() -> str:
-    """Returns the version of the loaded library, like `0.1.0`."""
+    """Returns the version of the loaded library.
+
+    >>> version()
+    '0.1.0'
+    """
     number = _version()
     return f"{number >> 16}.{number >> 8 & 255}.{number & 255}"
+
+
+if version() != VERSION:
+    raise ImportError(f"the library {_LIBRARY._name} has the version {version()}, but cedar_store {VERSION} needs a "
+                      f"library of version {VERSION}")
 
 
 def run(lines: bytes, *, key: Optional[bytes] = None) -> Tuple[bytes, int]:
     """Runs the program on all lines of an input. Returns its output and its exit status, 0 or 2.
 
     Raises:
-        MemoryError: an allocation failed.
+        OutOfMemory: an allocation failed.
         ValueError: the key does not have 16 bytes.
+
+    >>> run(b'ent\\tA::"a"\\tA::"b"\\nbuild\\nanc\\tA::"a"\\n')
+    (b'ok 1\\nanc\\tA::"b"\\n', 0)
     """
     numbers, capacity = key_numbers(key), max(len(lines), 4096)
     while True:

@@ -3,32 +3,31 @@ from __future__ import annotations
 
 import ctypes
 import enum
-from typing import Any, Dict, FrozenSet, List, Mapping, NamedTuple, Optional, Union
+from typing import Any, Dict, FrozenSet, Iterator, List, Mapping, NamedTuple, Optional, Tuple, Union
 
-from ._bodies import ANY, Body, Constraint, decode_constraint
-from ._errors import NOT_A_UID, enum_number, raise_error
-from ._expressions import Expr, Operand
+from ._bodies import ANY, Body, Constraint, constraints_of, decode_constraint
+from ._errors import NOT_A_NAME, NOT_A_UID, NOT_UTF8, enum_number, raise_error
+from ._expressions import Expr, Operand, Slot
+from ._groups import both
 from ._handle import HandleOwner
-from ._library import UidList, encode_with_length, function, optional_function, quick_function
-from ._uids import EntityUid
-from .values import NODE_SIZE, expr_from_nodes, unpack_nodes
+from ._library import SIZES, UidList, encode, encode_with_length, function, quick_function
+from ._uids import EntityUid, is_uid
+from .values import NODE_SIZE, expr_from_nodes, node_fields
 
 _add_static, _add_template = function("policies_add_static"), function("policies_add_template")
 _link, _unlink = function("policies_link"), function("policies_unlink")
 _remove_static, _remove_template = function("policies_remove_static"), function("policies_remove_template")
-_merge, _ids = function("policies_merge"), function("policies_ids")
-_get, _effect, _slots = [optional_function("policies_" + name) for name in ("get", "effect", "slots")]
-_annotation, _annotations = optional_function("policies_annotation"), optional_function("policies_annotations")
-_env, _template_id, _linked = [optional_function("policies_" + name) for name in ("env", "template_id", "linked")]
+_merge, _merge_deep_copy, _ids = [function("policies_" + name) for name in ("merge", "merge_deep_copy", "ids")]
+_get, _effect, _slots = [quick_function("policies_" + name) for name in ("get", "effect", "slots")]
+_annotation, _annotations = quick_function("policies_annotation"), quick_function("policies_annotations")
+_env, _template_id, _linked = [quick_function("policies_" + name) for name in ("env", "template_id", "linked")]
 _text, _policy_text, _template_text = [
-    optional_function("policies_" + name) for name in ("text", "policy_text", "template_text")
+    function("policies_" + name) for name in ("text", "policy_text", "template_text")
 ]
-_unknown_entities, _validate = optional_function("policies_unknown_entities"), optional_function("policies_validate")
-_add_static_with, _add_template_with = [
-    optional_function(f"policies_add_{name}_with") for name in ("static", "template")
-]
-_scope, _clause, _condition = [optional_function("policies_" + name) for name in ("scope", "clause", "condition")]
-_result_nodes = optional_function("policies_answer_nodes")
+_unknown_entities, _validate = function("policies_unknown_entities"), function("policies_validate")
+_add_static_with, _add_template_with = [function(f"policies_add_{name}_with") for name in ("static", "template")]
+_scope, _clause, _condition = [quick_function("policies_" + name) for name in ("scope", "clause", "condition")]
+_result_nodes = quick_function("policies_answer_nodes", ctypes.c_size_t)
 
 
 class Effect(enum.IntEnum):
@@ -55,26 +54,52 @@ class Env(NamedTuple):
 
 
 _SLOTS = {1: "principal", 2: "action", 4: "resource"}
+_EFFECTS = list(Effect)
+# The number of nodes that fit into the first buffer for a clause.
+_NODES = 64
+
+
+def _id_arguments(id: str) -> Tuple[bytes, Any]:
+    text = encode(id)
+    return text, SIZES[len(text)]
 
 
 class Policies(HandleOwner):
     """A policy set. A call that raises an exception leaves it unchanged.
 
+    Any thread may use a set. Calls on a set and its copies happen one after another. Iteration, `len` and `in` work on
+    the ids of the policies, which are static policies and links.
+
     Raises:
         Closed: the set was closed (every method).
-        WrongThread: the set belongs to another thread (every method).
-        MemoryError: an allocation failed (every method).
+        OutOfMemory: an allocation failed (every method).
         TypeError: an argument has the wrong type, for example an id that is not a `str`.
-        CedarError: as each method says; `not UTF-8` if an id contains a lone surrogate.
+        NotUtf8: an id contains a lone surrogate.
+
+    >>> policies = Policies()
+    >>> policies.add_static("all")
+    >>> policies, "all" in policies, list(policies)
+    (<Policies: 1 policies, 0 templates>, True, ['all'])
     """
 
     __slots__ = ()
     _noun = "a policy set"
     _new, _free, _copy = function("policies_new"), function("policies_free"), function("policies_copy")
-    _deep_copy = optional_function("policies_deep_copy")
-    _equal, _error_text = function("policies_equal"), function("policies_refusal")
+    _deep_copy = function("policies_deep_copy")
+    _equal, _error_text = function("policies_equal"), quick_function("policies_refusal", ctypes.c_size_t)
     _result = quick_function("policies_answer", ctypes.c_size_t)
     _result_spans = quick_function("policies_answer_spans", ctypes.c_size_t)
+
+    def _add(self, function: Any, id: str, body: Body) -> None:
+        group, id_text = self._group, encode(id)
+        with group.lock:
+            group.begin()
+            try:
+                status = function(self._pointer, id_text, len(id_text), *body.arguments())
+                if status:
+                    self._raise_error(status, *(body.names_of(status) or ((id,) if status == NOT_UTF8 else ())))
+            finally:
+                group.is_busy = False
 
     def add_static(
         self,
@@ -91,44 +116,50 @@ class Policies(HandleOwner):
 
         Raises:
             ValueError: the effect is invalid, or a constraint has the wrong number of uids.
-            CedarError: `occupied` if the id is bound already; `not static` if a constraint or the clause has a slot;
-                `not a uid`, `not a name`, `not UTF-8` or `too deep` if a part of the body is invalid.
+            TypeError: a constraint is no `Constraint`, or `when` is a plain `str`.
+            IdInUse: the id is bound already.
+            NotStatic: a constraint or the clause has a slot.
+            NotAUid, NotAName, NotUtf8, TooDeep: a part of the body is invalid.
+
+        >>> policies = Policies()
+        >>> policies.add_static("locked", Effect.FORBID, resource=Constraint.is_in('Folder::"locked"'))
+        >>> policies.effect("locked")
+        <Effect.FORBID: 1>
         """
         effect_number = enum_number(effect, Effect)
-        if (principal, action, resource) == (ANY, ANY, ANY) and not annotations and when is None:
-            return self._call(_add_static, *encode_with_length(id), effect_number)
-        body = Body(effect_number, principal, action, resource, annotations, when)
-        self._call(_add_static_with, *encode_with_length(id), *body.arguments())
+        if principal is action is resource is ANY and not annotations and when is None:
+            return self._call(_add_static, *encode_with_length(id), effect_number, names=(id,))
+        scope = constraints_of(principal, action, resource)
+        self._add(_add_static_with, id, Body(effect_number, scope, annotations, when))
 
     def add_template(
         self,
         id: str,
         effect: int = Effect.PERMIT,
         *,
-        principal: Union[bool, Constraint] = False,
-        action: Union[bool, Constraint] = False,
-        resource: Union[bool, Constraint] = False,
+        principal: Union[Constraint, Slot] = ANY,
+        action: Union[Constraint, Slot] = ANY,
+        resource: Union[Constraint, Slot] = ANY,
         annotations: Mapping[str, str] = {},
         when: Optional[Operand] = None,
     ) -> None:
-        """Adds a template. For a constraint, True is short for `Constraint.is_eq_slot()`, and False means no
-        constraint.
+        """Adds a template. A `Slot` as a constraint is short for `Constraint.is_eq_slot()`.
 
         Raises:
-            ValueError: the effect is invalid, or a constraint has the wrong number of uids.
-            CedarError: `occupied` if the id is bound already; `not a uid`, `not a name`, `not UTF-8` or `too deep` if
-                a part of the body is invalid.
+            ValueError: the effect is invalid, a slot belongs to another variable, or a constraint has the wrong number
+                of uids.
+            TypeError: a constraint is neither a `Constraint` nor a `Slot`, or `when` is a plain `str`.
+            IdInUse: the id is bound already.
+            NotAUid, NotAName, NotUtf8, TooDeep: a part of the body is invalid.
+
+        >>> policies = Policies()
+        >>> policies.add_template("readers", principal=Slot("?principal"), resource=Constraint.is_in_slot())
+        >>> sorted(policies.slots("readers"))
+        ['principal', 'resource']
         """
-        scope = principal, action, resource
         effect_number = enum_number(effect, Effect)
-        if not any(isinstance(item, Constraint) for item in scope) and not annotations and when is None:
-            slots = sum(bit for bit, has_slot in zip(_SLOTS, scope) if has_slot)
-            return self._call(_add_template, *encode_with_length(id), effect_number, slots)
-        constraints = [
-            item if isinstance(item, Constraint) else Constraint.is_eq_slot() if item else ANY for item in scope
-        ]
-        body = Body(effect_number, constraints[0], constraints[1], constraints[2], annotations, when)
-        self._call(_add_template_with, *encode_with_length(id), *body.arguments())
+        scope = constraints_of(principal, action, resource)
+        self._add(_add_template_with, id, Body(effect_number, scope, annotations, when))
 
     def link(
         self,
@@ -142,133 +173,276 @@ class Policies(HandleOwner):
         """Links a template under the new id, with these uids in its slots.
 
         Raises:
-            CedarError: the first error of this list.
+            NotAUid: a value is not a uid.
+            UnknownTemplate: there is no template with this id.
+            SlotMismatch: a slot of the template is unbound, or a slot that it does not have is bound.
+            NotAnAction: the value of the action slot is not an action.
+            IdInUse: the new id is bound already.
 
-            - `not a uid`: a value is not a uid.
-            - `no such template`: there is no template with this id.
-            - `arity`: a slot of the template is unbound, or a slot that it does not have is bound.
-            - `not an action`: the value of the action slot is not an action.
-            - `id conflict`: the new id is bound already.
+        >>> policies = Policies()
+        >>> policies.add_template("readers", principal=Slot("?principal"))
+        >>> policies.link("readers", "alice reads", principal='User::"alice"')
+        >>> policies.env("alice reads").principal
+        EntityUid('User::"alice"')
         """
         values = (principal, action, resource)
         if "" in values:
-            raise_error(NOT_A_UID)
+            raise_error(NOT_A_UID, "", index=values.index(""))
         uids = UidList(["" if value is None else value for value in values])
-        self._call_with_uids(_link, uids, *encode_with_length(template), *encode_with_length(id), *uids.arguments())
+        template_text, id_text = encode_with_length(template), encode_with_length(id)
+        group = self._group
+        with group.lock:
+            group.begin()
+            try:
+                status = _link(self._pointer, *template_text, *id_text, *uids.arguments())
+                if status == NOT_A_UID:
+                    invalid = [at for at, value in enumerate(values) if value is not None and not is_uid(value)]
+                    index = invalid[0] if invalid else None
+                    raise_error(status, *(() if index is None else (uids.text_at(index),)), index=index)
+                if status:
+                    self._raise_error(status, *((template, id) if status == NOT_UTF8 else ()))
+            finally:
+                group.is_busy = False
 
     def unlink(self, id: str) -> None:
         """Removes the link with this id.
 
         Raises:
-            CedarError: `no link` if nothing is bound to the id; `not a link` if another item is.
+            UnknownPolicy: nothing is bound to the id.
+            NotALink: another item is bound to the id.
+
+        >>> Policies().unlink("p")
+        Traceback (most recent call last):
+        cedar_store.UnknownPolicy: no link p
         """
-        self._call(_unlink, *encode_with_length(id))
+        self._call(_unlink, *encode_with_length(id), names=(id,))
 
     def remove_static(self, id: str) -> None:
         """Removes the static policy with this id.
 
         Raises:
-            CedarError: `no static` if no policy has the id; `not static` if the policy is a link.
+            UnknownPolicy: no policy has the id.
+            NotStatic: the policy is a link.
+
+        >>> policies = Policies()
+        >>> policies.add_static("all")
+        >>> policies.remove_static("all")
+        >>> len(policies)
+        0
         """
-        self._call(_remove_static, *encode_with_length(id))
+        self._call(_remove_static, *encode_with_length(id), names=(id,))
 
     def remove_template(self, id: str) -> None:
         """Removes the template with this id.
 
         Raises:
-            CedarError: `no template` if nothing is bound to the id; `not a template` if another item is; `with links`
-                if the template has links.
+            UnknownTemplate: nothing is bound to the id.
+            NotATemplate: another item is bound to the id.
+            TemplateHasLinks: the template has links.
+
+        >>> policies = Policies()
+        >>> policies.add_template("readers")
+        >>> policies.remove_template("readers")
         """
-        self._call(_remove_template, *encode_with_length(id))
+        self._call(_remove_template, *encode_with_length(id), names=(id,))
 
     def merge(self, other: Policies, rename: bool = False) -> Dict[str, str]:
         """Adds the policies, templates and links of another set. Returns the renamed ids, each with its new id.
 
         An id that the two sets bind to different items is a conflict. With `rename`, the item of the other set gets a
-        new id.
+        new id. The sets share nothing afterwards, unless one is a copy of the other.
 
         Raises:
-            CedarError: `occupied` if there is a conflict and `rename` is False. The error names the first such id.
+            IdInUse: there is a conflict and `rename` is False. The error names the first such id.
             Closed: one of the sets was closed.
+            TypeError: `other` is not a `Policies`.
+
+        >>> policies, other = Policies(), Policies()
+        >>> policies.add_static("p")
+        >>> other.add_static("p", Effect.FORBID)
+        >>> policies.merge(other, rename=True)
+        {'p': 'policy0'}
         """
-        other._check_thread()
+        if not isinstance(other, Policies):
+            raise TypeError(f"expected a policy set, got a {type(other).__name__}")
         if other is self:
             other = self.copy()
-        self._call(_merge, other._pointer, bool(rename))
-        texts = self._result_texts()
+        function = _merge if self._group is other._group else _merge_deep_copy
+        with both(self._group, other._group):
+            status = function(self._pointer, other._pointer, bool(rename))
+            if status:
+                self._raise_error(status)
+            texts = self._result_texts()
         return dict(zip(texts[::2], texts[1::2]))
 
     def bodies(self) -> List[str]:
-        """Returns the ids of the static policies and the templates, in insertion order."""
-        self._call(_ids, 0)
-        return self._result_texts()
+        """Returns the ids of the static policies and the templates, in insertion order.
+
+        >>> policies = Policies()
+        >>> policies.add_template("readers")
+        >>> policies.bodies(), policies.policies()
+        (['readers'], [])
+        """
+        return self._call_for_texts(_ids, 0)
 
     def policies(self) -> List[str]:
-        """Returns the ids of the static policies and the links, in insertion order."""
-        self._call(_ids, 1)
-        return self._result_texts()
+        """Returns the ids of the static policies and the links, in insertion order.
 
-    def _call_for_number(self, function: Any, id: str) -> int:
-        number = ctypes.c_uint32(0)
-        self._call(function, *encode_with_length(id), ctypes.byref(number))
-        return number.value
+        >>> policies = Policies()
+        >>> policies.add_static("all")
+        >>> policies.policies()
+        ['all']
+        """
+        return self._call_for_texts(_ids, 1)
 
-    def _call_for_texts(self, function: Any, *arguments: Any) -> List[str]:
-        self._call(function, *arguments)
-        return self._result_texts()
+    def templates(self) -> List[str]:
+        """Returns the ids of the templates, without the static policies, in insertion order.
+
+        >>> policies = Policies()
+        >>> policies.add_template("readers")
+        >>> policies.templates()
+        ['readers']
+        """
+        with self._group.lock:
+            static = set(self.policies())
+            return [id for id in self.bodies() if id not in static]
+
+    def __iter__(self) -> Iterator[str]:
+        """Iterates over the ids that the policies have now. Later changes of the set do not affect the iterator."""
+        return iter(self.policies())
+
+    def __len__(self) -> int:
+        """Returns the number of static policies and links."""
+        return len(self.policies())
+
+    def __contains__(self, id: object) -> bool:
+        """Returns whether a static policy or a link has this id."""
+        return isinstance(id, str) and self.get(id) in (Bound.STATIC, Bound.LINK)
+
+    def __bool__(self) -> bool:
+        """Returns True, also for an empty set."""
+        return True
+
+    def __repr__(self) -> str:
+        """Returns the numbers of policies and templates. Raises no exception."""
+        if not self._handle.is_open:
+            return "<Policies, closed>"
+        with self._group.lock:
+            policies, templates = len(self), len(self.templates())
+        return f"<Policies: {policies} policies, {templates} templates>"
+
+    def _number_of(self, function: Any, id: str) -> int:
+        return self._call_for_number(function, *_id_arguments(id), names=(id,))
+
+    def _texts_of(self, function: Any, id: str) -> List[str]:
+        return self._call_for_texts(function, *_id_arguments(id), names=(id,))
 
     def get(self, id: str) -> Optional[Bound]:
-        """Returns the kind of item that the id is bound to, or None."""
-        number = self._call_for_number(_get, id)
+        """Returns the kind of item that the id is bound to, or None.
+
+        >>> policies = Policies()
+        >>> policies.add_static("all")
+        >>> policies.get("all"), policies.get("none")
+        (<Bound.STATIC: 1>, None)
+        """
+        try:
+            number = self._number_of(_get, id)
+        except ValueError as error:
+            if getattr(error, "reason", None) == "not UTF-8":
+                return None
+            raise
         return Bound(number) if number else None
 
     def effect(self, id: str) -> Effect:
         """Returns the effect of the item with this id. A link has the effect of its template.
 
         Raises:
-            CedarError: `no body` if nothing is bound to the id.
+            UnknownPolicy: nothing is bound to the id.
+
+        >>> Policies().effect("p")
+        Traceback (most recent call last):
+        cedar_store.UnknownPolicy: no body p
         """
-        return Effect(self._call_for_number(_effect, id))
+        return _EFFECTS[self._number_of(_effect, id)]
 
     def slots(self, id: str) -> FrozenSet[str]:
         """Returns the slots of a template: a subset of `principal`, `action` and `resource`. A static policy has no
         slots.
 
         Raises:
-            CedarError: `no body` if the id is not bound to a template or a static policy.
+            UnknownPolicy: the id is not bound to a template or a static policy.
+
+        >>> policies = Policies()
+        >>> policies.add_template("readers", action=Slot("?action"))
+        >>> policies.slots("readers")
+        frozenset({'action'})
         """
-        slots = self._call_for_number(_slots, id)
+        slots = self._number_of(_slots, id)
         return frozenset(name for bit, name in _SLOTS.items() if slots & bit)
 
     def annotation(self, id: str, key: str) -> Optional[str]:
         """Returns the value of an annotation, or None. A link has the annotations of its template.
 
         Raises:
-            CedarError: `no body` if nothing is bound to the id; `not a name` if the key is not an identifier.
+            UnknownPolicy: nothing is bound to the id.
+            NotAName: the key is not an identifier.
+
+        >>> policies = Policies()
+        >>> policies.add_static("all", annotations={"reason": "a test"})
+        >>> policies.annotation("all", "reason"), policies.annotation("all", "owner")
+        ('a test', None)
         """
-        exists = ctypes.c_bool(False)
-        self._call(_annotation, *encode_with_length(id), *encode_with_length(key), ctypes.byref(exists))
-        return "".join(self._result_texts()) if exists.value else None
+        group, exists = self._group, ctypes.c_bool(False)
+        with group.lock:
+            group.begin()
+            try:
+                status = _annotation(
+                    self._pointer, *_id_arguments(id), *_id_arguments(key), ctypes.byref(exists)
+                )
+                if status:
+                    self._raise_error(status, key if status == NOT_A_NAME else id)
+                return "".join(self._result_texts()) if exists.value else None
+            finally:
+                group.is_busy = False
 
     def annotations(self, id: str) -> Dict[str, str]:
         """Returns all annotations, in the order of the bytes of their keys. A link has the annotations of its template.
 
         Raises:
-            CedarError: `no body` if nothing is bound to the id.
+            UnknownPolicy: nothing is bound to the id.
+
+        >>> policies = Policies()
+        >>> policies.add_static("all", annotations={"reason": "a test"})
+        >>> policies.annotations("all")
+        {'reason': 'a test'}
         """
-        texts = self._call_for_texts(_annotations, *encode_with_length(id))
+        texts = self._texts_of(_annotations, id)
         return dict(zip(texts[::2], texts[1::2]))
 
     def _constraint(self, id: str, scope_index: int) -> Constraint:
-        kind = ctypes.c_uint32(0)
-        self._call(_scope, *encode_with_length(id), scope_index, ctypes.byref(kind))
-        return decode_constraint(kind.value, self._result_texts())
+        group, kind = self._group, ctypes.c_uint32(0)
+        with group.lock:
+            group.begin()
+            try:
+                status = _scope(
+                    self._pointer, *_id_arguments(id), ctypes.c_uint32(scope_index), ctypes.byref(kind)
+                )
+                if status:
+                    self._raise_error(status, id)
+                return decode_constraint(kind.value, self._result_texts() if kind.value else [])
+            finally:
+                group.is_busy = False
 
     def principal_constraint(self, id: str) -> Constraint:
         """Returns the constraint on the principal. In a link the slot is filled.
 
         Raises:
-            CedarError: `no body` if nothing is bound to the id.
+            UnknownPolicy: nothing is bound to the id.
+
+        >>> policies = Policies()
+        >>> policies.add_static("p", principal=Constraint.is_entity_type("User"))
+        >>> policies.principal_constraint("p").type
+        'User'
         """
         return self._constraint(id, 0)
 
@@ -276,7 +450,12 @@ class Policies(HandleOwner):
         """Returns the constraint on the action. In a link the slot is filled.
 
         Raises:
-            CedarError: `no body` if nothing is bound to the id.
+            UnknownPolicy: nothing is bound to the id.
+
+        >>> policies = Policies()
+        >>> policies.add_static("p", action=Constraint.is_eq('Action::"view"'))
+        >>> policies.action_constraint("p").uids
+        (EntityUid('Action::"view"'),)
         """
         return self._constraint(id, 1)
 
@@ -284,60 +463,109 @@ class Policies(HandleOwner):
         """Returns the constraint on the resource. In a link the slot is filled.
 
         Raises:
-            CedarError: `no body` if nothing is bound to the id.
+            UnknownPolicy: nothing is bound to the id.
+
+        >>> policies = Policies()
+        >>> policies.add_static("p")
+        >>> policies.resource_constraint("p") == Constraint.any()
+        True
         """
         return self._constraint(id, 2)
 
-    def _result_expr(self) -> Expr:
-        count = _result_nodes(self._pointer, 0, b"", 0)
-        buffer = ctypes.create_string_buffer(NODE_SIZE * count)
-        _result_nodes(self._pointer, 0, buffer, count)
-        return expr_from_nodes(self._result_bytes(), unpack_nodes(buffer.raw))
+    def _expr_of(self, function: Any, id: str, *arguments: Any, exists: Optional[Any] = None) -> Optional[Expr]:
+        """Calls a library function that stores an expression as its result, and returns it."""
+        group = self._group
+        with group.lock:
+            group.begin()
+            try:
+                status = function(self._pointer, *_id_arguments(id), *arguments)
+                if status:
+                    self._raise_error(status, id)
+                if exists is not None and not exists.value:
+                    return None
+                buffer = (ctypes.c_char * (NODE_SIZE * _NODES))()
+                count = _result_nodes(self._pointer, SIZES[0], buffer, SIZES[_NODES])
+                if count > _NODES:
+                    buffer = (ctypes.c_char * (NODE_SIZE * count))()
+                    _result_nodes(self._pointer, SIZES[0], buffer, SIZES[count])
+                text = self._result_bytes()
+            finally:
+                group.is_busy = False
+        return expr_from_nodes(text, node_fields(bytes(buffer)[: NODE_SIZE * count]))
 
     def non_scope_constraints(self, id: str) -> Optional[Expr]:
         """Returns the clause, or None. A link has the clause of its template, with its slots not filled.
 
         Raises:
-            CedarError: `no body` if nothing is bound to the id.
+            UnknownPolicy: nothing is bound to the id.
+
+        >>> from cedar_store.values import PRINCIPAL
+        >>> policies = Policies()
+        >>> policies.add_static("p", when=PRINCIPAL.is_type("User"))
+        >>> print(policies.non_scope_constraints("p"))
+        (principal is User)
         """
         exists = ctypes.c_bool(False)
-        self._call(_clause, *encode_with_length(id), ctypes.byref(exists))
-        return self._result_expr() if exists.value else None
+        return self._expr_of(_clause, id, ctypes.byref(exists), exists=exists)
 
     def condition(self, id: str) -> Expr:
         """Returns the constraints and the clause as one expression. A link has the condition of its template, with its
         slots not filled.
 
         Raises:
-            CedarError: `no body` if nothing is bound to the id.
+            UnknownPolicy: nothing is bound to the id.
+
+        >>> policies = Policies()
+        >>> policies.add_static("p")
+        >>> print(policies.condition("p"))
+        (true && (true && (true && true)))
         """
-        self._call(_condition, *encode_with_length(id))
-        return self._result_expr()
+        condition = self._expr_of(_condition, id)
+        assert condition is not None
+        return condition
 
     def env(self, id: str) -> Env:
         """Returns the uids that the slots of a link are bound to. A static policy binds none.
 
         Raises:
-            CedarError: `no body` if the id is not bound to a link or a static policy.
+            UnknownPolicy: the id is not bound to a link or a static policy.
+
+        >>> policies = Policies()
+        >>> policies.add_static("p")
+        >>> policies.env("p")
+        Env(principal=None, action=None, resource=None)
         """
-        return Env(*(EntityUid(uid) if uid else None for uid in self._call_for_texts(_env, *encode_with_length(id))))
+        new, uid_type = str.__new__, EntityUid
+        return Env(*[new(uid_type, uid) if uid else None for uid in self._texts_of(_env, id)])
 
     def template_id(self, id: str) -> str:
         """Returns the id of the template of a link. For a static policy it is the policy's own id.
 
         Raises:
-            CedarError: `no body` if the id is not bound to a link or a static policy.
+            UnknownPolicy: the id is not bound to a link or a static policy.
+
+        >>> policies = Policies()
+        >>> policies.add_template("all")
+        >>> policies.link("all", "p")
+        >>> policies.template_id("p")
+        'all'
         """
-        return "".join(self._call_for_texts(_template_id, *encode_with_length(id)))
+        return "".join(self._texts_of(_template_id, id))
 
     def linked(self, id: str) -> List[str]:
         """Returns the ids of the links of a template, in insertion order. For a static policy it is the policy's own
         id.
 
         Raises:
-            CedarError: `no body` if the id is not bound to a template or a static policy.
+            UnknownPolicy: the id is not bound to a template or a static policy.
+
+        >>> policies = Policies()
+        >>> policies.add_template("all")
+        >>> policies.link("all", "p")
+        >>> policies.linked("all")
+        ['p']
         """
-        return self._call_for_texts(_linked, *encode_with_length(id))
+        return self._texts_of(_linked, id)
 
     def unknown_entities(self, id: str) -> List[EntityUid]:
         """Returns the uids of the unknown entities in the condition of a policy, in ascending order and without
@@ -346,9 +574,15 @@ class Policies(HandleOwner):
         An unknown with a type counts if its name is the text of a uid.
 
         Raises:
-            CedarError: `no body` if the id is not bound to a link or a static policy.
+            UnknownPolicy: the id is not bound to a link or a static policy.
+
+        >>> from cedar_store.values import UnknownExpr
+        >>> policies = Policies()
+        >>> policies.add_static("p", when=UnknownExpr('User::"alice"', "User"))
+        >>> policies.unknown_entities("p")
+        [EntityUid('User::"alice"')]
         """
-        return [EntityUid(uid) for uid in self._call_for_texts(_unknown_entities, *encode_with_length(id))]
+        return [EntityUid(uid) for uid in self._call_for_texts(_unknown_entities, *encode_with_length(id), names=(id,))]
 
     def validate(self) -> None:
         """Checks the set, and raises the first fault. The error names the id of a link or of a body.
@@ -356,12 +590,16 @@ class Policies(HandleOwner):
         Links are checked first, then each body in insertion order.
 
         Raises:
-            CedarError: the first fault, in the order of this list.
+            LinkWithoutSlots: the template of a link has no slots.
+            SlotInClause: the clause of a template has a slot.
+            NotActions: the constraint on the action names a uid that is not an action.
+            UnknownFunction: the clause calls an unknown function.
 
-            - `slotless link`: the template of a link has no slots.
-            - `slot in clause`: the clause of a template has a slot.
-            - `not actions`: the constraint on the action names a uid that is not an action.
-            - `unknown function`: the clause calls an unknown function.
+        >>> policies = Policies()
+        >>> policies.add_static("p", action=Constraint.is_eq('User::"alice"'))
+        >>> policies.validate()
+        Traceback (most recent call last):
+        cedar_store.NotActions: uid of no action in p
         """
         self._call(_validate)
 
@@ -369,17 +607,35 @@ class Policies(HandleOwner):
         """Returns the text of a static policy or a link, for display.
 
         Raises:
-            CedarError: `no body` if the id is not bound to a static policy or a link.
+            UnknownPolicy: the id is not bound to a static policy or a link.
+
+        >>> policies = Policies()
+        >>> policies.add_static("p")
+        >>> print(policies.policy_text("p"))
+        permit(
+          principal,
+          action,
+          resource
+        );
         """
-        return "".join(self._call_for_texts(_policy_text, *encode_with_length(id)))
+        return "".join(self._call_for_texts(_policy_text, *encode_with_length(id), names=(id,)))
 
     def template_text(self, id: str) -> str:
         """Returns the text of a template or a static policy, for display.
 
         Raises:
-            CedarError: `no body` if the id is not bound to a template or a static policy.
+            UnknownPolicy: the id is not bound to a template or a static policy.
+
+        >>> policies = Policies()
+        >>> policies.add_template("t")
+        >>> print(policies.template_text("t"))
+        permit(
+          principal,
+          action,
+          resource
+        );
         """
-        return "".join(self._call_for_texts(_template_text, *encode_with_length(id)))
+        return "".join(self._call_for_texts(_template_text, *encode_with_length(id), names=(id,)))
 
     def __str__(self) -> str:
         """Returns the text of the set, for display."""

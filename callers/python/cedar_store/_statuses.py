@@ -346,3 +346,7 @@ STATUSES: Dict[int, Status] = {
     31: Status("unknown function", UnknownFunction, "unknown function in", True, False),
     32: Status("slotless link", LinkWithoutSlots, "link without slots", True, False),
 }
+
+# The public name of each exception, for example in a traceback.
+for _status in STATUSES.values():
+    _status.exception.__module__ = "cedar_store"

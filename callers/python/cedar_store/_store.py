@@ -2,13 +2,16 @@
 from __future__ import annotations
 
 import ctypes
+import dataclasses
 import enum
-from typing import Any, Dict, Iterable, Iterator, List, Mapping, Optional, Tuple, Type, TypeVar, Union
+from typing import Any, Dict, Iterable, Iterator, List, Mapping, Optional, Protocol, Tuple, Type, TypeVar, Union
 
 from ._content import Content
+from ._dot import to_dot
 from ._entity import Entity, Unknown
-from ._errors import NOT_A_UID, CedarError, WrongThread, enum_number
-from ._handle import LOCAL, NO_OWNER, HandleOwner
+from ._errors import BAD_ARGUMENT, NOT_A_UID, CedarError, UNKNOWN_ENTITY, enum_number, raise_error
+from ._groups import Group, both
+from ._handle import HandleOwner
 from ._library import (
     SIZES,
     UidList,
@@ -17,31 +20,40 @@ from ._library import (
     encode_edges,
     encode_with_length,
     function,
-    has_function,
     list_of_texts,
-    optional_function,
     quick_function,
 )
-from ._uids import EntityUid, unchecked_uids
-from .values import NODE_SIZE, Term, from_nodes, unpack_nodes
+from ._uids import EntityUid, is_uid, unchecked_uids
+from .values import NODE_SIZE, Record, Term, from_nodes, node_fields
 
-# Entities as arguments: uids with their parents, or `Entity` objects with attributes, tags and indirect ancestors.
+
+class EntityFields(Protocol):
+    """A dataclass instance with a field `uid`: see `Entity.from_dataclass`."""
+
+    __dataclass_fields__: Any
+
+    @property
+    def uid(self) -> str:
+        """Returns the uid of the entity."""
+
+
+# Entities as arguments: uids with their parents, `Entity` objects, or instances of dataclasses.
 Entities = Union[
     Mapping[str, Iterable[str]],
     Mapping[EntityUid, Iterable[str]],
-    Iterable[Union[Tuple[str, Iterable[str]], Entity]],
+    Iterable[Union[Tuple[str, Iterable[str]], Entity, EntityFields]],
 ]
 
 # Each change has two functions: one for uids with parents, one for entities with content.
 _build, _add, _upsert = [
-    (function("store_" + name), optional_function(f"store_{name}_with")) for name in ("build", "add", "upsert")
+    (function("store_" + name), function(f"store_{name}_with")) for name in ("build", "add", "upsert")
 ]
-_remove, _validate, _slice = [function("store_" + name) for name in ("remove", "validate", "slice")]
+_remove, _validate, _slice, _slice_deep_copy = [
+    function("store_" + name) for name in ("remove", "validate", "slice", "slice_deep_copy")
+]
 _uids, _text = function("store_uids"), function("store_text")
-_get, _get_tag, _result_nodes, _slice_deep_copy = [
-    optional_function("store_" + name) for name in ("get", "get_tag", "answer_nodes", "slice_deep_copy")
-]
-_len = quick_function("store_len", ctypes.c_size_t)
+_get, _get_tag = quick_function("store_get"), quick_function("store_get_tag")
+_len, _result_nodes = [quick_function("store_" + name, ctypes.c_size_t) for name in ("len", "answer_nodes")]
 _has, _entity, _entity_equal = [quick_function("store_" + name) for name in ("has", "entity", "entity_equal")]
 _partial, _is_partial = quick_function("store_partial"), quick_function("store_is_partial")
 _is_descendant, _is_child, _is_indirect_descendant = [
@@ -55,9 +67,17 @@ _ancestors, _parents, _indirect_ancestors = [
 ]
 _keys, _tag_keys, _entity_text = [quick_function("store_" + name) for name in ("keys", "tag_keys", "entity_text")]
 _attrs_len, _tags_len = quick_function("store_attrs_len"), quick_function("store_tags_len")
+_bool_out, _byref = ctypes.c_bool, ctypes.byref
+# Outputs of quick calls, each with a reference to it. A call takes one, so that no other call in between changes it.
+_bool_outs: List[Any] = []
 
 
-BAD_ARGUMENT = 3
+def _new_bool_out() -> Any:
+    result = _bool_out()
+    return result, _byref(result)
+
+
+
 # A number of more bits, or below 0, belongs to no uid.
 _NUMBER_BITS = 8 * ctypes.sizeof(ctypes.c_size_t) - 1
 
@@ -72,10 +92,10 @@ class Mode(enum.IntEnum):
     A call affects the entities that it inserts or removes, and the entities that have an inserted or removed entity as
     an ancestor. In every mode, a removal first repairs the affected entities: they get all ancestors that they reach.
 
-    - `COMPUTE` gives the affected entities all ancestors that they reach. It raises `cycle` if an affected entity
+    - `COMPUTE` gives the affected entities all ancestors that they reach. It raises `Cycle` if an affected entity
       reaches itself. Nothing else is checked.
     - `ENFORCE` takes the parents of an inserted entity as all its ancestors. Then it checks the whole store. It raises
-      `not closed` if an ancestor of an ancestor is missing. It raises `cycle` if an entity is its own ancestor.
+      `MissingAncestor` if an ancestor of an ancestor is missing, and `Cycle` if an entity is its own ancestor.
     - `ASSUME` does the same as `ENFORCE`, but without the check.
     """
 
@@ -84,24 +104,42 @@ class Mode(enum.IntEnum):
     ASSUME = 2
 
 
-def _encode_entities(entities: Entities) -> Tuple[UidList, int, List[int]]:
+def _parents_list(parents: Iterable[str]) -> Iterable[str]:
+    if isinstance(parents, str):
+        raise TypeError(f"expected a list of parents, got one text: {parents!r}")
+    return parents
+
+
+def _as_pair(item: Any) -> Tuple[str, Iterable[str]]:
+    """Returns an item of a list of entities as a uid with its parents."""
+    if isinstance(item, (tuple, list)) and len(item) == 2:
+        return item[0], item[1]
+    raise TypeError(f"expected an Entity, a dataclass with a uid, or a pair of a uid and its parents, got {item!r}")
+
+
+def _as_entity(item: Any) -> Entity:
+    if isinstance(item, Entity):
+        return item
+    if dataclasses.is_dataclass(item):
+        return Entity.from_dataclass(item)
+    return Entity(*_as_pair(item))
+
+
+def _encode_pairs(pairs: Iterable[Tuple[str, Iterable[str]]]) -> Tuple[UidList, int, List[int]]:
     """Encodes entities as a list of uids, their number, and edges. The uids of the entities come before their other
     parents.
     """
-    parent_lists: Iterable[Iterable[str]]
-    if isinstance(entities, Mapping):
-        uids, parent_lists = [*entities], entities.values()
-    else:
-        pairs: List[Any] = list(entities)
-        uids, parent_lists = [uid for uid, _ in pairs], [parents for _, parents in pairs]
+    uids: List[str] = []
+    parent_lists: List[Iterable[str]] = []
+    for uid, parents in pairs:
+        uids.append(uid)
+        parent_lists.append(parents)
     count = len(uids)
     uid_indices = dict(zip(uids, range(count)))
     edges: List[int] = []
     append = edges.append
     for child_index, parents in enumerate(parent_lists):
-        if isinstance(parents, str):
-            raise TypeError("expected a list of parents, got one text")
-        for parent in parents:
+        for parent in _parents_list(parents):
             index = uid_indices.get(parent)
             if index is None:
                 index = uid_indices[parent] = len(uids)
@@ -112,28 +150,32 @@ def _encode_entities(entities: Entities) -> Tuple[UidList, int, List[int]]:
 
 
 class Store(HandleOwner):
-    """A store of entities, given as a mapping from uids to parents, as pairs, or as a list of `Entity`.
+    """A store of entities, given as a mapping from uids to parents, or as a list of pairs, of `Entity` or of dataclass
+    instances.
 
-    If `add`, `upsert` or `remove` raises an exception, the store is unchanged. One exception: after a `MemoryError` the
+    Any thread may use a store. Calls on a store, its copies and its slices happen one after another. Iteration, `len`
+    and `in` work on the uids of the entities, `store[uid]` is an `Entity`, and so `dict(store)` is all of them. If
+    `add`, `upsert` or `remove` raises an exception, the store is unchanged. One exception: after an `OutOfMemory` the
     store may have no entities.
 
     The constructor builds the store: see `build`.
 
     Raises:
         Closed: the store was closed (every method except `len`).
-        WrongThread: the store belongs to another thread (every method).
-        MemoryError: an allocation failed (every method).
+        OutOfMemory: an allocation failed (every method).
         TypeError: an argument has the wrong type, for example a uid that is not a `str`.
-        CedarError: as each method says; `not a uid` if a text that should be a uid is not one.
+        NotAUid: a text that should be a uid is not one.
+
+    >>> store = Store({'User::"alice"': ['Group::"staff"'], 'Group::"staff"': ['Group::"all"']})
+    >>> store.is_descendant_of('User::"alice"', 'Group::"all"')
+    True
     """
 
-    __slots__ = ("_pending_build",)
+    __slots__ = ()
     _noun = "a store"
-    # Only while no thread owns the store: its entities, its mode and whether it is partial.
-    _pending_build: List[Tuple[Entities, int, bool]]
     _new, _free, _copy = function("store_new"), function("store_free"), function("store_copy")
-    _deep_copy = optional_function("store_deep_copy")
-    _equal, _error_text = function("store_equal"), function("store_refusal")
+    _deep_copy = function("store_deep_copy")
+    _equal, _error_text = function("store_equal"), quick_function("store_refusal", ctypes.c_size_t)
     _result = quick_function("store_answer", ctypes.c_size_t)
     _result_spans = quick_function("store_answer_spans", ctypes.c_size_t)
 
@@ -148,35 +190,53 @@ class Store(HandleOwner):
 
         Raises:
             ValueError: the mode is invalid, the key does not have 16 bytes, or a number does not fit into 64 bits.
-            CedarError: `duplicate` if two different entities have the same uid; `cycle` or `not closed` (see `Mode`);
-                `not a uid`, `not a name`, `not UTF-8` or `too deep` if an entity is invalid.
+            DuplicateEntity: two different entities have the same uid.
+            Cycle: an entity is its own ancestor (see `Mode`).
+            MissingAncestor: an ancestor of an ancestor is missing (see `Mode`).
+            NotAUid, NotAName, NotUtf8, TooDeep: an entity is invalid.
+
+        >>> len(Store.build([Entity('User::"alice"', attrs={"age": 41}), ('User::"bob"', [])]))
+        2
         """
         return cls(entities, mode, key=key)
 
     def _insert(self, functions: Tuple[Any, Any], entities: Entities, mode: int) -> None:
         """Builds, adds or upserts. The second function is for entities with content."""
         mode_number = enum_number(mode, Mode)
-        without_content, with_content = functions
-        if not isinstance(entities, Mapping):
-            entities = list(entities)
-            if Entity in set(map(type, entities)):
-                items = [item if isinstance(item, Entity) else Entity(*item) for item in entities]
-                if any(item.has_content for item in items):
-                    content = Content(items)
-                    self._call_with_uids(with_content, content.uids, *content.arguments(), mode_number)
-                    return
-                entities = [(item.uid, item.parents) for item in items]
-        uids, count, edges = _encode_entities(entities)
+        pairs: Iterable[Tuple[str, Iterable[str]]]
+        if isinstance(entities, Mapping):
+            pairs = entities.items()
+        else:
+            items: List[Any] = list(entities)
+            if all([type(item) is tuple and len(item) == 2 for item in items]):
+                pairs = items
+            elif any(isinstance(item, Entity) or dataclasses.is_dataclass(item) for item in items):
+                self._insert_content(functions, list(map(_as_entity, items)), mode_number)
+                return
+            else:
+                pairs = list(map(_as_pair, items))
+        uids, count, edges = _encode_pairs(pairs)
         encoded_edges = encode_edges(edges)
         address, _ = encoded_edges.buffer_info()
-        self._call_with_uids(without_content, uids, *uids.arguments(), count, address, len(edges) // 2, mode_number)
+        self._call_with_uids(functions[0], uids, *uids.arguments(), count, address, len(edges) // 2, mode_number)
+
+    def _insert_content(self, functions: Tuple[Any, Any], items: List[Entity], mode: int) -> None:
+        content = Content(items)
+        self._call_with_uids(functions[1], content, *content.call_arguments(), mode)
 
     def add(self, entities: Entities, mode: int = Mode.COMPUTE) -> None:
         """Adds entities. An entity with a stored uid must equal the stored entity, and changes nothing.
 
         Raises:
             ValueError: the mode is invalid, or a number does not fit into 64 bits.
-            CedarError: `duplicate` if a different entity with the same uid exists; otherwise as `build`.
+            DuplicateEntity: a different entity with the same uid exists.
+            Cycle, MissingAncestor, NotAUid, NotAName, NotUtf8, TooDeep: as `build`.
+
+        >>> store = Store()
+        >>> store.add({'User::"alice"': ['Group::"staff"']})
+        >>> store.add({'User::"alice"': []})
+        Traceback (most recent call last):
+        cedar_store.DuplicateEntity: duplicate entity User::"alice"
         """
         self._insert(_add, entities, mode)
 
@@ -186,7 +246,12 @@ class Store(HandleOwner):
 
         Raises:
             ValueError: the mode is invalid, or a number does not fit into 64 bits.
-            CedarError: as `build`, but never `duplicate`.
+            Cycle, MissingAncestor, NotAUid, NotAName, NotUtf8, TooDeep: as `build`.
+
+        >>> store = Store({'User::"alice"': ['Group::"staff"']})
+        >>> store.upsert([('User::"alice"', [])])
+        >>> store.ancestors('User::"alice"')
+        []
         """
         self._insert(_upsert, entities, mode)
 
@@ -195,51 +260,64 @@ class Store(HandleOwner):
 
         Raises:
             ValueError: the mode is invalid.
-            CedarError: `not a uid`; `cycle` or `not closed` (see `Mode`), only if another mode than `COMPUTE` built or
-                changed the store.
+            NotAUid: a text is not a uid.
+            Cycle, MissingAncestor: see `Mode`, only if another mode than `COMPUTE` built or changed the store.
+
+        >>> store = Store({'User::"alice"': [], 'User::"bob"': []})
+        >>> store.remove(['User::"bob"'])
+        >>> list(store)
+        [EntityUid('User::"alice"')]
         """
         mode_number, uid_list = enum_number(mode, Mode), UidList(list_of_texts(uids))
         self._call_with_uids(_remove, uid_list, *uid_list.arguments(), mode_number)
 
     def __len__(self) -> int:
-        self._check_thread()
-        length: int = _len(self._pointer)
+        with self._group.lock:
+            length: int = _len(self._pointer)
         return length
 
     def __contains__(self, uid: object) -> bool:
         """Returns whether the store has an entity with this uid. Returns False if the argument is not a uid."""
-        thread = self._thread
-        if thread is not LOCAL.thread or thread.dropped:
-            self._check_thread()
-            thread = self._thread
         if not isinstance(uid, str):
             return False
         text = encode(uid)
-        status = _has(self._pointer, text, SIZES[len(text)], thread.bool_pointer)
-        if status == NOT_A_UID:
-            return False
+        out = _bool_outs.pop() if _bool_outs else _new_bool_out()
+        with self._group.lock:
+            status = _has(self._pointer, text, SIZES[len(text)], out[1])
+        result: bool = out[0].value
+        _bool_outs.append(out)
         if status:
-            self._raise_error(status)
-        return thread.bool_out.value
+            if status == NOT_A_UID:
+                return False
+            self._raise_error(status, uid)
+        return result
 
     def is_descendant_of(self, child: str, ancestor: str) -> bool:
         """Returns whether the second uid is an ancestor of the first.
 
         Raises:
-            CedarError: `no entity` if the store has no entity with the first uid; `not a uid`.
+            UnknownEntity: the store has no entity with the first uid.
+            NotAUid: a text is not a uid.
+
+        >>> Store({'User::"alice"': ['Group::"staff"']}).is_descendant_of('User::"alice"', 'Group::"staff"')
+        True
         """
-        thread = self._thread
-        if thread is not LOCAL.thread or thread.dropped:
-            self._check_thread()
-            thread = self._thread
         try:
             text, other = child.encode(), ancestor.encode()
         except (AttributeError, UnicodeEncodeError):
             text, other = encode(child), encode(ancestor)
-        status = _is_descendant(self._pointer, text, SIZES[len(text)], other, SIZES[len(other)], thread.bool_pointer)
+        out = _bool_outs.pop() if _bool_outs else _new_bool_out()
+        with self._group.lock:
+            status = _is_descendant(self._pointer, text, SIZES[len(text)], other, SIZES[len(other)], out[1])
+        result: bool = out[0].value
+        _bool_outs.append(out)
         if status:
-            self._raise_error(status)
-        return thread.bool_out.value
+            self._raise_pair_error(status, child, ancestor)
+        return result
+
+    def _raise_pair_error(self, status: int, child: str, ancestor: str) -> None:
+        names_ancestor = status == NOT_A_UID and is_uid(child)
+        self._raise_error(status, ancestor if names_ancestor else child)
 
     def number(self, uid: str) -> int:
         """Returns the number of a uid in this store. Queries by number do not read a text.
@@ -248,69 +326,85 @@ class Store(HandleOwner):
         has a number. A copy, a slice and an unpickled store have numbers of their own.
 
         Raises:
-            CedarError: `not a uid`.
+            NotAUid: the text is not a uid.
+
+        >>> store = Store()
+        >>> store.number('User::"alice"'), store.number('User::"bob"'), store.number('User::"alice"')
+        (0, 1, 0)
         """
-        self._call_with_uid(_uid_number, uid, self._thread.number_pointer)
-        return self._thread.number_out.value
+        return self._call_for_count(_uid_number, uid)
 
     def uid_of_number(self, number: int) -> EntityUid:
         """Returns the uid with this number.
 
         Raises:
-            CedarError: `bad argument` if no uid of this store has the number.
+            BadArgument: no uid of this store has the number.
+
+        >>> store = Store()
+        >>> store.uid_of_number(store.number('User::"alice"'))
+        EntityUid('User::"alice"')
         """
-        self._check_thread()
-        status = BAD_ARGUMENT if number >> _NUMBER_BITS else _number_uid(self._pointer, as_size(number))
-        if status:
-            self._raise_error(status)
-        return unchecked_uids(self._result_texts())[0]
+        if number >> _NUMBER_BITS:
+            raise_error(BAD_ARGUMENT, f"number {number}")
+        texts = self._call_for_texts(_number_uid, as_size(number), names=(f"number {number}",))
+        return unchecked_uids(texts)[0]
 
     def has_number(self, number: int) -> bool:
         """Returns whether the store has an entity whose uid has this number.
 
         Raises:
-            CedarError: `bad argument` if no uid of this store has the number.
+            BadArgument: no uid of this store has the number.
+
+        >>> store = Store({'User::"alice"': []})
+        >>> store.has_number(store.number('User::"alice"')), store.has_number(store.number('User::"bob"'))
+        (True, False)
         """
-        self._check_thread()
-        status = BAD_ARGUMENT
-        if not number >> _NUMBER_BITS:
-            status = _has_number(self._pointer, as_size(number), self._thread.bool_pointer)
-        if status:
-            self._raise_error(status)
-        return self._thread.bool_out.value
+        if number >> _NUMBER_BITS:
+            raise_error(BAD_ARGUMENT, f"number {number}")
+        return self._call_for_bool(_has_number, as_size(number), names=(f"number {number}",))
 
     def is_descendant_of_numbers(self, child: int, ancestor: int) -> bool:
         """Returns the result of `is_descendant_of` for the uids with these numbers, without reading a text.
 
         Raises:
-            CedarError: `bad argument` if no uid of this store has one of the numbers; `no entity` if the store has no
-                entity with the first uid.
+            BadArgument: no uid of this store has one of the numbers.
+            UnknownEntity: the store has no entity with the first uid.
+
+        >>> store = Store({'User::"alice"': ['Group::"staff"']})
+        >>> store.is_descendant_of_numbers(store.number('User::"alice"'), store.number('Group::"staff"'))
+        True
         """
-        thread = self._thread
-        if thread is not LOCAL.thread or thread.dropped:
-            self._check_thread()
-            thread = self._thread
+        out = _bool_outs.pop() if _bool_outs else _new_bool_out()
         status = BAD_ARGUMENT
         if not (child | ancestor) >> _NUMBER_BITS:
-            status = _is_descendant_of_numbers(self._pointer, as_size(child), as_size(ancestor), thread.bool_pointer)
+            with self._group.lock:
+                status = _is_descendant_of_numbers(self._pointer, as_size(child), as_size(ancestor), out[1])
+        result: bool = out[0].value
+        _bool_outs.append(out)
+        if status == UNKNOWN_ENTITY:
+            self._raise_error(status, self.uid_of_number(child))
         if status:
-            self._raise_error(status)
-        return thread.bool_out.value
+            self._raise_error(status, f"numbers {child} and {ancestor}")
+        return result
 
     def _call_with_pair(self, function: Any, child: str, ancestor: str) -> bool:
         """Calls a library function on two uids that returns a `bool`. Raises an exception if the status is not 0."""
-        self._check_thread()
-        text, other = encode(child), encode(ancestor)
-        status = function(self._pointer, text, SIZES[len(text)], other, SIZES[len(other)], self._thread.bool_pointer)
+        text, other, result = encode(child), encode(ancestor), _bool_out()
+        with self._group.lock:
+            status = function(self._pointer, text, SIZES[len(text)], other, SIZES[len(other)], _byref(result))
         if status:
-            self._raise_error(status)
-        return self._thread.bool_out.value
+            self._raise_pair_error(status, child, ancestor)
+        return result.value
 
     def is_child_of(self, child: str, parent: str) -> bool:
         """Returns whether the second uid is a parent of the first.
 
         Raises:
-            CedarError: `no entity` if the store has no entity with the first uid; `not a uid`.
+            UnknownEntity: the store has no entity with the first uid.
+            NotAUid: a text is not a uid.
+
+        >>> Store({'User::"alice"': ['Group::"staff"']}).is_child_of('User::"alice"', 'Group::"staff"')
+        True
         """
         return self._call_with_pair(_is_child, child, parent)
 
@@ -318,70 +412,110 @@ class Store(HandleOwner):
         """Returns whether the second uid is an indirect ancestor of the first. In a computed store, no parent is one.
 
         Raises:
-            CedarError: `no entity` if the store has no entity with the first uid; `not a uid`.
+            UnknownEntity: the store has no entity with the first uid.
+            NotAUid: a text is not a uid.
+
+        >>> store = Store({'User::"alice"': ['Group::"staff"'], 'Group::"staff"': ['Group::"all"']})
+        >>> store.is_indirect_descendant_of('User::"alice"', 'Group::"all"')
+        True
         """
         return self._call_with_pair(_is_indirect_descendant, child, ancestor)
 
-    def _call_with_uid(self, function: Any, uid: str, *arguments: Any) -> None:
-        """Calls a library function on one uid. Raises an exception if the status is not 0."""
-        self._check_thread()
-        text = encode(uid)
-        status = function(self._pointer, text, SIZES[len(text)], *arguments)
+    def _call_for_count(self, function: Any, uid: str) -> int:
+        text, number = encode(uid), ctypes.c_size_t(0)
+        with self._group.lock:
+            status = function(self._pointer, text, SIZES[len(text)], _byref(number))
         if status:
-            self._raise_error(status)
+            self._raise_error(status, uid)
+        return number.value
 
-    def ancestors(self, uid: str) -> List[str]:
+    def _texts_of(self, function: Any, uid: str) -> List[str]:
+        text = encode(uid)
+        return self._call_for_texts(function, text, SIZES[len(text)], names=(uid,))
+
+    def ancestors(self, uid: str) -> List[EntityUid]:
         """Returns the ancestors of an entity, in ascending order.
 
         Raises:
-            CedarError: `no entity` if the store has no entity with this uid; `not a uid`.
-        """
-        self._call_with_uid(_ancestors, uid)
-        return self._result_texts()
+            UnknownEntity: the store has no entity with this uid.
+            NotAUid: the text is not a uid.
 
-    def parents(self, uid: str) -> List[str]:
+        >>> Store({'User::"alice"': ['Group::"staff"']}).ancestors('User::"alice"')
+        [EntityUid('Group::"staff"')]
+        """
+        return unchecked_uids(self._texts_of(_ancestors, uid))
+
+    def parents(self, uid: str) -> List[EntityUid]:
         """Returns the parents of an entity, in ascending order.
 
         Raises:
-            CedarError: `no entity` if the store has no entity with this uid; `not a uid`.
-        """
-        self._call_with_uid(_parents, uid)
-        return self._result_texts()
+            UnknownEntity: the store has no entity with this uid.
+            NotAUid: the text is not a uid.
 
-    def indirect_ancestors(self, uid: str) -> List[str]:
+        >>> Store({'User::"alice"': ['Group::"staff"']}).parents('User::"alice"')
+        [EntityUid('Group::"staff"')]
+        """
+        return unchecked_uids(self._texts_of(_parents, uid))
+
+    def indirect_ancestors(self, uid: str) -> List[EntityUid]:
         """Returns the indirect ancestors of an entity, in ascending order. In a computed store, no parent is one.
 
         Raises:
-            CedarError: `no entity` if the store has no entity with this uid; `not a uid`.
+            UnknownEntity: the store has no entity with this uid.
+            NotAUid: the text is not a uid.
+
+        >>> Store({'User::"alice"': ['Group::"staff"']}).indirect_ancestors('User::"alice"')
+        []
         """
-        self._call_with_uid(_indirect_ancestors, uid)
-        return self._result_texts()
+        return unchecked_uids(self._texts_of(_indirect_ancestors, uid))
 
     def uids(self) -> List[EntityUid]:
-        """Returns the uids of all entities, without duplicates and in no particular order."""
-        self._call(_uids)
-        return unchecked_uids(self._result_texts())
+        """Returns the uids of all entities, without duplicates and in no particular order.
+
+        >>> sorted(Store({'User::"bob"': [], 'User::"alice"': []}).uids())
+        [EntityUid('User::"alice"'), EntityUid('User::"bob"')]
+        """
+        return unchecked_uids(self._call_for_texts(_uids))
+
+    keys = uids
 
     def __iter__(self) -> Iterator[EntityUid]:
         """Iterates over the uids that the store has now. Later changes of the store do not affect the iterator."""
         return iter(self.uids())
+
+    def __getitem__(self, uid: str) -> Entity:
+        """Returns a snapshot of the entity with this uid.
+
+        Raises:
+            UnknownEntity: the store has no entity with this uid. It is a `KeyError` too.
+            NotAUid: the text is not a uid.
+
+        >>> Store({'User::"alice"': ['Group::"staff"']})['User::"alice"'].parents
+        frozenset({EntityUid('Group::"staff"')})
+        """
+        with self._group.lock:
+            return self._read_entity(uid, self.indirect_ancestors(uid))
 
     def entity(self, uid: str) -> Union[Entity, Unknown, None]:
         """Returns a snapshot of the entity with this uid. Without one, returns None, or `Unknown.UNKNOWN` in a partial
         store.
 
         Raises:
-            CedarError: `not a uid`.
-            ValueError: a set of an attribute or a tag has members that are equal in Python, like true and 1.
+            NotAUid: the text is not a uid.
+
+        >>> print(Store().entity('User::"alice"'))
+        None
         """
-        lookup = ctypes.c_uint32(0)
-        self._call_with_uid(_entity, uid, ctypes.byref(lookup))
-        if lookup.value == 2:
-            return self._read_entity(uid, self.indirect_ancestors(uid))
-        return Unknown.UNKNOWN if lookup.value else None
+        text = encode(uid)
+        with self._group.lock:
+            found = self._call_for_number(_entity, text, SIZES[len(text)], names=(uid,))
+            if found == 2:
+                return self._read_entity(uid, self.indirect_ancestors(uid))
+        return Unknown.UNKNOWN if found else None
 
     def _read_entity(self, uid: str, indirect_ancestors: Iterable[str] = ()) -> Entity:
-        attrs, tags = self._read_terms(_get, uid, self.keys(uid)), self._read_terms(_get_tag, uid, self.tag_keys(uid))
+        attrs = self._read_terms(_get, uid, self.attr_keys(uid)) if self.attrs_len(uid) else {}
+        tags = self._read_terms(_get_tag, uid, self.tag_keys(uid)) if self.tags_len(uid) else {}
         return Entity(uid, self.parents(uid), attrs=attrs, tags=tags, indirect_ancestors=indirect_ancestors)
 
     def _read_terms(self, function: Any, uid: str, keys: List[str]) -> Dict[str, Term]:
@@ -395,195 +529,213 @@ class Store(HandleOwner):
     def partial(self) -> None:
         """Makes the store partial: an entity that it does not contain is unknown, not absent. A copy is partial too, a
         slice is not.
+
+        >>> store = Store()
+        >>> store.partial()
+        >>> store.entity('User::"alice"')
+        <Unknown.UNKNOWN: 'unknown'>
         """
         self._call(_partial)
 
     def is_partial(self) -> bool:
-        """Returns whether the store is partial."""
-        self._check_thread()
-        self._call(_is_partial, self._thread.bool_pointer)
-        return self._thread.bool_out.value
+        """Returns whether the store is partial.
 
-    def keys(self, uid: str) -> List[str]:
+        >>> Store().is_partial()
+        False
+        """
+        return self._call_for_bool(_is_partial)
+
+    def attr_keys(self, uid: str) -> List[str]:
         """Returns the keys of the attributes of an entity, in the order of their bytes.
 
         Raises:
-            CedarError: `no entity` if the store has no entity with this uid; `not a uid`.
+            UnknownEntity: the store has no entity with this uid.
+            NotAUid: the text is not a uid.
+
+        >>> Store([Entity('User::"alice"', attrs={"age": 41})]).attr_keys('User::"alice"')
+        ['age']
         """
-        self._call_with_uid(_keys, uid)
-        return self._result_texts()
+        return self._texts_of(_keys, uid)
 
     def tag_keys(self, uid: str) -> List[str]:
         """Returns the keys of the tags of an entity, in the order of their bytes.
 
         Raises:
-            CedarError: `no entity` if the store has no entity with this uid; `not a uid`.
+            UnknownEntity: the store has no entity with this uid.
+            NotAUid: the text is not a uid.
+
+        >>> Store([Entity('User::"alice"', tags={"team": "red"})]).tag_keys('User::"alice"')
+        ['team']
         """
-        self._call_with_uid(_tag_keys, uid)
-        return self._result_texts()
+        return self._texts_of(_tag_keys, uid)
 
     def _read_term(self, function: Any, uid: str, key: str) -> Optional[Term]:
-        self._check_thread()
-        thread = self._thread
-        self._call(function, *encode_with_length(uid), *encode_with_length(key), thread.bool_pointer)
-        if not thread.bool_out.value:
-            return None
-        count = _result_nodes(self._pointer, 0, b"", 0)
-        buffer = ctypes.create_string_buffer(NODE_SIZE * count)
-        _result_nodes(self._pointer, 0, buffer, count)
-        return from_nodes(self._result_bytes(), unpack_nodes(buffer.raw))
+        group, text, key_text, has = self._group, encode(uid), encode(key), _bool_out()
+        with group.lock:
+            group.begin()
+            try:
+                status = function(
+                    self._pointer, text, SIZES[len(text)], key_text, SIZES[len(key_text)], _byref(has)
+                )
+                if status:
+                    self._raise_error(status, uid if status in (NOT_A_UID, UNKNOWN_ENTITY) else key)
+                if not has.value:
+                    return None
+                count = _result_nodes(self._pointer, SIZES[0], b"", SIZES[0])
+                buffer = ctypes.create_string_buffer(NODE_SIZE * count)
+                _result_nodes(self._pointer, SIZES[0], buffer, SIZES[count])
+                result = self._result_bytes()
+            finally:
+                group.is_busy = False
+        return from_nodes(result, node_fields(buffer.raw))
 
     def get(self, uid: str, key: str) -> Optional[Term]:
         """Returns an attribute of an entity: a value, a residual expression, or None if there is no such attribute.
 
         Raises:
-            CedarError: `no entity` if the store has no entity with this uid; `not a uid`; `not UTF-8` if the key is
-                invalid.
-            ValueError: a set in the value has members that are equal in Python, like true and 1.
+            UnknownEntity: the store has no entity with this uid.
+            NotAUid: the text is not a uid.
+            NotUtf8: the key has a lone surrogate.
+
+        >>> Store([Entity('User::"alice"', attrs={"age": 41})]).get('User::"alice"', "age")
+        41
         """
         return self._read_term(_get, uid, key)
 
     def get_tag(self, uid: str, key: str) -> Optional[Term]:
-        """Returns a tag of an entity, with the results and the exceptions of `get`."""
+        """Returns a tag of an entity, with the results and the exceptions of `get`.
+
+        >>> Store([Entity('User::"alice"', tags={"team": "red"})]).get_tag('User::"alice"', "team")
+        'red'
+        """
         return self._read_term(_get_tag, uid, key)
 
     def attrs_len(self, uid: str) -> int:
         """Returns the number of attributes of an entity.
 
         Raises:
-            CedarError: `no entity` if the store has no entity with this uid; `not a uid`.
+            UnknownEntity: the store has no entity with this uid.
+            NotAUid: the text is not a uid.
+
+        >>> Store([Entity('User::"alice"', attrs={"age": 41})]).attrs_len('User::"alice"')
+        1
         """
-        self._check_thread()
-        self._call_with_uid(_attrs_len, uid, self._thread.number_pointer)
-        return self._thread.number_out.value
+        return self._call_for_count(_attrs_len, uid)
 
     def tags_len(self, uid: str) -> int:
         """Returns the number of tags of an entity.
 
         Raises:
-            CedarError: `no entity` if the store has no entity with this uid; `not a uid`.
+            UnknownEntity: the store has no entity with this uid.
+            NotAUid: the text is not a uid.
+
+        >>> Store({'User::"alice"': []}).tags_len('User::"alice"')
+        0
         """
-        self._check_thread()
-        self._call_with_uid(_tags_len, uid, self._thread.number_pointer)
-        return self._thread.number_out.value
+        return self._call_for_count(_tags_len, uid)
 
     def entity_equal(self, uid: str, other: Store) -> bool:
         """Returns whether the entities with this uid in two stores have the same attributes, tags and ancestors.
 
         Raises:
-            CedarError: `no entity` if one of the stores has no entity with this uid; `not a uid`.
+            UnknownEntity: one of the stores has no entity with this uid.
+            NotAUid: the text is not a uid.
             TypeError: `other` is not a `Store`.
+
+        >>> Store({'User::"alice"': []}).entity_equal('User::"alice"', Store({'User::"alice"': []}))
+        True
         """
         if not isinstance(other, Store):
             raise TypeError(f"expected a store, got a {type(other).__name__}")
         if other is self:
             self.attrs_len(uid)
             return True
-        self._check_thread()
-        other._check_thread()
-        self._call_with_uid(_entity_equal, uid, other._pointer, self._thread.bool_pointer)
-        return self._thread.bool_out.value
+        text, result = encode(uid), _bool_out()
+        with both(self._group, other._group):
+            status = _entity_equal(self._pointer, text, SIZES[len(text)], other._pointer, _byref(result))
+        if status:
+            self._raise_error(status, uid)
+        return result.value
 
     def entity_text(self, uid: str) -> str:
         """Returns the text of an entity, for display: its uid, its attributes and its ancestors.
 
         Raises:
-            CedarError: `no entity` if the store has no entity with this uid; `not a uid`.
+            UnknownEntity: the store has no entity with this uid.
+            NotAUid: the text is not a uid.
+
+        >>> print(Store({'User::"alice"': ['Group::"staff"']}).entity_text('User::"alice"'))
+        User::"alice":
+          attrs:
+          ancestors:Group::"staff"
         """
-        self._call_with_uid(_entity_text, uid)
-        return "".join(self._result_texts())
+        return "".join(self._texts_of(_entity_text, uid))
 
     def __str__(self) -> str:
         """Returns the texts of all entities for display, in ascending order of uid, with a line feed after each."""
-        if len(self) <= _MAX_LEN_FOR_TEXT:
-            self._call(_text)
-            return "".join(self._result_texts())
-        # For more entities, `store_text` is slow: it scans all entities for each one. A helper store sorts the uids
-        # instead, because the parents of an entity are listed in ascending order.
-        uids = self.uids()
-        with Store({uids[0]: uids}, Mode.ASSUME) as sorter:
-            return "".join([self.entity_text(uid) + "\n" for uid in sorter.parents(uids[0])])
+        with self._group.lock:
+            if len(self) <= _MAX_LEN_FOR_TEXT:
+                return "".join(self._call_for_texts(_text))
+            # For more entities, `store_text` is slow: it scans all entities for each one. A helper store sorts the uids
+            # instead, because the parents of an entity are listed in ascending order.
+            uids = self.uids()
+            with Store({uids[0]: uids}, Mode.ASSUME) as sorter:
+                return "".join([self.entity_text(uid) + "\n" for uid in sorter.parents(uids[0])])
+
+    def to_dot(self) -> str:
+        """Returns the hierarchy as text for Graphviz, in the form of the package in Rust.
+
+        There is a box for each entity, in a box of its type, and an arrow to each parent. A parent without an entity is
+        dotted. Equal stores have equal texts.
+
+        >>> print(Store({'User::"alice"': ['Group::"staff"']}).to_dot())
+        digraph store {
+          rankdir=BT;
+          node [shape=box];
+          subgraph "cluster User" {
+            label="User";
+            "User::\\"alice\\"" [label="alice"];
+          }
+          "Group::\\"staff\\"" [style=dotted];
+          "User::\\"alice\\"" -> "Group::\\"staff\\"";
+        }
+        <BLANKLINE>
+        """
+        with self._group.lock:
+            parents_by_uid = [(uid, self.parents(uid)) for uid in self.uids()]
+        return to_dot(parents_by_uid)
 
     def __repr__(self) -> str:
         """Returns the number of entities. Raises no exception."""
-        if self._thread is NO_OWNER:
-            return "<Store that no thread has called yet>"
-        if self._thread is not LOCAL.thread:
-            return "<Store of another thread>"
         return f"<Store of {len(self)} entities>" if self._handle.is_open else "<Store, closed>"
 
-    def portable(self: _Self) -> _Self:
-        """Returns a copy that belongs to the first thread that calls one of its methods. It has a key of its own.
-
-        Use it for other threads, and for a process pool, which pickles its arguments on a thread of its own.
-
-        Raises:
-            TypeError: the store cannot be rebuilt from entities and a mode.
-        """
-        entities, mode = self._build_arguments()
-        return _unbuilt_store(type(self), entities, mode, self.is_partial())
-
     def __reduce__(self) -> Tuple[Any, ...]:
-        """Pickles the result of `portable`: the uids with their parents, a mode, and whether the store is partial.
-
-        Raises:
-            TypeError: the store cannot be rebuilt from entities and a mode.
-            WrongThread: the store belongs to another thread.
+        """Pickles the entities, a mode that computes their ancestors or takes them as they are, and whether the store
+        is partial. The unpickled store has a key of its own.
         """
-        source = self
-        if self._thread is NO_OWNER and self._handle.is_open:
-            self._check_thread()
-        if self._thread is not NO_OWNER:
-            if self._thread is not LOCAL.thread:
-                raise WrongThread(
-                    "cannot pickle a store: it belongs to another thread. Pass its `portable()` to a process pool"
-                )
-            source = self.portable()
-        for arguments in source._pending_build:
-            return (_unbuilt_store, (type(self), *arguments))
-        raise WrongThread("cannot pickle a store: it belongs to another thread")
-
-    def _claim(self) -> None:
-        if self._handle.is_open:
-            super()._claim()
-            return
-        try:
-            arguments = self._pending_build.pop()
-        except IndexError:
-            raise self._wrong_thread() from None
-        self._open()
-        try:
-            entities, mode, is_partial = arguments
-            Store.__init__(self, entities, mode)
-            if is_partial:
-                self.partial()
-        except BaseException:
-            self._thread.free(ctypes.addressof(self._handle))
-            self._thread = NO_OWNER
-            self._pending_build.append(arguments)
-            raise
+        with self._group.lock:
+            entities, mode = self._build_arguments()
+            return _rebuilt, (type(self), entities, mode, self.is_partial())
 
     def _build_arguments(self) -> Tuple[Entities, int]:
         """Returns entities and a mode that rebuild this store. Rebuilds the store to check them."""
         uids = list(map(str, self.uids()))
         entities: Entities = self._parents_by_uid(uids)
-        if has_function("store_build_with") and any(self.attrs_len(uid) or self.tags_len(uid) for uid in uids):
+        if any(self.attrs_len(uid) or self.tags_len(uid) for uid in uids):
             entities = [self._read_entity(uid) for uid in uids]
         for mode in (Mode.COMPUTE, Mode.ASSUME):
             if self._is_built_from(entities, mode):
                 return entities, int(mode)
-        if not has_function("store_build_with"):
-            raise TypeError("a store cannot be pickled: no mode computes its ancestors from its parents")
         return [self._read_entity(uid, self.indirect_ancestors(uid)) for uid in uids], int(Mode.ASSUME)
 
     def _parents_by_uid(self, uids: List[str]) -> Dict[str, List[str]]:
         # Equal texts become one object, which is pickled once.
         texts = dict(zip(uids, uids))
-        return {uid: [texts.setdefault(parent, parent) for parent in self.parents(uid)] for uid in uids}
+        return {uid: [texts.setdefault(str(parent), str(parent)) for parent in self.parents(uid)] for uid in uids}
 
     def _is_built_from(self, entities: Entities, mode: int) -> bool:
         try:
-            with _unbuilt_store(type(self), entities, mode, self.is_partial()) as rebuilt:
+            with _rebuilt(Store, entities, mode, self.is_partial()) as rebuilt:
                 return rebuilt == self
         except CedarError:
             return False
@@ -594,36 +746,47 @@ class Store(HandleOwner):
         Checks the ancestors first, as `Mode.ENFORCE` does. Then it reports the fault of the entity with the least uid.
 
         Raises:
-            CedarError: `cycle`, `not closed`, `self ancestor`, `duplicate ancestor`, `action parent` or `reserved key`.
+            Cycle, MissingAncestor: the ancestors are not closed.
+            SelfAncestor, DuplicateAncestor, InvalidActionParent, ReservedKey: an entity is invalid.
+
+        >>> Store([Entity('User::"alice"', attrs={"home": {"__entity": 1}})]).validate()
+        Traceback (most recent call last):
+        cedar_store.ReservedKey: reserved key __entity
         """
         self._call(_validate)
 
-    def slice(self, uids: Iterable[str]) -> Store:
+    def slice(self: _Self, uids: Iterable[str]) -> _Self:
         """Returns a store of the entities with these uids and of all their ancestors that are in the store.
 
-        The slice shares its entities with this store, has the same key, and belongs to the current thread.
+        The slice shares its entities with this store, and has the same key and the same lock.
 
         Raises:
-            CedarError: `not a uid`.
+            NotAUid: a text is not a uid.
+
+        >>> store = Store({'User::"alice"': ['Group::"staff"'], 'Group::"staff"': [], 'User::"bob"': []})
+        >>> len(store.slice(['User::"alice"', 'Action::"view"']))
+        2
         """
         uid_list = UidList(list_of_texts(uids))
-        self._check_thread()
-        new: Store = Store.__new__(type(self))
-        self._call_with_uids(_slice, uid_list, new._pointer, *uid_list.arguments())
-        return new
+        return self._fill(self._closed(self._group), _slice, *uid_list.arguments(), uids=uid_list)
 
-    def slice_deep_copy(self, uids: Iterable[str]) -> Store:
-        """Returns a deep copy of `slice`. It belongs to the first thread that calls one of its methods.
+    def slice_deep_copy(self: _Self, uids: Iterable[str]) -> _Self:
+        """Returns a deep copy of `slice`. It shares nothing with this store, so both can be used in parallel.
 
         Raises:
-            CedarError: `not a uid`.
+            NotAUid: a text is not a uid.
+
+        >>> len(Store({'User::"alice"': []}).slice_deep_copy(['User::"alice"']))
+        1
         """
         uid_list = UidList(list_of_texts(uids))
-        return self._call_deep_copy(_slice_deep_copy, *uid_list.arguments())
+        return self._fill(self._closed(Group()), _slice_deep_copy, *uid_list.arguments(), uids=uid_list)
 
 
-def _unbuilt_store(store_type: Type[_Self], entities: Entities, mode: int, is_partial: bool) -> _Self:
-    """Returns a store that its first method call builds."""
-    store = store_type._without_owner()
-    store._pending_build = [(entities, mode, is_partial)]
+def _rebuilt(store_type: Type[_Self], entities: Entities, mode: int, is_partial: bool) -> _Self:
+    """Returns a store of entities, for `pickle`. Does not call the `__init__` of a subclass."""
+    store: _Self = store_type._closed(Group())
+    Store.__init__(store, entities, mode)
+    if is_partial:
+        store.partial()
     return store

@@ -4,7 +4,7 @@ from __future__ import annotations
 import ctypes
 from typing import Any, Iterable, List, Tuple
 
-from ._errors import NOT_A_UID, raise_error
+from ._errors import NOT_A_NAME, NOT_A_UID, NOT_UTF8, raise_error
 from ._library import encode, encode_with_length, function
 
 _check, _make, _parts = function("uid_check"), function("uid_make"), function("uid_parts")
@@ -15,12 +15,21 @@ def is_uid(text: str) -> bool:
 
     Raises:
         TypeError: the text is not a `str`.
-        MemoryError: an allocation failed.
+        OutOfMemory: an allocation failed.
+
+    >>> is_uid('User::"alice"'), is_uid("alice")
+    (True, False)
     """
     status = _check(*encode_with_length(text))
     if status and status != NOT_A_UID:
-        raise_error(status)
+        raise_error(status, text)
     return not status
+
+
+def is_name(text: str) -> bool:
+    """Returns whether the text is the name of a type or a function."""
+    length = ctypes.c_size_t(0)
+    return bool(_make(*encode_with_length(text), b"", 0, b"", 0, ctypes.byref(length)) != NOT_A_NAME)
 
 
 class EntityUid(str):
@@ -29,8 +38,12 @@ class EntityUid(str):
     `EntityUid(text)` checks a text; `EntityUid.make` builds a uid from a type and an id.
 
     Raises:
-        CedarError: `not a uid` if the text is not a uid.
+        NotAUid: the text is not a uid.
         TypeError: the text is not a `str`.
+
+    >>> uid = EntityUid('User::"alice"')
+    >>> uid, uid.type, uid.id
+    (EntityUid('User::"alice"'), 'User', 'alice')
     """
 
     __slots__ = ()
@@ -40,14 +53,21 @@ class EntityUid(str):
             raise_error(NOT_A_UID, text)
         return str.__new__(cls, text)
 
+    def __repr__(self) -> str:
+        return f"EntityUid({str.__repr__(self)})"
+
     @classmethod
     def make(cls, type: str, id: str) -> EntityUid:
         """Builds the uid with a type, like `A::B`, and an id. The id is any text, not escaped.
 
         Raises:
-            CedarError: `not a name` if the type is not a name; `not UTF-8` if the id has a lone surrogate.
+            NotAName: the type is not a name.
+            NotUtf8: the id has a lone surrogate.
             TypeError: the type or the id is not a `str`.
-            MemoryError: an allocation failed.
+            OutOfMemory: an allocation failed.
+
+        >>> print(EntityUid.make("User", "O'Brien"))
+        User::"O\\'Brien"
         """
         (type_bytes, type_length), (id_bytes, id_length) = encode_with_length(type), encode_with_length(id)
         capacity, length = type_length + 2 * id_length + 16, ctypes.c_size_t(0)
@@ -55,7 +75,7 @@ class EntityUid(str):
             buffer = ctypes.create_string_buffer(capacity)
             status = _make(type_bytes, type_length, id_bytes, id_length, buffer, capacity, ctypes.byref(length))
             if status:
-                raise_error(status)
+                raise_error(status, id if status == NOT_UTF8 else type)
             if length.value <= capacity:
                 return str.__new__(cls, buffer.raw[: length.value].decode())
             capacity = length.value
@@ -65,14 +85,21 @@ class EntityUid(str):
         """Escapes an id for use between the quotes of a uid.
 
         Raises:
-            CedarError: `not UTF-8` if the id has a lone surrogate.
+            NotUtf8: the id has a lone surrogate.
             TypeError: the id is not a `str`.
+
+        >>> EntityUid.escape("tab\\t")
+        'tab\\\\t'
         """
         return EntityUid.make("A", id)[4:-1]
 
     @property
     def parts(self) -> Tuple[str, str]:
-        """Returns the type and the id. The id is not escaped."""
+        """Returns the type and the id. The id is not escaped.
+
+        >>> EntityUid('A::B::"c"').parts
+        ('A::B', 'c')
+        """
         text = encode(self)
         buffer, type_length, length = ctypes.create_string_buffer(len(text)), ctypes.c_size_t(0), ctypes.c_size_t(0)
         status = _parts(text, len(text), buffer, len(text), ctypes.byref(type_length), ctypes.byref(length))
