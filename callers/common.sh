@@ -299,11 +299,12 @@ shared_library() {
         -Wl,--whole-archive $both -Wl,--no-whole-archive
 }
 
-# Checks the type annotations of the package and of the examples.
+# Checks the type annotations of the package and of the examples, and runs the example whose types are narrowed.
 python_types() {
+    writes "the narrowing example in Python" python/narrowing.out python3 -B -X dev -W error python/narrowing.py
     if ! has mypy --version; then
         without mypy "the type annotations of the Python package"
-    elif mypy --strict --cache-dir="$out/mypy" python/cedar_store python/example.py python/guide.py > "$out/one"; then
+    elif mypy --strict --cache-dir="$out/mypy" python/cedar_store python/{example,guide,narrowing}.py > "$out/one"; then
         echo "callers: the type annotations of the Python package: passed"
         passed=$((passed + 1))
     else

@@ -122,7 +122,7 @@ static void lists_build_stores(void) {
     cedar_list_free(&list);
     CHECK(cedar_store_build_list(&s, &list, CEDAR_COMPUTE) == CEDAR_OK && cedar_store_len(&s) == 0);
     for (int k = 0; k < 1000; k++) {
-        char id[8];
+        char id[16];
         snprintf(id, sizeof id, "%d", k);
         size_t child = cedar_list_uid(&list, "A", id);
         cedar_list_entity(&list, child);
@@ -199,7 +199,7 @@ static void texts_are_iterated(void) {
 
 /* Builds a store by a list, and reads its answer, while one allocation of the headers fails. Returns the status. */
 static cedar_status build_and_read(cedar_store *s, cedar_policies *p, cedar_list *list, cedar_texts *texts, long n) {
-    char id[8];
+    char id[16];
     cedar_status status = CEDAR_OK;
     allocations_left = n;
     for (int k = 0; k < 20; k++) {

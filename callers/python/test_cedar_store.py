@@ -674,7 +674,7 @@ class Functions(unittest.TestCase):
 
 if __name__ == "__main__":
     tests = unittest.defaultTestLoader.loadTestsFromModule(sys.modules["__main__"])
-    for module in ("test_deep_copy", "test_examples", "test_numbers", "test_policies", "test_threads", "test_values"):
+    for module in ("test_conventions", "test_deep_copy", "test_examples", "test_numbers", "test_policies", "test_threads", "test_values"):
         tests.addTests(unittest.defaultTestLoader.loadTestsFromName(module))
     output = io.StringIO()
     result = unittest.TextTestRunner(stream=output, verbosity=0).run(tests)

@@ -33,9 +33,11 @@ from __future__ import annotations
 
 from . import values
 from ._bodies import Constraint, ConstraintKind
+from ._content import Entities
 from ._entity import Entity, Unknown
 from ._errors import CedarError
 from ._library import PROVED, VERSION, run, status_text, version
+from ._mode import Mode
 from ._policies import Bound, Effect, Env, Policies
 from ._statuses import (  # noqa: F401
     BadArgument,
@@ -67,7 +69,7 @@ from ._statuses import (  # noqa: F401
     UnknownPolicy,
     UnknownTemplate,
 )
-from ._store import Entities, Mode, Store
+from ._store import Store
 from ._uids import EntityUid, is_uid
 
 __version__ = VERSION

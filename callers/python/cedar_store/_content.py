@@ -1,13 +1,33 @@
 """Entities with their attributes, tags and indirect ancestors, encoded for the library."""
 from __future__ import annotations
 
+import dataclasses
 from array import array
-from typing import Dict, List, Tuple
+from typing import Any, ClassVar, Dict, Iterable, List, Mapping, Protocol, Tuple, Union
 
 from ._entity import Entity
 from ._errors import NOT_A_UID
 from ._library import UidList, encode_edges
+from ._uids import EntityUid
 from .values import Encoder
+
+
+class EntityFields(Protocol):
+    """A dataclass instance with a field `uid`: see `Entity.from_dataclass`."""
+
+    __dataclass_fields__: ClassVar[Any]
+
+    @property
+    def uid(self) -> str:
+        """Returns the uid of the entity."""
+
+
+# Entities as arguments: uids with their parents, `Entity` objects, or instances of dataclasses.
+Entities = Union[
+    Mapping[str, Iterable[str]],
+    Mapping[EntityUid, Iterable[str]],
+    Iterable[Union[Tuple[str, Iterable[str]], Entity, EntityFields]],
+]
 
 
 class Content(UidList):
@@ -54,3 +74,49 @@ class Content(UidList):
     def names_of(self, status: int) -> Tuple[str, ...]:
         """Returns the text of a value that is not what a status requires."""
         return self._encoder.first_invalid(status) if status >= NOT_A_UID else ()
+
+
+def _parents_list(parents: Iterable[str]) -> Iterable[str]:
+    if isinstance(parents, str):
+        raise TypeError(f"expected a list of parents, got one text: {parents!r}")
+    return parents
+
+
+def as_pair(item: Any) -> Tuple[str, Iterable[str]]:
+    """Returns an item of a list of entities as a uid with its parents."""
+    if isinstance(item, (tuple, list)) and len(item) == 2:
+        return item[0], item[1]
+    raise TypeError(f"expected an Entity, a dataclass with a uid, or a pair of a uid and its parents, got {item!r}")
+
+
+def as_entity(item: Any) -> Entity:
+    """Returns an item of a list of entities as an `Entity`."""
+    if isinstance(item, Entity):
+        return item
+    if dataclasses.is_dataclass(item):
+        return Entity.from_dataclass(item)
+    return Entity(*as_pair(item))
+
+
+def encode_pairs(pairs: Iterable[Tuple[str, Iterable[str]]]) -> Tuple[UidList, int, List[int]]:
+    """Encodes entities as a list of uids, their number, and edges. The uids of the entities come before their other
+    parents.
+    """
+    uids: List[str] = []
+    parent_lists: List[Iterable[str]] = []
+    for uid, parents in pairs:
+        uids.append(uid)
+        parent_lists.append(parents)
+    count = len(uids)
+    uid_indices = dict(zip(uids, range(count)))
+    edges: List[int] = []
+    append = edges.append
+    for child_index, parents in enumerate(parent_lists):
+        for parent in _parents_list(parents):
+            index = uid_indices.get(parent)
+            if index is None:
+                index = uid_indices[parent] = len(uids)
+                uids.append(parent)
+            append(child_index)
+            append(index)
+    return UidList(uids), count, edges

@@ -3,46 +3,28 @@ from __future__ import annotations
 
 import ctypes
 import dataclasses
-import enum
-from typing import Any, Dict, Iterable, Iterator, List, Mapping, Optional, Protocol, Tuple, Type, TypeVar, Union
+from typing import Any, Dict, Iterable, Iterator, List, Mapping, Optional, Tuple, Type, TypeVar, Union
 
-from ._content import Content
+from ._content import Content, Entities, as_entity, as_pair, encode_pairs
 from ._dot import to_dot
 from ._entity import Entity, Unknown
 from ._errors import BAD_ARGUMENT, NOT_A_UID, CedarError, UNKNOWN_ENTITY, enum_number, raise_error
 from ._groups import Group, both
 from ._handle import HandleOwner
+from ._mode import Mode
 from ._library import (
     SIZES,
     UidList,
     as_size,
     encode,
     encode_edges,
-    encode_with_length,
     function,
     list_of_texts,
     quick_function,
 )
 from ._uids import EntityUid, is_uid, unchecked_uids
-from .values import NODE_SIZE, Record, Term, from_nodes, node_fields
+from .values import NODE_SIZE, ReadTerm, Term, from_nodes, node_fields
 
-
-class EntityFields(Protocol):
-    """A dataclass instance with a field `uid`: see `Entity.from_dataclass`."""
-
-    __dataclass_fields__: Any
-
-    @property
-    def uid(self) -> str:
-        """Returns the uid of the entity."""
-
-
-# Entities as arguments: uids with their parents, `Entity` objects, or instances of dataclasses.
-Entities = Union[
-    Mapping[str, Iterable[str]],
-    Mapping[EntityUid, Iterable[str]],
-    Iterable[Union[Tuple[str, Iterable[str]], Entity, EntityFields]],
-]
 
 # Each change has two functions: one for uids with parents, one for entities with content.
 _build, _add, _upsert = [
@@ -70,6 +52,7 @@ _attrs_len, _tags_len = quick_function("store_attrs_len"), quick_function("store
 _bool_out, _byref = ctypes.c_bool, ctypes.byref
 # Outputs of quick calls, each with a reference to it. A call takes one, so that no other call in between changes it.
 _bool_outs: List[Any] = []
+_take_bool_out, _return_bool_out = _bool_outs.pop, _bool_outs.append
 
 
 def _new_bool_out() -> Any:
@@ -84,69 +67,6 @@ _NUMBER_BITS = 8 * ctypes.sizeof(ctypes.c_size_t) - 1
 # The largest store whose text one call of the library writes.
 _MAX_LEN_FOR_TEXT = 100
 _Self = TypeVar("_Self", bound="Store")
-
-
-class Mode(enum.IntEnum):
-    """How a call on a store keeps the ancestors of entities complete.
-
-    A call affects the entities that it inserts or removes, and the entities that have an inserted or removed entity as
-    an ancestor. In every mode, a removal first repairs the affected entities: they get all ancestors that they reach.
-
-    - `COMPUTE` gives the affected entities all ancestors that they reach. It raises `Cycle` if an affected entity
-      reaches itself. Nothing else is checked.
-    - `ENFORCE` takes the parents of an inserted entity as all its ancestors. Then it checks the whole store. It raises
-      `MissingAncestor` if an ancestor of an ancestor is missing, and `Cycle` if an entity is its own ancestor.
-    - `ASSUME` does the same as `ENFORCE`, but without the check.
-    """
-
-    COMPUTE = 0
-    ENFORCE = 1
-    ASSUME = 2
-
-
-def _parents_list(parents: Iterable[str]) -> Iterable[str]:
-    if isinstance(parents, str):
-        raise TypeError(f"expected a list of parents, got one text: {parents!r}")
-    return parents
-
-
-def _as_pair(item: Any) -> Tuple[str, Iterable[str]]:
-    """Returns an item of a list of entities as a uid with its parents."""
-    if isinstance(item, (tuple, list)) and len(item) == 2:
-        return item[0], item[1]
-    raise TypeError(f"expected an Entity, a dataclass with a uid, or a pair of a uid and its parents, got {item!r}")
-
-
-def _as_entity(item: Any) -> Entity:
-    if isinstance(item, Entity):
-        return item
-    if dataclasses.is_dataclass(item):
-        return Entity.from_dataclass(item)
-    return Entity(*_as_pair(item))
-
-
-def _encode_pairs(pairs: Iterable[Tuple[str, Iterable[str]]]) -> Tuple[UidList, int, List[int]]:
-    """Encodes entities as a list of uids, their number, and edges. The uids of the entities come before their other
-    parents.
-    """
-    uids: List[str] = []
-    parent_lists: List[Iterable[str]] = []
-    for uid, parents in pairs:
-        uids.append(uid)
-        parent_lists.append(parents)
-    count = len(uids)
-    uid_indices = dict(zip(uids, range(count)))
-    edges: List[int] = []
-    append = edges.append
-    for child_index, parents in enumerate(parent_lists):
-        for parent in _parents_list(parents):
-            index = uid_indices.get(parent)
-            if index is None:
-                index = uid_indices[parent] = len(uids)
-                uids.append(parent)
-            append(child_index)
-            append(index)
-    return UidList(uids), count, edges
 
 
 class Store(HandleOwner):
@@ -211,11 +131,11 @@ class Store(HandleOwner):
             if all([type(item) is tuple and len(item) == 2 for item in items]):
                 pairs = items
             elif any(isinstance(item, Entity) or dataclasses.is_dataclass(item) for item in items):
-                self._insert_content(functions, list(map(_as_entity, items)), mode_number)
+                self._insert_content(functions, list(map(as_entity, items)), mode_number)
                 return
             else:
-                pairs = list(map(_as_pair, items))
-        uids, count, edges = _encode_pairs(pairs)
+                pairs = list(map(as_pair, items))
+        uids, count, edges = encode_pairs(pairs)
         encoded_edges = encode_edges(edges)
         address, _ = encoded_edges.buffer_info()
         self._call_with_uids(functions[0], uids, *uids.arguments(), count, address, len(edges) // 2, mode_number)
@@ -281,11 +201,14 @@ class Store(HandleOwner):
         if not isinstance(uid, str):
             return False
         text = encode(uid)
-        out = _bool_outs.pop() if _bool_outs else _new_bool_out()
+        try:
+            out = _take_bool_out()
+        except IndexError:
+            out = _new_bool_out()
         with self._group.lock:
             status = _has(self._pointer, text, SIZES[len(text)], out[1])
         result: bool = out[0].value
-        _bool_outs.append(out)
+        _return_bool_out(out)
         if status:
             if status == NOT_A_UID:
                 return False
@@ -306,11 +229,14 @@ class Store(HandleOwner):
             text, other = child.encode(), ancestor.encode()
         except (AttributeError, UnicodeEncodeError):
             text, other = encode(child), encode(ancestor)
-        out = _bool_outs.pop() if _bool_outs else _new_bool_out()
+        try:
+            out = _take_bool_out()
+        except IndexError:
+            out = _new_bool_out()
         with self._group.lock:
             status = _is_descendant(self._pointer, text, SIZES[len(text)], other, SIZES[len(other)], out[1])
         result: bool = out[0].value
-        _bool_outs.append(out)
+        _return_bool_out(out)
         if status:
             self._raise_pair_error(status, child, ancestor)
         return result
@@ -374,13 +300,16 @@ class Store(HandleOwner):
         >>> store.is_descendant_of_numbers(store.number('User::"alice"'), store.number('Group::"staff"'))
         True
         """
-        out = _bool_outs.pop() if _bool_outs else _new_bool_out()
+        try:
+            out = _take_bool_out()
+        except IndexError:
+            out = _new_bool_out()
         status = BAD_ARGUMENT
         if not (child | ancestor) >> _NUMBER_BITS:
             with self._group.lock:
                 status = _is_descendant_of_numbers(self._pointer, as_size(child), as_size(ancestor), out[1])
         result: bool = out[0].value
-        _bool_outs.append(out)
+        _return_bool_out(out)
         if status == UNKNOWN_ENTITY:
             self._raise_error(status, self.uid_of_number(child))
         if status:
@@ -519,7 +448,7 @@ class Store(HandleOwner):
         return Entity(uid, self.parents(uid), attrs=attrs, tags=tags, indirect_ancestors=indirect_ancestors)
 
     def _read_terms(self, function: Any, uid: str, keys: List[str]) -> Dict[str, Term]:
-        terms = {}
+        terms: Dict[str, Term] = {}
         for key in keys:
             term = self._read_term(function, uid, key)
             if term is not None:
@@ -569,7 +498,7 @@ class Store(HandleOwner):
         """
         return self._texts_of(_tag_keys, uid)
 
-    def _read_term(self, function: Any, uid: str, key: str) -> Optional[Term]:
+    def _read_term(self, function: Any, uid: str, key: str) -> Optional[ReadTerm]:
         group, text, key_text, has = self._group, encode(uid), encode(key), _bool_out()
         with group.lock:
             group.begin()
@@ -589,7 +518,7 @@ class Store(HandleOwner):
                 group.is_busy = False
         return from_nodes(result, node_fields(buffer.raw))
 
-    def get(self, uid: str, key: str) -> Optional[Term]:
+    def get(self, uid: str, key: str) -> Optional[ReadTerm]:
         """Returns an attribute of an entity: a value, a residual expression, or None if there is no such attribute.
 
         Raises:
@@ -602,7 +531,7 @@ class Store(HandleOwner):
         """
         return self._read_term(_get, uid, key)
 
-    def get_tag(self, uid: str, key: str) -> Optional[Term]:
+    def get_tag(self, uid: str, key: str) -> Optional[ReadTerm]:
         """Returns a tag of an entity, with the results and the exceptions of `get`.
 
         >>> Store([Entity('User::"alice"', tags={"team": "red"})]).get_tag('User::"alice"', "team")

@@ -29,6 +29,7 @@ from typing import (
     AbstractSet,
     Any,
     Dict,
+    FrozenSet,
     Iterable,
     Iterator,
     List,
@@ -82,6 +83,7 @@ __all__ = [
     "Not",
     "PRINCIPAL",
     "RESOURCE",
+    "ReadTerm",
     "Record",
     "SetOf",
     "Slot",
@@ -203,9 +205,11 @@ class CedarSet(_AnySetOfValues):
         return CedarSet, (self._members,)
 
 
-Value = Union[bool, int, str, Extension, AbstractSet["Value"], Sequence["Value"], Mapping[str, "Value"]]
+Value = Union[bool, int, str, Extension, Record, AbstractSet["Value"], Sequence["Value"], Mapping[str, "Value"]]
 # An attribute or a tag: a value or a residual expression.
 Term = Union[Value, Expr]
+# An attribute or a tag that is read: its types are few, so that `isinstance` narrows it.
+ReadTerm = Union[bool, int, str, EntityUid, Extension, FrozenSet[Any], CedarSet, Record, Expr]
 
 
 class Node(NamedTuple):
@@ -446,7 +450,7 @@ def expr_to_nodes(expr: Expr) -> Tuple[bytes, List[Node]]:
     return bytes(encoder.text), encoder.nodes
 
 
-def from_nodes(text: bytes, nodes: Sequence[NodeFields]) -> Term:
+def from_nodes(text: bytes, nodes: Sequence[NodeFields]) -> ReadTerm:
     """Decodes a value or a residual expression from a text and nodes.
 
     Raises:
@@ -455,12 +459,12 @@ def from_nodes(text: bytes, nodes: Sequence[NodeFields]) -> Term:
     >>> from_nodes(*to_nodes({"ages": [7, 41]})) == {"ages": {41, 7}}
     True
     """
-    if nodes and nodes[-1][0] == _RESIDUAL and nodes[-1][1] == 1:
+    if nodes and len(nodes[-1]) == 5 and nodes[-1][0] == _RESIDUAL and nodes[-1][1] == 1:
         return expr_from_nodes(text, nodes[:-1])
     decoder = _Decoder(text)
     for node in nodes:
         decoder.decode(node)
-    value: Value = decoder.only_value()[0]
+    value: ReadTerm = decoder.only_value()[0]
     return value
 
 
@@ -556,7 +560,13 @@ class _Decoder:
 
 
 def _ascii_or_none(text: bytes) -> Optional[str]:
-    """Returns an ASCII text as a `str`, whose spans are those of its bytes. Returns None for another text."""
+    """Returns an ASCII text as a `str`, in which a span has the same numbers. Returns None for another text.
+
+    Raises:
+        TypeError: the text is not `bytes`.
+    """
+    if not isinstance(text, bytes):
+        raise TypeError(f"expected bytes as the text of nodes, got a {type(text).__name__}: {text!r}")
     return text.decode("ascii") if text.isascii() else None
 
 
