@@ -674,8 +674,8 @@ class Functions(unittest.TestCase):
 
 if __name__ == "__main__":
     tests = unittest.defaultTestLoader.loadTestsFromModule(sys.modules["__main__"])
-    for module in ("test_conventions", "test_deep_copy", "test_examples", "test_numbers", "test_policies", "test_threads", "test_values"):
-        tests.addTests(unittest.defaultTestLoader.loadTestsFromName(module))
+    for name in ("conventions", "deep_copy", "examples", "numbers", "policies", "threads", "values"):
+        tests.addTests(unittest.defaultTestLoader.loadTestsFromName("test_" + name))
     output = io.StringIO()
     result = unittest.TextTestRunner(stream=output, verbosity=0).run(tests)
     failed = len(result.failures) + len(result.errors)

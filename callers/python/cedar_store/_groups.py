@@ -1,8 +1,8 @@
 """Groups of handles that share memory, each with one lock.
 
 A store, its copies and its slices share entities, and so they are one group. A call takes the lock of its group, from
-whatever thread. So the calls of several threads on one group happen one after another, as `cedar.h` requires. Two groups
-share nothing: their calls run at the same time.
+whatever thread. So the calls of several threads on one group happen one after another, as `cedar.h` requires. Two
+groups share nothing: their calls run at the same time.
 """
 from __future__ import annotations
 
@@ -53,7 +53,7 @@ class Group:
         """
         if self.is_busy:
             raise RuntimeError(
-                "cannot call: a signal handler or a finalizer uses this store or policy set in the middle of another call"
+                "cannot call: a signal handler or a finalizer uses this object in the middle of another call"
             )
         self.is_busy = True
         if self._dropped:

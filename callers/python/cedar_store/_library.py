@@ -258,6 +258,8 @@ def status_text(status: int) -> str:
     >>> status_text(4)
     'not a uid'
     """
+    if not isinstance(status, int):
+        raise TypeError(f"expected a status as an int, got a {type(status).__name__}: {status!r}")
     if not 0 <= status < 1 << 32:
         return ""
     buffer = ctypes.create_string_buffer(256)
@@ -285,11 +287,14 @@ def run(lines: bytes, *, key: Optional[bytes] = None) -> Tuple[bytes, int]:
 
     Raises:
         OutOfMemory: an allocation failed.
+        TypeError: the lines are not `bytes`.
         ValueError: the key does not have 16 bytes.
 
     >>> run(b'ent\\tA::"a"\\tA::"b"\\nbuild\\nanc\\tA::"a"\\n')
     (b'ok 1\\nanc\\tA::"b"\\n', 0)
     """
+    if not isinstance(lines, bytes):
+        raise TypeError(f"expected bytes as the lines, got a {type(lines).__name__}: {lines!r}")
     numbers, capacity = key_numbers(key), max(len(lines), 4096)
     while True:
         buffer, length, exit_status = ctypes.create_string_buffer(capacity), ctypes.c_size_t(0), ctypes.c_uint32(0)

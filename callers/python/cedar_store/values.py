@@ -459,6 +459,7 @@ def from_nodes(text: bytes, nodes: Sequence[NodeFields]) -> ReadTerm:
     >>> from_nodes(*to_nodes({"ages": [7, 41]})) == {"ages": {41, 7}}
     True
     """
+    nodes = list(nodes)
     if nodes and len(nodes[-1]) == 5 and nodes[-1][0] == _RESIDUAL and nodes[-1][1] == 1:
         return expr_from_nodes(text, nodes[:-1])
     decoder = _Decoder(text)
