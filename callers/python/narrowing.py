@@ -85,7 +85,7 @@ def print_errors(store: Store) -> None:
     except DuplicateEntity as error:
         print(error.uid.id)
     try:
-        store.upsert({'Group::"staff"': ['User::"carol"']})
+        store.upsert({'Group::"staff"': ['Group::"staff"']})
     except Cycle as error:
         print(error.uid.type)
     try:
