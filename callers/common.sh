@@ -149,6 +149,8 @@ in_dialects() {
             compiles "c/$name.c as $standard" gcc -std=$standard $options -fsyntax-only "c/$name.c"
         done
     done
+    compiles "c/example.c without checks" gcc -std=c11 $options -DCEDAR_UNCHECKED -o "$out/unchecked" c/example.c $both &&
+        writes "the example in C, without checks" c/example.out "$out/unchecked"
     echo '#include "cedar.h"
 int main(void) { cedar_store s = CEDAR_EMPTY; cedar_store_new(&s, 0, 0); return 0; }' > "$out/unused.c"
     reports "a result that is not used" 'unused.result' gcc -std=c11 $options -c -o "$out/unused.o" "$out/unused.c"
@@ -367,6 +369,27 @@ print(cedar_store.__proved__, "unproved" not in text["Summary"], "NOT PROVED" no
         passed=$((passed + 1))
     else
         fault "$what does not say correctly whether its library is proved: $summary"
+    fi
+}
+
+# Checks that the pages show only lines of the examples that were run.
+shown() {
+    lines_shown ../README.md rust rust/examples/staff.rs
+    lines_shown ../README.md python python/example.py
+    lines_shown ../README.md c c/example.c
+    lines_shown c/README.md c c/example.c
+    lines_shown rust/README.md rust rust/examples/staff.rs
+    lines_shown python/README.md python python/example.py
+}
+
+# Checks that a page shows only lines of an example in a language. Arguments: the page, the language, the file.
+lines_shown() {
+    local lines
+    lines=$(awk -v begins="\`\`\`$2" '/^```/ { shows = $0 == begins; next } shows' "$1")
+    if [ -n "$lines" ] && ! grep -Fxv -f "$3" <<< "$lines"; then
+        passed=$((passed + 1))
+    else
+        fault "$1 shows lines that are not in $3, or none"
     fi
 }
 

@@ -20,10 +20,9 @@ DECLARATION = re.compile(r'(?P<comment>/\*(?:(?!\*/).)*\*/\n)?(?P<unused>CEDAR_W
 HEAD = '''/* Checks of pointers before each call. Written by tools/c_header.py from the other headers: do not edit.
  *
  * Each function here has the parameters of the function of the library that its macro replaces. cedar.h says what a
- * null pointer means. The checks are tested, not proved. With CEDAR_UNCHECKED defined there are none. */
+ * null pointer means. The checks are tested, not proved. With CEDAR_UNCHECKED defined there are no macros. */
 #ifndef CEDAR_NULLS_H
 #define CEDAR_NULLS_H
-#ifndef CEDAR_UNCHECKED
 
 #include "policies.h"
 #include "store.h"
@@ -39,15 +38,17 @@ static inline void *cedar_empty_list(void) {
 }
 '''
 TAIL = '''
+#ifdef __cplusplus
+}
+#endif
+
+#ifndef CEDAR_UNCHECKED
+%s
 /* In C `cedar_status_text` returns a text that ends with a zero. The function of the library is
  * `cedar_status_copy_text`. */
 #define cedar_status_copy_text cedar_checked_status_text
 #undef cedar_status_text
 #define cedar_status_text cedar_status_words
-
-#ifdef __cplusplus
-}
-#endif
 #endif
 #endif
 '''
@@ -92,8 +93,13 @@ def pointer_checks(parameters, failed):
     return handles, lines
 
 
+def checked_name(name):
+    """Returns the name of the checked function."""
+    return name.replace('cedar_', 'cedar_checked_', 1)
+
+
 def wrapper(declaration):
-    """Returns the checked function for a declaration, and its macro."""
+    """Returns the checked function for a declaration, or nothing if it takes no pointer."""
     parameters, name, result = parameters_of(declaration), declaration['name'], declaration['result']
     if not any('*' in kind for kind, _ in parameters):
         return ''
@@ -102,13 +108,12 @@ def wrapper(declaration):
     checks = [f'if ({" || ".join("!" + one for one in handles)}) {closed}'] if handles else []
     if len(handles) == 2:
         checks.append(f'if ({handles[0]} == {handles[1]}) {bad}')
-    checked = name.replace('cedar_', 'cedar_checked_', 1)
-    call = f'{name}({", ".join(one for _, one in parameters)})'
+    checked = checked_name(name)
     head = (declaration['unused'] or '') + f'static inline {result} {checked}('
     text = wrapped(head, [kind + one for kind, one in parameters], ') {')
     body = ''.join(f'    {line}\n' for line in checks + lines)
     returned = wrapped(f'    {"" if result == "void" else "return "}{name}(', [one for _, one in parameters], ');')
-    return f'\n{text}\n{body}{returned}\n}}\n#define {name} {checked}\n' if call else ''
+    return f'\n{text}\n{body}{returned}\n}}\n'
 
 
 def wrapped(head, items, end):
@@ -127,7 +132,9 @@ def wrapped(head, items, end):
 
 def written():
     """Returns the text of the file."""
-    return HEAD + ''.join(map(wrapper, declarations())) + TAIL
+    names = [found['name'] for found in declarations() if wrapper(found)]
+    macros = ''.join(f'#define {name} {checked_name(name)}\n' for name in names)
+    return HEAD + ''.join(map(wrapper, declarations())) + TAIL % macros
 
 
 def check(fault, is_valid):

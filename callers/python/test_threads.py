@@ -338,27 +338,33 @@ print(store.is_descendant_of(uid("x"), uid("a")))
         self.assertEqual(output_of(program), (0, "interrupted True\ninterrupted True\nTrue\n"))
 
     def test_interrupts_leave_no_lock(self):
-        store, deadline = Store({uid("a"): [uid("b")]}), time.monotonic() + 20
-        previous = signal.signal(signal.SIGALRM, lambda *_: (_ for _ in ()).throw(InterruptedError))
-        interrupted, hook = 0, sys.unraisablehook
+        store, armed, interrupted = Store({uid("a"): [uid("b")]}), [], 0
+
+        def interrupt(*_):
+            if armed:
+                armed.clear()
+                raise InterruptedError
+
+        previous, hook = signal.signal(signal.SIGALRM, interrupt), sys.unraisablehook
         sys.unraisablehook = lambda _: None  # an exception in a finalizer is only printed
+        deadline = time.monotonic() + 20
         signal.setitimer(signal.ITIMER_REAL, 0.0005, 0.0005)
         try:
             while interrupted < 100 and time.monotonic() < deadline:
                 try:
+                    armed.append(True)
                     store.upsert({uid("x"): [uid("a")]})
                     store.ancestors(uid("x"))
                     store.is_descendant_of(uid("x"), uid("b"))
                     store.copy().close()
+                    armed.clear()
                 except InterruptedError:
                     interrupted += 1
-        except InterruptedError:
-            interrupted += 1
         finally:
             signal.setitimer(signal.ITIMER_REAL, 0)
             signal.signal(signal.SIGALRM, previous)
             sys.unraisablehook = hook
-        self.assertGreaterEqual(interrupted, 10)
+        self.assertGreaterEqual(interrupted, 20)
         self.assertFalse(store._group.is_busy)
         self.assertEqual(in_threads(lambda _: store.ancestors(uid("a")), 2), [[uid("b")]] * 2)
 

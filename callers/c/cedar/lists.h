@@ -8,12 +8,12 @@
  *     cedar_list_free(&list);
  *
  * A call that appends returns an index. If it fails, its status is stored in the list, and the call that takes the list
- * returns the first such status. So a program checks a status once for each list. */
+ * returns the first such status. So a program checks a status once for each list. The helpers make the checks of
+ * nulls.h, also if CEDAR_UNCHECKED is defined. */
 #ifndef CEDAR_LISTS_H
 #define CEDAR_LISTS_H
 
-#include "policies.h"
-#include "store.h"
+#include "nulls.h"
 #include <stdlib.h>
 #include <string.h>
 
@@ -96,7 +96,7 @@ static inline size_t cedar_list_uid(cedar_list *list, const char *type, const ch
     while (!list->status) {
         uint8_t *out = cedar_list_room(list, room);
         if (!out) return 0;
-        list->status = cedar_uid_make(CEDAR_TEXT(type), CEDAR_TEXT(id), out, room, &len);
+        list->status = cedar_checked_uid_make(CEDAR_TEXT(type), CEDAR_TEXT(id), out, room, &len);
         if (!list->status && len <= room) return cedar_list_item_of(list, len);
         room = len;
     }
@@ -172,8 +172,8 @@ CEDAR_WARN_UNUSED static inline cedar_status cedar_store_build_list(cedar_store 
     cedar_list_arguments a;
     cedar_status status = cedar_list_encode(list, true, &a);
     if (!status)
-        status = cedar_store_build(s, list->text, list->text_len, a.uids, a.uids_len, list->entities_len, a.edges,
-                                   list->edges_len, mode);
+        status = cedar_checked_store_build(s, list->text, list->text_len, a.uids, a.uids_len, list->entities_len,
+                                           a.edges, list->edges_len, mode);
     return cedar_list_end(&a, status);
 }
 
@@ -182,8 +182,8 @@ CEDAR_WARN_UNUSED static inline cedar_status cedar_store_add_list(cedar_store *s
     cedar_list_arguments a;
     cedar_status status = cedar_list_encode(list, true, &a);
     if (!status)
-        status = cedar_store_add(s, list->text, list->text_len, a.uids, a.uids_len, list->entities_len, a.edges,
-                                 list->edges_len, mode);
+        status = cedar_checked_store_add(s, list->text, list->text_len, a.uids, a.uids_len, list->entities_len,
+                                         a.edges, list->edges_len, mode);
     return cedar_list_end(&a, status);
 }
 
@@ -192,8 +192,8 @@ CEDAR_WARN_UNUSED static inline cedar_status cedar_store_upsert_list(cedar_store
     cedar_list_arguments a;
     cedar_status status = cedar_list_encode(list, true, &a);
     if (!status)
-        status = cedar_store_upsert(s, list->text, list->text_len, a.uids, a.uids_len, list->entities_len, a.edges,
-                                    list->edges_len, mode);
+        status = cedar_checked_store_upsert(s, list->text, list->text_len, a.uids, a.uids_len, list->entities_len,
+                                            a.edges, list->edges_len, mode);
     return cedar_list_end(&a, status);
 }
 
@@ -202,7 +202,7 @@ CEDAR_WARN_UNUSED static inline cedar_status cedar_store_remove_list(cedar_store
                                                                      cedar_mode mode) {
     cedar_list_arguments a;
     cedar_status status = cedar_list_encode(list, false, &a);
-    if (!status) status = cedar_store_remove(s, list->text, list->text_len, a.uids, a.uids_len, mode);
+    if (!status) status = cedar_checked_store_remove(s, list->text, list->text_len, a.uids, a.uids_len, mode);
     return cedar_list_end(&a, status);
 }
 
@@ -211,7 +211,7 @@ CEDAR_WARN_UNUSED static inline cedar_status cedar_store_slice_list(cedar_store 
                                                                     const cedar_list *list) {
     cedar_list_arguments a;
     cedar_status status = cedar_list_encode(list, false, &a);
-    if (!status) status = cedar_store_slice(from, to, list->text, list->text_len, a.uids, a.uids_len);
+    if (!status) status = cedar_checked_store_slice(from, to, list->text, list->text_len, a.uids, a.uids_len);
     return cedar_list_end(&a, status);
 }
 
@@ -226,8 +226,8 @@ CEDAR_WARN_UNUSED static inline cedar_status cedar_policies_link_text(cedar_poli
     for (size_t slot = 0; slot < 3; slot++) cedar_list_text(&list, values[slot] ? values[slot] : "");
     cedar_status status = cedar_list_encode(&list, false, &a);
     if (!status)
-        status = cedar_policies_link(p, CEDAR_TEXT(template_id), CEDAR_TEXT(id), list.text, list.text_len, a.uids,
-                                     a.uids_len);
+        status = cedar_checked_policies_link(p, CEDAR_TEXT(template_id), CEDAR_TEXT(id), list.text, list.text_len,
+                                             a.uids, a.uids_len);
     cedar_list_free(&list);
     return cedar_list_end(&a, status);
 }
@@ -248,14 +248,15 @@ static inline cedar_scope cedar_scope_of(cedar_scope_kind kind, size_t start, si
  * is not in a list. Both texts end with a zero. */
 CEDAR_WARN_UNUSED static inline cedar_status cedar_policies_add_static_body(cedar_policies *p, const char *id,
                                                                             const char *text, const cedar_body *body) {
-    return cedar_policies_add_static_with(p, CEDAR_TEXT(id), CEDAR_TEXT(text), body, NULL, 0, NULL, 0, NULL, 0);
+    return cedar_checked_policies_add_static_with(p, CEDAR_TEXT(id), CEDAR_TEXT(text), body, NULL, 0, NULL, 0, NULL, 0);
 }
 
 /* Adds a template, in the same way. */
 CEDAR_WARN_UNUSED static inline cedar_status cedar_policies_add_template_body(cedar_policies *p, const char *id,
                                                                               const char *text,
                                                                               const cedar_body *body) {
-    return cedar_policies_add_template_with(p, CEDAR_TEXT(id), CEDAR_TEXT(text), body, NULL, 0, NULL, 0, NULL, 0);
+    return cedar_checked_policies_add_template_with(p, CEDAR_TEXT(id), CEDAR_TEXT(text), body, NULL, 0, NULL, 0, NULL,
+                                                    0);
 }
 
 /* ---- iteration over results */
@@ -310,22 +311,24 @@ static inline void cedar_texts_separate(cedar_texts *texts, size_t len) {
 
 /* Copies all texts of the answer of a store. Frees the old texts. Returns CEDAR_OK, CEDAR_CLOSED or CEDAR_NO_MEMORY. */
 CEDAR_WARN_UNUSED static inline cedar_status cedar_store_texts(cedar_store *s, cedar_texts *texts) {
-    size_t bytes_len = cedar_store_answer(s, 0, NULL, 0), len = cedar_store_answer_spans(s, 0, NULL, 0);
+    size_t bytes_len = cedar_checked_store_answer(s, 0, NULL, 0);
+    size_t len = cedar_checked_store_answer_spans(s, 0, NULL, 0);
     cedar_status status = cedar_texts_reserve(texts, bytes_len, len);
     if (status) return status;
-    cedar_store_answer(s, 0, (uint8_t *)texts->bytes, bytes_len);
-    cedar_store_answer_spans(s, 0, texts->spans, len);
+    cedar_checked_store_answer(s, 0, (uint8_t *)texts->bytes, bytes_len);
+    cedar_checked_store_answer_spans(s, 0, texts->spans, len);
     cedar_texts_separate(texts, len);
     return CEDAR_OK;
 }
 
 /* Copies all texts of the answer of a set, as `cedar_store_texts` does. */
 CEDAR_WARN_UNUSED static inline cedar_status cedar_policies_texts(cedar_policies *p, cedar_texts *texts) {
-    size_t bytes_len = cedar_policies_answer(p, 0, NULL, 0), len = cedar_policies_answer_spans(p, 0, NULL, 0);
+    size_t bytes_len = cedar_checked_policies_answer(p, 0, NULL, 0);
+    size_t len = cedar_checked_policies_answer_spans(p, 0, NULL, 0);
     cedar_status status = cedar_texts_reserve(texts, bytes_len, len);
     if (status) return status;
-    cedar_policies_answer(p, 0, (uint8_t *)texts->bytes, bytes_len);
-    cedar_policies_answer_spans(p, 0, texts->spans, len);
+    cedar_checked_policies_answer(p, 0, (uint8_t *)texts->bytes, bytes_len);
+    cedar_checked_policies_answer_spans(p, 0, texts->spans, len);
     cedar_texts_separate(texts, len);
     return CEDAR_OK;
 }
@@ -334,27 +337,27 @@ CEDAR_WARN_UNUSED static inline cedar_status cedar_policies_texts(cedar_policies
  * `cedar_store_ancestors`. */
 CEDAR_WARN_UNUSED static inline cedar_status cedar_store_ancestor_texts(cedar_store *s, const char *uid,
                                                                         cedar_texts *texts) {
-    cedar_status status = cedar_store_ancestors(s, CEDAR_TEXT(uid));
+    cedar_status status = cedar_checked_store_ancestors(s, CEDAR_TEXT(uid));
     return status ? status : cedar_store_texts(s, texts);
 }
 
 /* Copies one of the two lists of ids of a set. Returns the statuses of `cedar_policies_ids`. */
 CEDAR_WARN_UNUSED static inline cedar_status cedar_policies_id_texts(cedar_policies *p, cedar_ids list,
                                                                      cedar_texts *texts) {
-    cedar_status status = cedar_policies_ids(p, list);
+    cedar_status status = cedar_checked_policies_ids(p, list);
     return status ? status : cedar_policies_texts(p, texts);
 }
 
 /* Copies the text of the last error of a store, as much as fits, with a zero after it. Returns `out`. */
 static inline const char *cedar_store_error(cedar_store *s, char *out, size_t capacity) {
-    size_t length = capacity ? cedar_store_refusal(s, (uint8_t *)out, capacity - 1) : 0;
+    size_t length = capacity ? cedar_checked_store_refusal(s, (uint8_t *)out, capacity - 1) : 0;
     if (capacity) out[length < capacity ? length : capacity - 1] = 0;
     return out;
 }
 
 /* Copies the text of the last error of a set, as much as fits, with a zero after it. Returns `out`. */
 static inline const char *cedar_policies_error(cedar_policies *p, char *out, size_t capacity) {
-    size_t length = capacity ? cedar_policies_refusal(p, (uint8_t *)out, capacity - 1) : 0;
+    size_t length = capacity ? cedar_checked_policies_refusal(p, (uint8_t *)out, capacity - 1) : 0;
     if (capacity) out[length < capacity ? length : capacity - 1] = 0;
     return out;
 }

@@ -1,10 +1,9 @@
 /* Checks of pointers before each call. Written by tools/c_header.py from the other headers: do not edit.
  *
  * Each function here has the parameters of the function of the library that its macro replaces. cedar.h says what a
- * null pointer means. The checks are tested, not proved. With CEDAR_UNCHECKED defined there are none. */
+ * null pointer means. The checks are tested, not proved. With CEDAR_UNCHECKED defined there are no macros. */
 #ifndef CEDAR_NULLS_H
 #define CEDAR_NULLS_H
-#ifndef CEDAR_UNCHECKED
 
 #include "policies.h"
 #include "store.h"
@@ -30,14 +29,12 @@ CEDAR_WARN_UNUSED static inline cedar_status cedar_checked_run(const uint8_t *in
     if (!exit_status) return CEDAR_BAD_ARGUMENT;
     return cedar_run(input, input_len, seed, key, out, capacity, length, exit_status);
 }
-#define cedar_run cedar_checked_run
 
 CEDAR_WARN_UNUSED static inline cedar_status cedar_checked_uid_check(const uint8_t *text, size_t text_len) {
     if (!text && text_len) return CEDAR_BAD_ARGUMENT;
     if (!text) text = (const uint8_t *)cedar_empty_list();
     return cedar_uid_check(text, text_len);
 }
-#define cedar_uid_check cedar_checked_uid_check
 
 CEDAR_WARN_UNUSED static inline cedar_status cedar_checked_uid_make(const uint8_t *type, size_t type_len,
                                                                     const uint8_t *id, size_t id_len, uint8_t *out,
@@ -51,7 +48,6 @@ CEDAR_WARN_UNUSED static inline cedar_status cedar_checked_uid_make(const uint8_
     if (!length) return CEDAR_BAD_ARGUMENT;
     return cedar_uid_make(type, type_len, id, id_len, out, capacity, length);
 }
-#define cedar_uid_make cedar_checked_uid_make
 
 CEDAR_WARN_UNUSED static inline cedar_status cedar_checked_uid_parts(const uint8_t *uid, size_t uid_len, uint8_t *out,
                                                                      size_t capacity, size_t *type_len,
@@ -64,7 +60,6 @@ CEDAR_WARN_UNUSED static inline cedar_status cedar_checked_uid_parts(const uint8
     if (!length) return CEDAR_BAD_ARGUMENT;
     return cedar_uid_parts(uid, uid_len, out, capacity, type_len, length);
 }
-#define cedar_uid_parts cedar_checked_uid_parts
 
 CEDAR_WARN_UNUSED static inline cedar_status cedar_checked_uids_check(const uint8_t *text, size_t text_len,
                                                                      const cedar_span *uids, size_t uids_len,
@@ -76,13 +71,11 @@ CEDAR_WARN_UNUSED static inline cedar_status cedar_checked_uids_check(const uint
     if (!place) return CEDAR_BAD_ARGUMENT;
     return cedar_uids_check(text, text_len, uids, uids_len, place);
 }
-#define cedar_uids_check cedar_checked_uids_check
 
 static inline size_t cedar_checked_status_text(uint32_t status, uint8_t *out, size_t capacity) {
     if (!out) capacity = 0, out = (uint8_t *)cedar_empty_list();
     return cedar_status_text(status, out, capacity);
 }
-#define cedar_status_text cedar_checked_status_text
 
 CEDAR_WARN_UNUSED static inline bool cedar_checked_refusal_part(cedar_status status, const uint8_t *text,
                                                                 size_t text_len, size_t place, cedar_span *part) {
@@ -91,19 +84,16 @@ CEDAR_WARN_UNUSED static inline bool cedar_checked_refusal_part(cedar_status sta
     if (!part) return false;
     return cedar_refusal_part(status, text, text_len, place, part);
 }
-#define cedar_refusal_part cedar_checked_refusal_part
 
 CEDAR_WARN_UNUSED static inline cedar_status cedar_checked_store_new(cedar_store *s, uint64_t seed, uint64_t key) {
     if (!s) return CEDAR_CLOSED;
     return cedar_store_new(s, seed, key);
 }
-#define cedar_store_new cedar_checked_store_new
 
 static inline void cedar_checked_store_free(cedar_store *s) {
     if (!s) return;
     cedar_store_free(s);
 }
-#define cedar_store_free cedar_checked_store_free
 
 CEDAR_WARN_UNUSED static inline cedar_status cedar_checked_store_build(cedar_store *s, const uint8_t *text,
                                                                      size_t text_len, const cedar_span *uids,
@@ -119,7 +109,6 @@ CEDAR_WARN_UNUSED static inline cedar_status cedar_checked_store_build(cedar_sto
     if (!edges) edges = (const cedar_edge *)cedar_empty_list();
     return cedar_store_build(s, text, text_len, uids, uids_len, count, edges, edges_len, mode);
 }
-#define cedar_store_build cedar_checked_store_build
 
 CEDAR_WARN_UNUSED static inline cedar_status cedar_checked_store_add(cedar_store *s, const uint8_t *text,
                                                                      size_t text_len, const cedar_span *uids,
@@ -135,7 +124,6 @@ CEDAR_WARN_UNUSED static inline cedar_status cedar_checked_store_add(cedar_store
     if (!edges) edges = (const cedar_edge *)cedar_empty_list();
     return cedar_store_add(s, text, text_len, uids, uids_len, count, edges, edges_len, mode);
 }
-#define cedar_store_add cedar_checked_store_add
 
 CEDAR_WARN_UNUSED static inline cedar_status cedar_checked_store_upsert(cedar_store *s, const uint8_t *text,
                                                                      size_t text_len, const cedar_span *uids,
@@ -151,7 +139,6 @@ CEDAR_WARN_UNUSED static inline cedar_status cedar_checked_store_upsert(cedar_st
     if (!edges) edges = (const cedar_edge *)cedar_empty_list();
     return cedar_store_upsert(s, text, text_len, uids, uids_len, count, edges, edges_len, mode);
 }
-#define cedar_store_upsert cedar_checked_store_upsert
 
 CEDAR_WARN_UNUSED static inline cedar_status cedar_checked_store_build_with(cedar_store *s, const uint8_t *text,
                                                                      size_t text_len, const cedar_span *uids,
@@ -177,7 +164,6 @@ CEDAR_WARN_UNUSED static inline cedar_status cedar_checked_store_build_with(ceda
     return cedar_store_build_with(s, text, text_len, uids, uids_len, count, edges, edges_len, indirect, indirect_len,
                                   terms, terms_len, nodes, nodes_len, mode);
 }
-#define cedar_store_build_with cedar_checked_store_build_with
 
 CEDAR_WARN_UNUSED static inline cedar_status cedar_checked_store_add_with(cedar_store *s, const uint8_t *text,
                                                                      size_t text_len, const cedar_span *uids,
@@ -203,7 +189,6 @@ CEDAR_WARN_UNUSED static inline cedar_status cedar_checked_store_add_with(cedar_
     return cedar_store_add_with(s, text, text_len, uids, uids_len, count, edges, edges_len, indirect, indirect_len,
                                 terms, terms_len, nodes, nodes_len, mode);
 }
-#define cedar_store_add_with cedar_checked_store_add_with
 
 CEDAR_WARN_UNUSED static inline cedar_status cedar_checked_store_upsert_with(cedar_store *s, const uint8_t *text,
                                                                      size_t text_len, const cedar_span *uids,
@@ -229,7 +214,6 @@ CEDAR_WARN_UNUSED static inline cedar_status cedar_checked_store_upsert_with(ced
     return cedar_store_upsert_with(s, text, text_len, uids, uids_len, count, edges, edges_len, indirect, indirect_len,
                                    terms, terms_len, nodes, nodes_len, mode);
 }
-#define cedar_store_upsert_with cedar_checked_store_upsert_with
 
 CEDAR_WARN_UNUSED static inline cedar_status cedar_checked_store_remove(cedar_store *s, const uint8_t *text,
                                                                      size_t text_len, const cedar_span *uids,
@@ -241,19 +225,16 @@ CEDAR_WARN_UNUSED static inline cedar_status cedar_checked_store_remove(cedar_st
     if (!uids) uids = (const cedar_span *)cedar_empty_list();
     return cedar_store_remove(s, text, text_len, uids, uids_len, mode);
 }
-#define cedar_store_remove cedar_checked_store_remove
 
 CEDAR_WARN_UNUSED static inline cedar_status cedar_checked_store_partial(cedar_store *s) {
     if (!s) return CEDAR_CLOSED;
     return cedar_store_partial(s);
 }
-#define cedar_store_partial cedar_checked_store_partial
 
 static inline size_t cedar_checked_store_len(cedar_store *s) {
     if (!s) return 0;
     return cedar_store_len(s);
 }
-#define cedar_store_len cedar_checked_store_len
 
 CEDAR_WARN_UNUSED static inline cedar_status cedar_checked_store_has(cedar_store *s, const uint8_t *uid, size_t uid_len,
                                                                      bool *result) {
@@ -263,7 +244,6 @@ CEDAR_WARN_UNUSED static inline cedar_status cedar_checked_store_has(cedar_store
     if (!result) return CEDAR_BAD_ARGUMENT;
     return cedar_store_has(s, uid, uid_len, result);
 }
-#define cedar_store_has cedar_checked_store_has
 
 CEDAR_WARN_UNUSED static inline cedar_status cedar_checked_store_is_descendant_of(cedar_store *s, const uint8_t *child,
                                                                      size_t child_len, const uint8_t *ancestor,
@@ -276,7 +256,6 @@ CEDAR_WARN_UNUSED static inline cedar_status cedar_checked_store_is_descendant_o
     if (!result) return CEDAR_BAD_ARGUMENT;
     return cedar_store_is_descendant_of(s, child, child_len, ancestor, ancestor_len, result);
 }
-#define cedar_store_is_descendant_of cedar_checked_store_is_descendant_of
 
 CEDAR_WARN_UNUSED static inline cedar_status cedar_checked_store_uid_number(cedar_store *s, const uint8_t *uid,
                                                                      size_t uid_len, size_t *number) {
@@ -286,13 +265,11 @@ CEDAR_WARN_UNUSED static inline cedar_status cedar_checked_store_uid_number(ceda
     if (!number) return CEDAR_BAD_ARGUMENT;
     return cedar_store_uid_number(s, uid, uid_len, number);
 }
-#define cedar_store_uid_number cedar_checked_store_uid_number
 
 CEDAR_WARN_UNUSED static inline cedar_status cedar_checked_store_number_uid(cedar_store *s, size_t number) {
     if (!s) return CEDAR_CLOSED;
     return cedar_store_number_uid(s, number);
 }
-#define cedar_store_number_uid cedar_checked_store_number_uid
 
 CEDAR_WARN_UNUSED static inline cedar_status cedar_checked_store_has_number(cedar_store *s, size_t number,
                                                                      bool *result) {
@@ -300,7 +277,6 @@ CEDAR_WARN_UNUSED static inline cedar_status cedar_checked_store_has_number(ceda
     if (!result) return CEDAR_BAD_ARGUMENT;
     return cedar_store_has_number(s, number, result);
 }
-#define cedar_store_has_number cedar_checked_store_has_number
 
 CEDAR_WARN_UNUSED static inline cedar_status cedar_checked_store_is_descendant_of_numbers(cedar_store *s, size_t child,
                                                                      size_t ancestor, bool *result) {
@@ -308,7 +284,6 @@ CEDAR_WARN_UNUSED static inline cedar_status cedar_checked_store_is_descendant_o
     if (!result) return CEDAR_BAD_ARGUMENT;
     return cedar_store_is_descendant_of_numbers(s, child, ancestor, result);
 }
-#define cedar_store_is_descendant_of_numbers cedar_checked_store_is_descendant_of_numbers
 
 CEDAR_WARN_UNUSED static inline cedar_status cedar_checked_store_ancestors(cedar_store *s, const uint8_t *uid,
                                                                      size_t uid_len) {
@@ -317,7 +292,6 @@ CEDAR_WARN_UNUSED static inline cedar_status cedar_checked_store_ancestors(cedar
     if (!uid) uid = (const uint8_t *)cedar_empty_list();
     return cedar_store_ancestors(s, uid, uid_len);
 }
-#define cedar_store_ancestors cedar_checked_store_ancestors
 
 CEDAR_WARN_UNUSED static inline cedar_status cedar_checked_store_parents(cedar_store *s, const uint8_t *uid,
                                                                      size_t uid_len) {
@@ -326,7 +300,6 @@ CEDAR_WARN_UNUSED static inline cedar_status cedar_checked_store_parents(cedar_s
     if (!uid) uid = (const uint8_t *)cedar_empty_list();
     return cedar_store_parents(s, uid, uid_len);
 }
-#define cedar_store_parents cedar_checked_store_parents
 
 CEDAR_WARN_UNUSED static inline cedar_status cedar_checked_store_indirect_ancestors(cedar_store *s, const uint8_t *uid,
                                                                      size_t uid_len) {
@@ -335,7 +308,6 @@ CEDAR_WARN_UNUSED static inline cedar_status cedar_checked_store_indirect_ancest
     if (!uid) uid = (const uint8_t *)cedar_empty_list();
     return cedar_store_indirect_ancestors(s, uid, uid_len);
 }
-#define cedar_store_indirect_ancestors cedar_checked_store_indirect_ancestors
 
 CEDAR_WARN_UNUSED static inline cedar_status cedar_checked_store_is_child_of(cedar_store *s, const uint8_t *child,
                                                                      size_t child_len, const uint8_t *parent,
@@ -348,7 +320,6 @@ CEDAR_WARN_UNUSED static inline cedar_status cedar_checked_store_is_child_of(ced
     if (!result) return CEDAR_BAD_ARGUMENT;
     return cedar_store_is_child_of(s, child, child_len, parent, parent_len, result);
 }
-#define cedar_store_is_child_of cedar_checked_store_is_child_of
 
 CEDAR_WARN_UNUSED static inline cedar_status cedar_checked_store_is_indirect_descendant_of(cedar_store *s,
                                                                      const uint8_t *child, size_t child_len,
@@ -362,14 +333,12 @@ CEDAR_WARN_UNUSED static inline cedar_status cedar_checked_store_is_indirect_des
     if (!result) return CEDAR_BAD_ARGUMENT;
     return cedar_store_is_indirect_descendant_of(s, child, child_len, ancestor, ancestor_len, result);
 }
-#define cedar_store_is_indirect_descendant_of cedar_checked_store_is_indirect_descendant_of
 
 CEDAR_WARN_UNUSED static inline cedar_status cedar_checked_store_is_partial(cedar_store *s, bool *result) {
     if (!s) return CEDAR_CLOSED;
     if (!result) return CEDAR_BAD_ARGUMENT;
     return cedar_store_is_partial(s, result);
 }
-#define cedar_store_is_partial cedar_checked_store_is_partial
 
 CEDAR_WARN_UNUSED static inline cedar_status cedar_checked_store_entity(cedar_store *s, const uint8_t *uid,
                                                                      size_t uid_len, cedar_found *found) {
@@ -379,13 +348,11 @@ CEDAR_WARN_UNUSED static inline cedar_status cedar_checked_store_entity(cedar_st
     if (!found) return CEDAR_BAD_ARGUMENT;
     return cedar_store_entity(s, uid, uid_len, found);
 }
-#define cedar_store_entity cedar_checked_store_entity
 
 CEDAR_WARN_UNUSED static inline cedar_status cedar_checked_store_uids(cedar_store *s) {
     if (!s) return CEDAR_CLOSED;
     return cedar_store_uids(s);
 }
-#define cedar_store_uids cedar_checked_store_uids
 
 CEDAR_WARN_UNUSED static inline cedar_status cedar_checked_store_attrs_len(cedar_store *s, const uint8_t *uid,
                                                                      size_t uid_len, size_t *count) {
@@ -395,7 +362,6 @@ CEDAR_WARN_UNUSED static inline cedar_status cedar_checked_store_attrs_len(cedar
     if (!count) return CEDAR_BAD_ARGUMENT;
     return cedar_store_attrs_len(s, uid, uid_len, count);
 }
-#define cedar_store_attrs_len cedar_checked_store_attrs_len
 
 CEDAR_WARN_UNUSED static inline cedar_status cedar_checked_store_tags_len(cedar_store *s, const uint8_t *uid,
                                                                      size_t uid_len, size_t *count) {
@@ -405,7 +371,6 @@ CEDAR_WARN_UNUSED static inline cedar_status cedar_checked_store_tags_len(cedar_
     if (!count) return CEDAR_BAD_ARGUMENT;
     return cedar_store_tags_len(s, uid, uid_len, count);
 }
-#define cedar_store_tags_len cedar_checked_store_tags_len
 
 CEDAR_WARN_UNUSED static inline cedar_status cedar_checked_store_keys(cedar_store *s, const uint8_t *uid,
                                                                      size_t uid_len) {
@@ -414,7 +379,6 @@ CEDAR_WARN_UNUSED static inline cedar_status cedar_checked_store_keys(cedar_stor
     if (!uid) uid = (const uint8_t *)cedar_empty_list();
     return cedar_store_keys(s, uid, uid_len);
 }
-#define cedar_store_keys cedar_checked_store_keys
 
 CEDAR_WARN_UNUSED static inline cedar_status cedar_checked_store_tag_keys(cedar_store *s, const uint8_t *uid,
                                                                      size_t uid_len) {
@@ -423,7 +387,6 @@ CEDAR_WARN_UNUSED static inline cedar_status cedar_checked_store_tag_keys(cedar_
     if (!uid) uid = (const uint8_t *)cedar_empty_list();
     return cedar_store_tag_keys(s, uid, uid_len);
 }
-#define cedar_store_tag_keys cedar_checked_store_tag_keys
 
 CEDAR_WARN_UNUSED static inline cedar_status cedar_checked_store_get(cedar_store *s, const uint8_t *uid, size_t uid_len,
                                                                      const uint8_t *key, size_t key_len, bool *has) {
@@ -435,7 +398,6 @@ CEDAR_WARN_UNUSED static inline cedar_status cedar_checked_store_get(cedar_store
     if (!has) return CEDAR_BAD_ARGUMENT;
     return cedar_store_get(s, uid, uid_len, key, key_len, has);
 }
-#define cedar_store_get cedar_checked_store_get
 
 CEDAR_WARN_UNUSED static inline cedar_status cedar_checked_store_get_tag(cedar_store *s, const uint8_t *uid,
                                                                      size_t uid_len, const uint8_t *key, size_t key_len,
@@ -448,7 +410,6 @@ CEDAR_WARN_UNUSED static inline cedar_status cedar_checked_store_get_tag(cedar_s
     if (!has) return CEDAR_BAD_ARGUMENT;
     return cedar_store_get_tag(s, uid, uid_len, key, key_len, has);
 }
-#define cedar_store_get_tag cedar_checked_store_get_tag
 
 CEDAR_WARN_UNUSED static inline cedar_status cedar_checked_store_entity_equal(cedar_store *s, const uint8_t *uid,
                                                                      size_t uid_len, cedar_store *other, bool *result) {
@@ -459,13 +420,11 @@ CEDAR_WARN_UNUSED static inline cedar_status cedar_checked_store_entity_equal(ce
     if (!result) return CEDAR_BAD_ARGUMENT;
     return cedar_store_entity_equal(s, uid, uid_len, other, result);
 }
-#define cedar_store_entity_equal cedar_checked_store_entity_equal
 
 CEDAR_WARN_UNUSED static inline cedar_status cedar_checked_store_text(cedar_store *s) {
     if (!s) return CEDAR_CLOSED;
     return cedar_store_text(s);
 }
-#define cedar_store_text cedar_checked_store_text
 
 CEDAR_WARN_UNUSED static inline cedar_status cedar_checked_store_entity_text(cedar_store *s, const uint8_t *uid,
                                                                      size_t uid_len) {
@@ -474,13 +433,11 @@ CEDAR_WARN_UNUSED static inline cedar_status cedar_checked_store_entity_text(ced
     if (!uid) uid = (const uint8_t *)cedar_empty_list();
     return cedar_store_entity_text(s, uid, uid_len);
 }
-#define cedar_store_entity_text cedar_checked_store_entity_text
 
 CEDAR_WARN_UNUSED static inline cedar_status cedar_checked_store_validate(cedar_store *s) {
     if (!s) return CEDAR_CLOSED;
     return cedar_store_validate(s);
 }
-#define cedar_store_validate cedar_checked_store_validate
 
 CEDAR_WARN_UNUSED static inline cedar_status cedar_checked_store_slice(cedar_store *from, cedar_store *to,
                                                                      const uint8_t *text, size_t text_len,
@@ -493,14 +450,12 @@ CEDAR_WARN_UNUSED static inline cedar_status cedar_checked_store_slice(cedar_sto
     if (!uids) uids = (const cedar_span *)cedar_empty_list();
     return cedar_store_slice(from, to, text, text_len, uids, uids_len);
 }
-#define cedar_store_slice cedar_checked_store_slice
 
 CEDAR_WARN_UNUSED static inline cedar_status cedar_checked_store_copy(cedar_store *from, cedar_store *to) {
     if (!from || !to) return CEDAR_CLOSED;
     if (from == to) return CEDAR_BAD_ARGUMENT;
     return cedar_store_copy(from, to);
 }
-#define cedar_store_copy cedar_checked_store_copy
 
 CEDAR_WARN_UNUSED static inline cedar_status cedar_checked_store_slice_deep_copy(cedar_store *from, cedar_store *to,
                                                                      const uint8_t *text, size_t text_len,
@@ -513,14 +468,12 @@ CEDAR_WARN_UNUSED static inline cedar_status cedar_checked_store_slice_deep_copy
     if (!uids) uids = (const cedar_span *)cedar_empty_list();
     return cedar_store_slice_deep_copy(from, to, text, text_len, uids, uids_len);
 }
-#define cedar_store_slice_deep_copy cedar_checked_store_slice_deep_copy
 
 CEDAR_WARN_UNUSED static inline cedar_status cedar_checked_store_deep_copy(cedar_store *from, cedar_store *to) {
     if (!from || !to) return CEDAR_CLOSED;
     if (from == to) return CEDAR_BAD_ARGUMENT;
     return cedar_store_deep_copy(from, to);
 }
-#define cedar_store_deep_copy cedar_checked_store_deep_copy
 
 CEDAR_WARN_UNUSED static inline cedar_status cedar_checked_store_equal(cedar_store *first, cedar_store *second,
                                                                      bool *result) {
@@ -529,48 +482,41 @@ CEDAR_WARN_UNUSED static inline cedar_status cedar_checked_store_equal(cedar_sto
     if (!result) return CEDAR_BAD_ARGUMENT;
     return cedar_store_equal(first, second, result);
 }
-#define cedar_store_equal cedar_checked_store_equal
 
 static inline size_t cedar_checked_store_answer(cedar_store *s, size_t from, uint8_t *out, size_t capacity) {
     if (!s) return 0;
     if (!out) capacity = 0, out = (uint8_t *)cedar_empty_list();
     return cedar_store_answer(s, from, out, capacity);
 }
-#define cedar_store_answer cedar_checked_store_answer
 
 static inline size_t cedar_checked_store_answer_spans(cedar_store *s, size_t from, cedar_span *out, size_t capacity) {
     if (!s) return 0;
     if (!out) capacity = 0, out = (cedar_span *)cedar_empty_list();
     return cedar_store_answer_spans(s, from, out, capacity);
 }
-#define cedar_store_answer_spans cedar_checked_store_answer_spans
 
 static inline size_t cedar_checked_store_answer_nodes(cedar_store *s, size_t from, cedar_node *out, size_t capacity) {
     if (!s) return 0;
     if (!out) capacity = 0, out = (cedar_node *)cedar_empty_list();
     return cedar_store_answer_nodes(s, from, out, capacity);
 }
-#define cedar_store_answer_nodes cedar_checked_store_answer_nodes
 
 static inline size_t cedar_checked_store_refusal(cedar_store *s, uint8_t *out, size_t capacity) {
     if (!s) return 0;
     if (!out) capacity = 0, out = (uint8_t *)cedar_empty_list();
     return cedar_store_refusal(s, out, capacity);
 }
-#define cedar_store_refusal cedar_checked_store_refusal
 
 CEDAR_WARN_UNUSED static inline cedar_status cedar_checked_policies_new(cedar_policies *p, uint64_t seed,
                                                                      uint64_t key) {
     if (!p) return CEDAR_CLOSED;
     return cedar_policies_new(p, seed, key);
 }
-#define cedar_policies_new cedar_checked_policies_new
 
 static inline void cedar_checked_policies_free(cedar_policies *p) {
     if (!p) return;
     cedar_policies_free(p);
 }
-#define cedar_policies_free cedar_checked_policies_free
 
 CEDAR_WARN_UNUSED static inline cedar_status cedar_checked_policies_add_static(cedar_policies *p, const uint8_t *id,
                                                                      size_t id_len, cedar_effect effect) {
@@ -579,7 +525,6 @@ CEDAR_WARN_UNUSED static inline cedar_status cedar_checked_policies_add_static(c
     if (!id) id = (const uint8_t *)cedar_empty_list();
     return cedar_policies_add_static(p, id, id_len, effect);
 }
-#define cedar_policies_add_static cedar_checked_policies_add_static
 
 CEDAR_WARN_UNUSED static inline cedar_status cedar_checked_policies_add_template(cedar_policies *p, const uint8_t *id,
                                                                      size_t id_len, cedar_effect effect,
@@ -589,7 +534,6 @@ CEDAR_WARN_UNUSED static inline cedar_status cedar_checked_policies_add_template
     if (!id) id = (const uint8_t *)cedar_empty_list();
     return cedar_policies_add_template(p, id, id_len, effect, slots);
 }
-#define cedar_policies_add_template cedar_checked_policies_add_template
 
 CEDAR_WARN_UNUSED static inline cedar_status cedar_checked_policies_add_static_with(cedar_policies *p,
                                                                      const uint8_t *id, size_t id_len,
@@ -614,7 +558,6 @@ CEDAR_WARN_UNUSED static inline cedar_status cedar_checked_policies_add_static_w
     return cedar_policies_add_static_with(p, id, id_len, text, text_len, body, annotations, annotations_len, uids,
                                           uids_len, nodes, nodes_len);
 }
-#define cedar_policies_add_static_with cedar_checked_policies_add_static_with
 
 CEDAR_WARN_UNUSED static inline cedar_status cedar_checked_policies_add_template_with(cedar_policies *p,
                                                                      const uint8_t *id, size_t id_len,
@@ -639,7 +582,6 @@ CEDAR_WARN_UNUSED static inline cedar_status cedar_checked_policies_add_template
     return cedar_policies_add_template_with(p, id, id_len, text, text_len, body, annotations, annotations_len, uids,
                                             uids_len, nodes, nodes_len);
 }
-#define cedar_policies_add_template_with cedar_checked_policies_add_template_with
 
 CEDAR_WARN_UNUSED static inline cedar_status cedar_checked_policies_link(cedar_policies *p, const uint8_t *template_id,
                                                                      size_t template_id_len, const uint8_t *id,
@@ -657,7 +599,6 @@ CEDAR_WARN_UNUSED static inline cedar_status cedar_checked_policies_link(cedar_p
     if (!values) values = (const cedar_span *)cedar_empty_list();
     return cedar_policies_link(p, template_id, template_id_len, id, id_len, text, text_len, values, values_len);
 }
-#define cedar_policies_link cedar_checked_policies_link
 
 CEDAR_WARN_UNUSED static inline cedar_status cedar_checked_policies_unlink(cedar_policies *p, const uint8_t *id,
                                                                      size_t id_len) {
@@ -666,7 +607,6 @@ CEDAR_WARN_UNUSED static inline cedar_status cedar_checked_policies_unlink(cedar
     if (!id) id = (const uint8_t *)cedar_empty_list();
     return cedar_policies_unlink(p, id, id_len);
 }
-#define cedar_policies_unlink cedar_checked_policies_unlink
 
 CEDAR_WARN_UNUSED static inline cedar_status cedar_checked_policies_remove_static(cedar_policies *p, const uint8_t *id,
                                                                      size_t id_len) {
@@ -675,7 +615,6 @@ CEDAR_WARN_UNUSED static inline cedar_status cedar_checked_policies_remove_stati
     if (!id) id = (const uint8_t *)cedar_empty_list();
     return cedar_policies_remove_static(p, id, id_len);
 }
-#define cedar_policies_remove_static cedar_checked_policies_remove_static
 
 CEDAR_WARN_UNUSED static inline cedar_status cedar_checked_policies_remove_template(cedar_policies *p,
                                                                      const uint8_t *id, size_t id_len) {
@@ -684,7 +623,6 @@ CEDAR_WARN_UNUSED static inline cedar_status cedar_checked_policies_remove_templ
     if (!id) id = (const uint8_t *)cedar_empty_list();
     return cedar_policies_remove_template(p, id, id_len);
 }
-#define cedar_policies_remove_template cedar_checked_policies_remove_template
 
 CEDAR_WARN_UNUSED static inline cedar_status cedar_checked_policies_merge(cedar_policies *p, cedar_policies *other,
                                                                      bool rename) {
@@ -692,7 +630,6 @@ CEDAR_WARN_UNUSED static inline cedar_status cedar_checked_policies_merge(cedar_
     if (p == other) return CEDAR_BAD_ARGUMENT;
     return cedar_policies_merge(p, other, rename);
 }
-#define cedar_policies_merge cedar_checked_policies_merge
 
 CEDAR_WARN_UNUSED static inline cedar_status cedar_checked_policies_merge_deep_copy(cedar_policies *p,
                                                                      cedar_policies *other, bool rename) {
@@ -700,13 +637,11 @@ CEDAR_WARN_UNUSED static inline cedar_status cedar_checked_policies_merge_deep_c
     if (p == other) return CEDAR_BAD_ARGUMENT;
     return cedar_policies_merge_deep_copy(p, other, rename);
 }
-#define cedar_policies_merge_deep_copy cedar_checked_policies_merge_deep_copy
 
 CEDAR_WARN_UNUSED static inline cedar_status cedar_checked_policies_ids(cedar_policies *p, cedar_ids list) {
     if (!p) return CEDAR_CLOSED;
     return cedar_policies_ids(p, list);
 }
-#define cedar_policies_ids cedar_checked_policies_ids
 
 CEDAR_WARN_UNUSED static inline cedar_status cedar_checked_policies_get(cedar_policies *p, const uint8_t *id,
                                                                      size_t id_len, cedar_bound *bound) {
@@ -716,7 +651,6 @@ CEDAR_WARN_UNUSED static inline cedar_status cedar_checked_policies_get(cedar_po
     if (!bound) return CEDAR_BAD_ARGUMENT;
     return cedar_policies_get(p, id, id_len, bound);
 }
-#define cedar_policies_get cedar_checked_policies_get
 
 CEDAR_WARN_UNUSED static inline cedar_status cedar_checked_policies_effect(cedar_policies *p, const uint8_t *id,
                                                                      size_t id_len, cedar_effect *effect) {
@@ -726,7 +660,6 @@ CEDAR_WARN_UNUSED static inline cedar_status cedar_checked_policies_effect(cedar
     if (!effect) return CEDAR_BAD_ARGUMENT;
     return cedar_policies_effect(p, id, id_len, effect);
 }
-#define cedar_policies_effect cedar_checked_policies_effect
 
 CEDAR_WARN_UNUSED static inline cedar_status cedar_checked_policies_slots(cedar_policies *p, const uint8_t *id,
                                                                      size_t id_len, uint32_t *slots) {
@@ -736,7 +669,6 @@ CEDAR_WARN_UNUSED static inline cedar_status cedar_checked_policies_slots(cedar_
     if (!slots) return CEDAR_BAD_ARGUMENT;
     return cedar_policies_slots(p, id, id_len, slots);
 }
-#define cedar_policies_slots cedar_checked_policies_slots
 
 CEDAR_WARN_UNUSED static inline cedar_status cedar_checked_policies_annotation(cedar_policies *p, const uint8_t *id,
                                                                      size_t id_len, const uint8_t *key, size_t key_len,
@@ -749,7 +681,6 @@ CEDAR_WARN_UNUSED static inline cedar_status cedar_checked_policies_annotation(c
     if (!has) return CEDAR_BAD_ARGUMENT;
     return cedar_policies_annotation(p, id, id_len, key, key_len, has);
 }
-#define cedar_policies_annotation cedar_checked_policies_annotation
 
 CEDAR_WARN_UNUSED static inline cedar_status cedar_checked_policies_annotations(cedar_policies *p, const uint8_t *id,
                                                                      size_t id_len) {
@@ -758,7 +689,6 @@ CEDAR_WARN_UNUSED static inline cedar_status cedar_checked_policies_annotations(
     if (!id) id = (const uint8_t *)cedar_empty_list();
     return cedar_policies_annotations(p, id, id_len);
 }
-#define cedar_policies_annotations cedar_checked_policies_annotations
 
 CEDAR_WARN_UNUSED static inline cedar_status cedar_checked_policies_scope(cedar_policies *p, const uint8_t *id,
                                                                      size_t id_len, cedar_variable variable,
@@ -769,7 +699,6 @@ CEDAR_WARN_UNUSED static inline cedar_status cedar_checked_policies_scope(cedar_
     if (!kind) return CEDAR_BAD_ARGUMENT;
     return cedar_policies_scope(p, id, id_len, variable, kind);
 }
-#define cedar_policies_scope cedar_checked_policies_scope
 
 CEDAR_WARN_UNUSED static inline cedar_status cedar_checked_policies_clause(cedar_policies *p, const uint8_t *id,
                                                                      size_t id_len, bool *has) {
@@ -779,7 +708,6 @@ CEDAR_WARN_UNUSED static inline cedar_status cedar_checked_policies_clause(cedar
     if (!has) return CEDAR_BAD_ARGUMENT;
     return cedar_policies_clause(p, id, id_len, has);
 }
-#define cedar_policies_clause cedar_checked_policies_clause
 
 CEDAR_WARN_UNUSED static inline cedar_status cedar_checked_policies_condition(cedar_policies *p, const uint8_t *id,
                                                                      size_t id_len) {
@@ -788,7 +716,6 @@ CEDAR_WARN_UNUSED static inline cedar_status cedar_checked_policies_condition(ce
     if (!id) id = (const uint8_t *)cedar_empty_list();
     return cedar_policies_condition(p, id, id_len);
 }
-#define cedar_policies_condition cedar_checked_policies_condition
 
 CEDAR_WARN_UNUSED static inline cedar_status cedar_checked_policies_env(cedar_policies *p, const uint8_t *id,
                                                                      size_t id_len) {
@@ -797,7 +724,6 @@ CEDAR_WARN_UNUSED static inline cedar_status cedar_checked_policies_env(cedar_po
     if (!id) id = (const uint8_t *)cedar_empty_list();
     return cedar_policies_env(p, id, id_len);
 }
-#define cedar_policies_env cedar_checked_policies_env
 
 CEDAR_WARN_UNUSED static inline cedar_status cedar_checked_policies_template_id(cedar_policies *p, const uint8_t *id,
                                                                      size_t id_len) {
@@ -806,7 +732,6 @@ CEDAR_WARN_UNUSED static inline cedar_status cedar_checked_policies_template_id(
     if (!id) id = (const uint8_t *)cedar_empty_list();
     return cedar_policies_template_id(p, id, id_len);
 }
-#define cedar_policies_template_id cedar_checked_policies_template_id
 
 CEDAR_WARN_UNUSED static inline cedar_status cedar_checked_policies_linked(cedar_policies *p, const uint8_t *id,
                                                                      size_t id_len) {
@@ -815,13 +740,11 @@ CEDAR_WARN_UNUSED static inline cedar_status cedar_checked_policies_linked(cedar
     if (!id) id = (const uint8_t *)cedar_empty_list();
     return cedar_policies_linked(p, id, id_len);
 }
-#define cedar_policies_linked cedar_checked_policies_linked
 
 CEDAR_WARN_UNUSED static inline cedar_status cedar_checked_policies_text(cedar_policies *p) {
     if (!p) return CEDAR_CLOSED;
     return cedar_policies_text(p);
 }
-#define cedar_policies_text cedar_checked_policies_text
 
 CEDAR_WARN_UNUSED static inline cedar_status cedar_checked_policies_policy_text(cedar_policies *p, const uint8_t *id,
                                                                      size_t id_len) {
@@ -830,7 +753,6 @@ CEDAR_WARN_UNUSED static inline cedar_status cedar_checked_policies_policy_text(
     if (!id) id = (const uint8_t *)cedar_empty_list();
     return cedar_policies_policy_text(p, id, id_len);
 }
-#define cedar_policies_policy_text cedar_checked_policies_policy_text
 
 CEDAR_WARN_UNUSED static inline cedar_status cedar_checked_policies_template_text(cedar_policies *p, const uint8_t *id,
                                                                      size_t id_len) {
@@ -839,7 +761,6 @@ CEDAR_WARN_UNUSED static inline cedar_status cedar_checked_policies_template_tex
     if (!id) id = (const uint8_t *)cedar_empty_list();
     return cedar_policies_template_text(p, id, id_len);
 }
-#define cedar_policies_template_text cedar_checked_policies_template_text
 
 CEDAR_WARN_UNUSED static inline cedar_status cedar_checked_policies_unknown_entities(cedar_policies *p,
                                                                      const uint8_t *id, size_t id_len) {
@@ -848,20 +769,17 @@ CEDAR_WARN_UNUSED static inline cedar_status cedar_checked_policies_unknown_enti
     if (!id) id = (const uint8_t *)cedar_empty_list();
     return cedar_policies_unknown_entities(p, id, id_len);
 }
-#define cedar_policies_unknown_entities cedar_checked_policies_unknown_entities
 
 CEDAR_WARN_UNUSED static inline cedar_status cedar_checked_policies_validate(cedar_policies *p) {
     if (!p) return CEDAR_CLOSED;
     return cedar_policies_validate(p);
 }
-#define cedar_policies_validate cedar_checked_policies_validate
 
 CEDAR_WARN_UNUSED static inline cedar_status cedar_checked_policies_copy(cedar_policies *from, cedar_policies *to) {
     if (!from || !to) return CEDAR_CLOSED;
     if (from == to) return CEDAR_BAD_ARGUMENT;
     return cedar_policies_copy(from, to);
 }
-#define cedar_policies_copy cedar_checked_policies_copy
 
 CEDAR_WARN_UNUSED static inline cedar_status cedar_checked_policies_deep_copy(cedar_policies *from,
                                                                      cedar_policies *to) {
@@ -869,7 +787,6 @@ CEDAR_WARN_UNUSED static inline cedar_status cedar_checked_policies_deep_copy(ce
     if (from == to) return CEDAR_BAD_ARGUMENT;
     return cedar_policies_deep_copy(from, to);
 }
-#define cedar_policies_deep_copy cedar_checked_policies_deep_copy
 
 CEDAR_WARN_UNUSED static inline cedar_status cedar_checked_policies_equal(cedar_policies *first, cedar_policies *second,
                                                                      bool *result) {
@@ -878,14 +795,12 @@ CEDAR_WARN_UNUSED static inline cedar_status cedar_checked_policies_equal(cedar_
     if (!result) return CEDAR_BAD_ARGUMENT;
     return cedar_policies_equal(first, second, result);
 }
-#define cedar_policies_equal cedar_checked_policies_equal
 
 static inline size_t cedar_checked_policies_answer(cedar_policies *p, size_t from, uint8_t *out, size_t capacity) {
     if (!p) return 0;
     if (!out) capacity = 0, out = (uint8_t *)cedar_empty_list();
     return cedar_policies_answer(p, from, out, capacity);
 }
-#define cedar_policies_answer cedar_checked_policies_answer
 
 static inline size_t cedar_checked_policies_answer_spans(cedar_policies *p, size_t from, cedar_span *out,
                                                          size_t capacity) {
@@ -893,7 +808,6 @@ static inline size_t cedar_checked_policies_answer_spans(cedar_policies *p, size
     if (!out) capacity = 0, out = (cedar_span *)cedar_empty_list();
     return cedar_policies_answer_spans(p, from, out, capacity);
 }
-#define cedar_policies_answer_spans cedar_checked_policies_answer_spans
 
 static inline size_t cedar_checked_policies_answer_nodes(cedar_policies *p, size_t from, cedar_node *out,
                                                          size_t capacity) {
@@ -901,13 +815,104 @@ static inline size_t cedar_checked_policies_answer_nodes(cedar_policies *p, size
     if (!out) capacity = 0, out = (cedar_node *)cedar_empty_list();
     return cedar_policies_answer_nodes(p, from, out, capacity);
 }
-#define cedar_policies_answer_nodes cedar_checked_policies_answer_nodes
 
 static inline size_t cedar_checked_policies_refusal(cedar_policies *p, uint8_t *out, size_t capacity) {
     if (!p) return 0;
     if (!out) capacity = 0, out = (uint8_t *)cedar_empty_list();
     return cedar_policies_refusal(p, out, capacity);
 }
+
+#ifdef __cplusplus
+}
+#endif
+
+#ifndef CEDAR_UNCHECKED
+#define cedar_run cedar_checked_run
+#define cedar_uid_check cedar_checked_uid_check
+#define cedar_uid_make cedar_checked_uid_make
+#define cedar_uid_parts cedar_checked_uid_parts
+#define cedar_uids_check cedar_checked_uids_check
+#define cedar_status_text cedar_checked_status_text
+#define cedar_refusal_part cedar_checked_refusal_part
+#define cedar_store_new cedar_checked_store_new
+#define cedar_store_free cedar_checked_store_free
+#define cedar_store_build cedar_checked_store_build
+#define cedar_store_add cedar_checked_store_add
+#define cedar_store_upsert cedar_checked_store_upsert
+#define cedar_store_build_with cedar_checked_store_build_with
+#define cedar_store_add_with cedar_checked_store_add_with
+#define cedar_store_upsert_with cedar_checked_store_upsert_with
+#define cedar_store_remove cedar_checked_store_remove
+#define cedar_store_partial cedar_checked_store_partial
+#define cedar_store_len cedar_checked_store_len
+#define cedar_store_has cedar_checked_store_has
+#define cedar_store_is_descendant_of cedar_checked_store_is_descendant_of
+#define cedar_store_uid_number cedar_checked_store_uid_number
+#define cedar_store_number_uid cedar_checked_store_number_uid
+#define cedar_store_has_number cedar_checked_store_has_number
+#define cedar_store_is_descendant_of_numbers cedar_checked_store_is_descendant_of_numbers
+#define cedar_store_ancestors cedar_checked_store_ancestors
+#define cedar_store_parents cedar_checked_store_parents
+#define cedar_store_indirect_ancestors cedar_checked_store_indirect_ancestors
+#define cedar_store_is_child_of cedar_checked_store_is_child_of
+#define cedar_store_is_indirect_descendant_of cedar_checked_store_is_indirect_descendant_of
+#define cedar_store_is_partial cedar_checked_store_is_partial
+#define cedar_store_entity cedar_checked_store_entity
+#define cedar_store_uids cedar_checked_store_uids
+#define cedar_store_attrs_len cedar_checked_store_attrs_len
+#define cedar_store_tags_len cedar_checked_store_tags_len
+#define cedar_store_keys cedar_checked_store_keys
+#define cedar_store_tag_keys cedar_checked_store_tag_keys
+#define cedar_store_get cedar_checked_store_get
+#define cedar_store_get_tag cedar_checked_store_get_tag
+#define cedar_store_entity_equal cedar_checked_store_entity_equal
+#define cedar_store_text cedar_checked_store_text
+#define cedar_store_entity_text cedar_checked_store_entity_text
+#define cedar_store_validate cedar_checked_store_validate
+#define cedar_store_slice cedar_checked_store_slice
+#define cedar_store_copy cedar_checked_store_copy
+#define cedar_store_slice_deep_copy cedar_checked_store_slice_deep_copy
+#define cedar_store_deep_copy cedar_checked_store_deep_copy
+#define cedar_store_equal cedar_checked_store_equal
+#define cedar_store_answer cedar_checked_store_answer
+#define cedar_store_answer_spans cedar_checked_store_answer_spans
+#define cedar_store_answer_nodes cedar_checked_store_answer_nodes
+#define cedar_store_refusal cedar_checked_store_refusal
+#define cedar_policies_new cedar_checked_policies_new
+#define cedar_policies_free cedar_checked_policies_free
+#define cedar_policies_add_static cedar_checked_policies_add_static
+#define cedar_policies_add_template cedar_checked_policies_add_template
+#define cedar_policies_add_static_with cedar_checked_policies_add_static_with
+#define cedar_policies_add_template_with cedar_checked_policies_add_template_with
+#define cedar_policies_link cedar_checked_policies_link
+#define cedar_policies_unlink cedar_checked_policies_unlink
+#define cedar_policies_remove_static cedar_checked_policies_remove_static
+#define cedar_policies_remove_template cedar_checked_policies_remove_template
+#define cedar_policies_merge cedar_checked_policies_merge
+#define cedar_policies_merge_deep_copy cedar_checked_policies_merge_deep_copy
+#define cedar_policies_ids cedar_checked_policies_ids
+#define cedar_policies_get cedar_checked_policies_get
+#define cedar_policies_effect cedar_checked_policies_effect
+#define cedar_policies_slots cedar_checked_policies_slots
+#define cedar_policies_annotation cedar_checked_policies_annotation
+#define cedar_policies_annotations cedar_checked_policies_annotations
+#define cedar_policies_scope cedar_checked_policies_scope
+#define cedar_policies_clause cedar_checked_policies_clause
+#define cedar_policies_condition cedar_checked_policies_condition
+#define cedar_policies_env cedar_checked_policies_env
+#define cedar_policies_template_id cedar_checked_policies_template_id
+#define cedar_policies_linked cedar_checked_policies_linked
+#define cedar_policies_text cedar_checked_policies_text
+#define cedar_policies_policy_text cedar_checked_policies_policy_text
+#define cedar_policies_template_text cedar_checked_policies_template_text
+#define cedar_policies_unknown_entities cedar_checked_policies_unknown_entities
+#define cedar_policies_validate cedar_checked_policies_validate
+#define cedar_policies_copy cedar_checked_policies_copy
+#define cedar_policies_deep_copy cedar_checked_policies_deep_copy
+#define cedar_policies_equal cedar_checked_policies_equal
+#define cedar_policies_answer cedar_checked_policies_answer
+#define cedar_policies_answer_spans cedar_checked_policies_answer_spans
+#define cedar_policies_answer_nodes cedar_checked_policies_answer_nodes
 #define cedar_policies_refusal cedar_checked_policies_refusal
 
 /* In C `cedar_status_text` returns a text that ends with a zero. The function of the library is
@@ -915,9 +920,5 @@ static inline size_t cedar_checked_policies_refusal(cedar_policies *p, uint8_t *
 #define cedar_status_copy_text cedar_checked_status_text
 #undef cedar_status_text
 #define cedar_status_text cedar_status_words
-
-#ifdef __cplusplus
-}
-#endif
 #endif
 #endif

@@ -648,7 +648,7 @@ class Store(HandleOwner):
 
     def _build_arguments(self) -> Tuple[Entities, int]:
         """Returns entities and a mode that rebuild this store. Rebuilds the store to check them."""
-        uids = list(map(str, self.uids()))
+        uids = self._call_for_texts(_uids)
         entities: Entities = self._parents_by_uid(uids)
         if any(self.attrs_len(uid) or self.tags_len(uid) for uid in uids):
             entities = [self._read_entity(uid) for uid in uids]
@@ -660,7 +660,7 @@ class Store(HandleOwner):
     def _parents_by_uid(self, uids: List[str]) -> Dict[str, List[str]]:
         # Equal texts become one object, which is pickled once.
         texts = dict(zip(uids, uids))
-        return {uid: [texts.setdefault(str(parent), str(parent)) for parent in self.parents(uid)] for uid in uids}
+        return {uid: [texts.setdefault(text, text) for text in self._texts_of(_parents, uid)] for uid in uids}
 
     def _is_built_from(self, entities: Entities, mode: int) -> bool:
         try:
