@@ -15,7 +15,7 @@ import warnings
 
 import cedar_store
 from cedar_store import CedarError, Closed, Constraint, Entity, Mode, Policies, Store
-from cedar_store._groups import _GROUPS, Group, both
+from cedar_store._groups import _GROUPS, Group, run_on_both
 
 THREADS = 8
 
@@ -209,11 +209,14 @@ class GarbageCollection(unittest.TestCase):
 
     def test_a_finalizer_that_calls_the_store_in_the_middle_of_a_call(self):
         store = Store({uid("a"): [uid("b")]})
-        with store._group.steps():
+
+        def use():
             self.assertTrue(store.is_descendant_of(uid("a"), uid("b")))
             for call in (store.uids, lambda: store.ancestors(uid("a")), lambda: store.add({}), store.close, store.copy):
                 with self.assertRaisesRegex(RuntimeError, "in the middle of another call"):
                     call()
+
+        store._group.run(use)
         self.assertEqual(store.ancestors(uid("a")), [uid("b")])
 
     def test_the_end_of_the_interpreter(self):
@@ -400,9 +403,15 @@ class Misuse(unittest.TestCase):
 
     def test_both_locks_of_one_group(self):
         group = Group()
-        with both(group, group):
-            self.assertTrue(group.is_busy)
+        self.assertTrue(run_on_both(group, group, lambda: group.is_busy))
+        self.assertTrue(run_on_both(group, Group(), lambda: group.is_busy))
         self.assertFalse(group.is_busy)
+
+    def test_an_interrupt_that_left_the_group_busy(self):
+        store = Store({uid("a"): []})
+        store._group.is_busy = True
+        self.assertEqual(store.uids(), [uid("a")])
+        self.assertFalse(store._group.is_busy)
 
     def test_init_again_replaces_the_content(self):
         store = Store({uid("a"): []})

@@ -6,23 +6,24 @@ groups share nothing: their calls run at the same time.
 """
 from __future__ import annotations
 
-import contextlib
 import ctypes
 import os
 import threading
 import weakref
-from typing import Any, Callable, Iterator, List, NoReturn, Optional, Tuple
+from typing import Any, Callable, List, NoReturn, Optional, Tuple, TypeVar
 
 from ._library import Handle
 
 _BUFFER_SIZE = 4096
+_Result = TypeVar("_Result")
 
 
 class Group:
     """Handles that share memory. A call on one of them takes the lock.
 
     The lock is reentrant, because a signal handler or a finalizer can call in the middle of another call of its thread.
-    A call in several steps, whose results such a call would change, sets `is_busy`.
+    A call in several steps, whose results such a call would change, sets `is_busy`. An interrupt can leave it set, so
+    it counts only if the thread already has the lock when a call begins.
     """
 
     __slots__ = ("lock", "is_busy", "_dropped", "_text_buffer", "_span_buffer", "__weakref__")
@@ -35,23 +36,22 @@ class Group:
         self._span_buffer: Optional[Any] = None
         _GROUPS.add(self)
 
-    @contextlib.contextmanager
-    def steps(self) -> Iterator[None]:
-        """Takes the lock for a call in several steps."""
-        with self.lock:
-            self.begin()
-            try:
-                yield
-            finally:
-                self.is_busy = False
-
-    def begin(self) -> None:
-        """Begins a call in several steps. The caller has the lock, and sets `is_busy` to False at the end.
+    def run(self, call: Callable[..., _Result], *arguments: Any) -> _Result:
+        """Makes a call in several steps, with the lock.
 
         Raises:
             RuntimeError: this thread is in the middle of another call on the group.
         """
-        if self.is_busy:
+        is_nested = self.lock._is_owned()
+        with self.lock:
+            self._begin(is_nested)
+            try:
+                return call(*arguments)
+            finally:
+                self.is_busy = False
+
+    def _begin(self, is_nested: bool) -> None:
+        if is_nested and self.is_busy:
             raise RuntimeError(
                 "cannot call: a signal handler or a finalizer uses this object in the middle of another call"
             )
@@ -97,16 +97,17 @@ class Group:
         return self._span_buffer
 
 
-@contextlib.contextmanager
-def both(first: Group, second: Group) -> Iterator[None]:
-    """Takes the locks of two groups for a call in several steps. The order is the same in each thread."""
-    if first is second:
-        with first.steps():
-            yield
-    else:
-        low, high = (first, second) if id(first) < id(second) else (second, first)
-        with low.steps(), high.steps():
-            yield
+def run_on_both(first: Group, second: Group, call: Callable[..., _Result], *arguments: Any) -> _Result:
+    """Makes a call in several steps, with the locks of two groups. Their order is the same in each thread."""
+    low, high = (first, second) if id(first) < id(second) else (second, first)
+    is_nested = low.lock._is_owned(), high.lock._is_owned()
+    with low.lock, high.lock:
+        low._begin(is_nested[0])
+        try:
+            high._begin(is_nested[1])
+            return call(*arguments)
+        finally:
+            low.is_busy = high.is_busy = False
 
 
 class _LostLock:
@@ -120,6 +121,9 @@ class _LostLock:
 
     def acquire(self, _: bool = True) -> bool:
         """Returns False, so that nothing is freed."""
+        return False
+
+    def _is_owned(self) -> bool:
         return False
 
 

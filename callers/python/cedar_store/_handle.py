@@ -2,14 +2,17 @@
 from __future__ import annotations
 
 import ctypes
-from typing import Any, Dict, List, NoReturn, Optional, Tuple, Type, TypeVar
+from typing import Any, Callable, Dict, List, NoReturn, Optional, Tuple, Type, TypeVar, Union
 
 from ._errors import CLOSED, NOT_A_UID, has_error_text, raise_error
-from ._groups import Group, both
+from ._groups import Group, run_on_both
 from ._library import SIZES, Handle, UidList, key_numbers
 
 _FIRST_ITEM = SIZES[0]
 _Self = TypeVar("_Self", bound="HandleOwner")
+_Result = TypeVar("_Result")
+# The items that an exception names, or a function that returns them for a status.
+_Names = Union[Tuple[str, ...], Callable[[int], Tuple[str, ...]]]
 
 
 class HandleOwner:
@@ -46,43 +49,46 @@ class HandleOwner:
 
     def __init__(self, *, key: Optional[bytes] = None) -> None:
         numbers = key_numbers(key)
-        with self._group.steps():
-            self._raise_unless_ok(self._new(self._pointer, *numbers))
+        self._call(self._new, *numbers)
 
-    def _call(self, function: Any, *arguments: Any, names: Tuple[str, ...] = ()) -> None:
+    def _step(
+        self, function: Any, arguments: Tuple[Any, ...], names: _Names, uids: Optional[UidList], read: Any
+    ) -> Any:
+        """Calls a library function that returns a status, and then a function that reads the result.
+
+        Raises an exception if the status is not 0. `names` are the items that an exception without a text of the
+        library names.
+        """
+        status = function(self._pointer, *arguments)
+        if status:
+            self._raise_error(status, *(names(status) if callable(names) else names), uids=uids)
+        return read() if read else None
+
+    def _call(self, function: Any, *arguments: Any, names: _Names = ()) -> None:
         """Calls a library function that returns a status. Raises an exception if it is not 0."""
-        group = self._group
-        with group.lock:
-            group.begin()
-            try:
-                status = function(self._pointer, *arguments)
-                if status:
-                    self._raise_error(status, *names)
-            finally:
-                group.is_busy = False
+        self._group.run(self._step, function, arguments, names, None, None)
 
     def _call_with_uids(self, function: Any, uids: UidList, *arguments: Any) -> None:
         """Calls a library function on a list of uids. If a text is not a uid, the exception has the text and its index.
         """
-        with self._group.steps():
-            status = function(self._pointer, *arguments)
-            if status:
-                self._raise_error(status, uids=uids)
+        self._group.run(self._step, function, arguments, (), uids, None)
 
-    def _call_for_texts(self, function: Any, *arguments: Any, names: Tuple[str, ...] = ()) -> List[str]:
-        """Calls a library function that stores texts as its result, and returns them. `names` are the items that the
-        call concerns, for an exception without a text of the library.
-        """
-        group = self._group
-        with group.lock:
-            group.begin()
-            try:
-                status = function(self._pointer, *arguments)
-                if status:
-                    self._raise_error(status, *names)
-                return self._result_texts()
-            finally:
-                group.is_busy = False
+    def _call_for_texts(self, function: Any, *arguments: Any, names: _Names = ()) -> List[str]:
+        """Calls a library function that stores texts as its result, and returns them."""
+        texts: List[str] = self._group.run(self._step, function, arguments, names, None, self._result_texts)
+        return texts
+
+    def _call_and_read(self, function: Any, *arguments: Any, names: _Names, read: Callable[[], _Result]) -> _Result:
+        """Calls a library function, and then a function that reads the result. Returns what that returns."""
+        result: _Result = self._group.run(self._step, function, arguments, names, None, read)
+        return result
+
+    def _call_with_other(
+        self: _Self, function: Any, other: _Self, *arguments: Any, names: _Names = (), read: Any = None
+    ) -> Any:
+        """Calls a library function on two handles, and then a function that reads the result."""
+        arguments = (*arguments[:-1], other._pointer, arguments[-1])
+        return run_on_both(self._group, other._group, self._step, function, arguments, names, None, read)
 
     def _call_for_number(self, function: Any, *arguments: Any, names: Tuple[str, ...] = ()) -> int:
         """Calls a library function that writes a number of 32 bits, and returns it."""
@@ -101,10 +107,6 @@ class HandleOwner:
         if status:
             self._raise_error(status, *names)
         return result.value
-
-    def _raise_unless_ok(self, status: int) -> None:
-        if status:
-            self._raise_error(status)
 
     def _raise_error(self, status: int, *names: str, uids: Optional[UidList] = None) -> NoReturn:
         """Raises the exception for a status other than 0, with the text of the library if it has one.
@@ -151,10 +153,7 @@ class HandleOwner:
 
     def _fill(self: _Self, new: _Self, function: Any, *arguments: Any, uids: Optional[UidList] = None) -> _Self:
         """Calls a library function that fills another handle from this one. Returns the object of that handle."""
-        with self._group.steps():
-            status = function(self._pointer, new._pointer, *arguments)
-            if status:
-                self._raise_error(status, uids=uids)
+        self._group.run(self._step, function, (new._pointer, *arguments), (), uids, None)
         return new
 
     def copy(self: _Self) -> _Self:
@@ -191,8 +190,7 @@ class HandleOwner:
         if self is other:
             return True
         result = ctypes.c_bool(False)
-        with both(self._group, other._group):
-            self._raise_unless_ok(self._equal(self._pointer, other._pointer, ctypes.byref(result)))
+        self._call_with_other(self._equal, other, ctypes.byref(result))
         return result.value
 
     __hash__ = None  # type: ignore[assignment]
@@ -202,8 +200,7 @@ class HandleOwner:
 
         Later calls raise `Closed`, except that the `len` of a closed store is 0.
         """
-        with self._group.steps():
-            self._free(self._pointer)
+        self._group.run(self._free, self._pointer)
 
     def __enter__(self: _Self) -> _Self:
         return self

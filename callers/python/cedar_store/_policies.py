@@ -8,7 +8,6 @@ from typing import Any, Dict, FrozenSet, Iterator, List, Mapping, NamedTuple, Op
 from ._bodies import ANY, Body, Constraint, constraints_of, decode_constraint
 from ._errors import NOT_A_NAME, NOT_A_UID, NOT_UTF8, enum_number, raise_error
 from ._expressions import Expr, Operand, Slot
-from ._groups import both
 from ._handle import HandleOwner
 from ._library import SIZES, UidList, encode, encode_with_length, function, quick_function
 from ._uids import EntityUid, is_uid
@@ -91,15 +90,10 @@ class Policies(HandleOwner):
     _result_spans = quick_function("policies_answer_spans", ctypes.c_size_t)
 
     def _add(self, function: Any, id: str, body: Body) -> None:
-        group, id_text = self._group, encode(id)
-        with group.lock:
-            group.begin()
-            try:
-                status = function(self._pointer, id_text, len(id_text), *body.arguments())
-                if status:
-                    self._raise_error(status, *(body.names_of(status) or ((id,) if status == NOT_UTF8 else ())))
-            finally:
-                group.is_busy = False
+        def names(status: int) -> Tuple[str, ...]:
+            return body.names_of(status) or ((id,) if status == NOT_UTF8 else ())
+
+        self._call(function, *encode_with_length(id), *body.arguments(), names=names)
 
     def add_static(
         self,
@@ -189,20 +183,15 @@ class Policies(HandleOwner):
         if "" in values:
             raise_error(NOT_A_UID, "", index=values.index(""))
         uids = UidList(["" if value is None else value for value in values])
-        template_text, id_text = encode_with_length(template), encode_with_length(id)
-        group = self._group
-        with group.lock:
-            group.begin()
-            try:
-                status = _link(self._pointer, *template_text, *id_text, *uids.arguments())
-                if status == NOT_A_UID:
-                    invalid = [at for at, value in enumerate(values) if value is not None and not is_uid(value)]
-                    index = invalid[0] if invalid else None
-                    raise_error(status, *(() if index is None else (uids.text_at(index),)), index=index)
-                if status:
-                    self._raise_error(status, *((template, id) if status == NOT_UTF8 else ()))
-            finally:
-                group.is_busy = False
+        ids = *encode_with_length(template), *encode_with_length(id)
+
+        def names(status: int) -> Tuple[str, ...]:
+            if status == NOT_A_UID:
+                index = [at for at, value in enumerate(values) if value is not None and not is_uid(value)][0]
+                raise_error(status, uids.text_at(index), index=index)
+            return (template, id) if status == NOT_UTF8 else ()
+
+        self._call(_link, *ids, *uids.arguments(), names=names)
 
     def unlink(self, id: str) -> None:
         """Removes the link with this id.
@@ -268,11 +257,7 @@ class Policies(HandleOwner):
         if other is self:
             other = self.copy()
         function = _merge if self._group is other._group else _merge_deep_copy
-        with both(self._group, other._group):
-            status = function(self._pointer, other._pointer, bool(rename))
-            if status:
-                self._raise_error(status)
-            texts = self._result_texts()
+        texts: List[str] = self._call_with_other(function, other, bool(rename), read=self._result_texts)
         return dict(zip(texts[::2], texts[1::2]))
 
     def bodies(self) -> List[str]:
@@ -392,18 +377,12 @@ class Policies(HandleOwner):
         >>> policies.annotation("all", "reason"), policies.annotation("all", "owner")
         ('a test', None)
         """
-        group, exists = self._group, ctypes.c_bool(False)
-        with group.lock:
-            group.begin()
-            try:
-                status = _annotation(
-                    self._pointer, *_id_arguments(id), *_id_arguments(key), ctypes.byref(exists)
-                )
-                if status:
-                    self._raise_error(status, key if status == NOT_A_NAME else id)
-                return "".join(self._result_texts()) if exists.value else None
-            finally:
-                group.is_busy = False
+        exists = ctypes.c_bool(False)
+        texts = self._call_for_texts(
+            *(_annotation, *_id_arguments(id), *_id_arguments(key), ctypes.byref(exists)),
+            names=lambda status: (key if status == NOT_A_NAME else id,),
+        )
+        return "".join(texts) if exists.value else None
 
     def annotations(self, id: str) -> Dict[str, str]:
         """Returns all annotations, in the order of the bytes of their keys. A link has the annotations of its template.
@@ -420,18 +399,13 @@ class Policies(HandleOwner):
         return dict(zip(texts[::2], texts[1::2]))
 
     def _constraint(self, id: str, scope_index: int) -> Constraint:
-        group, kind = self._group, ctypes.c_uint32(0)
-        with group.lock:
-            group.begin()
-            try:
-                status = _scope(
-                    self._pointer, *_id_arguments(id), ctypes.c_uint32(scope_index), ctypes.byref(kind)
-                )
-                if status:
-                    self._raise_error(status, id)
-                return decode_constraint(kind.value, self._result_texts() if kind.value else [])
-            finally:
-                group.is_busy = False
+        kind = ctypes.c_uint32(0)
+        texts = self._call_and_read(
+            *(_scope, *_id_arguments(id), ctypes.c_uint32(scope_index), ctypes.byref(kind)),
+            names=(id,),
+            read=lambda: self._result_texts() if kind.value else [],
+        )
+        return decode_constraint(kind.value, texts)
 
     def principal_constraint(self, id: str) -> Constraint:
         """Returns the constraint on the principal. In a link the slot is filled.
@@ -474,24 +448,19 @@ class Policies(HandleOwner):
 
     def _expr_of(self, function: Any, id: str, *arguments: Any, exists: Optional[Any] = None) -> Optional[Expr]:
         """Calls a library function that stores an expression as its result, and returns it."""
-        group = self._group
-        with group.lock:
-            group.begin()
-            try:
-                status = function(self._pointer, *_id_arguments(id), *arguments)
-                if status:
-                    self._raise_error(status, id)
-                if exists is not None and not exists.value:
-                    return None
-                buffer = (ctypes.c_char * (NODE_SIZE * _NODES))()
-                count = _result_nodes(self._pointer, SIZES[0], buffer, SIZES[_NODES])
-                if count > _NODES:
-                    buffer = (ctypes.c_char * (NODE_SIZE * count))()
-                    _result_nodes(self._pointer, SIZES[0], buffer, SIZES[count])
-                text = self._result_bytes()
-            finally:
-                group.is_busy = False
-        return expr_from_nodes(text, node_fields(bytes(buffer)[: NODE_SIZE * count]))
+
+        def read() -> Optional[Tuple[bytes, bytes]]:
+            if exists is not None and not exists.value:
+                return None
+            buffer = (ctypes.c_char * (NODE_SIZE * _NODES))()
+            count = _result_nodes(self._pointer, SIZES[0], buffer, SIZES[_NODES])
+            if count > _NODES:
+                buffer = (ctypes.c_char * (NODE_SIZE * count))()
+                _result_nodes(self._pointer, SIZES[0], buffer, SIZES[count])
+            return self._result_bytes(), bytes(buffer)[: NODE_SIZE * count]
+
+        result = self._call_and_read(function, *_id_arguments(id), *arguments, names=(id,), read=read)
+        return None if result is None else expr_from_nodes(result[0], node_fields(result[1]))
 
     def non_scope_constraints(self, id: str) -> Optional[Expr]:
         """Returns the clause, or None. A link has the clause of its template, with its slots not filled.

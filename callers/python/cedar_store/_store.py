@@ -9,7 +9,7 @@ from ._content import Content, Entities, as_entity, as_pair, encode_pairs
 from ._dot import to_dot
 from ._entity import Entity, Unknown
 from ._errors import BAD_ARGUMENT, NOT_A_UID, CedarError, UNKNOWN_ENTITY, enum_number, raise_error
-from ._groups import Group, both
+from ._groups import Group
 from ._handle import HandleOwner
 from ._mode import Mode
 from ._library import (
@@ -499,24 +499,23 @@ class Store(HandleOwner):
         return self._texts_of(_tag_keys, uid)
 
     def _read_term(self, function: Any, uid: str, key: str) -> Optional[ReadTerm]:
-        group, text, key_text, has = self._group, encode(uid), encode(key), _bool_out()
-        with group.lock:
-            group.begin()
-            try:
-                status = function(
-                    self._pointer, text, SIZES[len(text)], key_text, SIZES[len(key_text)], _byref(has)
-                )
-                if status:
-                    self._raise_error(status, uid if status in (NOT_A_UID, UNKNOWN_ENTITY) else key)
-                if not has.value:
-                    return None
-                count = _result_nodes(self._pointer, SIZES[0], b"", SIZES[0])
-                buffer = ctypes.create_string_buffer(NODE_SIZE * count)
-                _result_nodes(self._pointer, SIZES[0], buffer, SIZES[count])
-                result = self._result_bytes()
-            finally:
-                group.is_busy = False
-        return from_nodes(result, node_fields(buffer.raw))
+        text, key_text, has = encode(uid), encode(key), _bool_out()
+
+        def read() -> Optional[Tuple[bytes, bytes]]:
+            if not has.value:
+                return None
+            count = _result_nodes(self._pointer, SIZES[0], b"", SIZES[0])
+            buffer = ctypes.create_string_buffer(NODE_SIZE * count)
+            _result_nodes(self._pointer, SIZES[0], buffer, SIZES[count])
+            return self._result_bytes(), buffer.raw
+
+        def names(status: int) -> Tuple[str, ...]:
+            return (uid if status in (NOT_A_UID, UNKNOWN_ENTITY) else key,)
+
+        result = self._call_and_read(
+            *(function, text, SIZES[len(text)], key_text, SIZES[len(key_text)], _byref(has)), names=names, read=read
+        )
+        return None if result is None else from_nodes(result[0], node_fields(result[1]))
 
     def get(self, uid: str, key: str) -> Optional[ReadTerm]:
         """Returns an attribute of an entity: a value, a residual expression, or None if there is no such attribute.
@@ -580,10 +579,7 @@ class Store(HandleOwner):
             self.attrs_len(uid)
             return True
         text, result = encode(uid), _bool_out()
-        with both(self._group, other._group):
-            status = _entity_equal(self._pointer, text, SIZES[len(text)], other._pointer, _byref(result))
-        if status:
-            self._raise_error(status, uid)
+        self._call_with_other(_entity_equal, other, text, SIZES[len(text)], _byref(result), names=(uid,))
         return result.value
 
     def entity_text(self, uid: str) -> str:
