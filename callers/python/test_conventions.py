@@ -46,7 +46,8 @@ class Traps(unittest.TestCase):
         text = str(ALICE)
         for build in (
             lambda: PRINCIPAL.eq(text), lambda: PRINCIPAL.is_in(text), lambda: Eq(text, PRINCIPAL),
-            lambda: In(text, text), lambda: SetOf(text), lambda: And(PRINCIPAL, text), lambda: PRINCIPAL & text, lambda: text & PRINCIPAL,
+            lambda: In(text, text), lambda: SetOf(text), lambda: And(PRINCIPAL, text), lambda: PRINCIPAL & text,
+            lambda: text & PRINCIPAL,
             lambda: Policies().add_static("p", when=text), lambda: CONTEXT.eq("x"),
         ):
             with self.assertRaisesRegex(TypeError, r"write EntityUid\(.*\) for the entity, or Lit\(.*\) for"):
@@ -242,7 +243,8 @@ def random_argument(rng):
     """Returns an argument of any type, which is valid only by chance."""
     return rng.choice((
         None, True, 0, -1, 7, 2**31, 2**64, -(2**70), 1.5, "", "a", "\ud800", "\0", "é" * 50, "a" * 100_000, b"a",
-        ALICE, str(STAFF), 'A::"', [], [ALICE], [5], [None], (), (ALICE, [STAFF]), [(ALICE, [STAFF])], [(ALICE, STAFF)], {},
+        ALICE, str(STAFF), 'A::"', [], [ALICE], [5], [None], (), (ALICE, [STAFF]), [(ALICE, [STAFF])],
+        [(ALICE, STAFF)], {},
         {ALICE: [STAFF]}, {5: []}, {ALICE: None}, {ALICE: [ALICE]}, set(), frozenset([ALICE]), object(), int, Store(),
         Policies(), Entity(ALICE, [STAFF], attrs={"k": [1]}), [Entity(ALICE)], PRINCIPAL, PRINCIPAL.eq(1),
         Slot("?action"), Constraint.is_in(ALICE), Constraint.is_in("x"), Constraint(9), Effect.FORBID, Mode.ASSUME,
@@ -278,9 +280,10 @@ class AnyArguments(unittest.TestCase):
     def test_any_arguments_of_types_and_functions(self):
         rng = random.Random(4)
         calls = (
-            Entity, Store, Policies, EntityUid, EntityUid.make, EntityUid.escape, Constraint.is_eq, Lit, Eq, Call, SetOf,
-            Slot, Entity.from_dataclass, cedar_store.is_uid, cedar_store.run, cedar_store.status_text,
-            cedar_store.values.same, cedar_store.values.to_nodes, cedar_store.values.from_nodes, cedar_store.values.CedarSet, Expr,
+            Entity, Store, Policies, EntityUid, EntityUid.make, EntityUid.escape, Constraint.is_eq, Lit, Eq, Call,
+            SetOf, Slot, Entity.from_dataclass, cedar_store.is_uid, cedar_store.run, cedar_store.status_text,
+            cedar_store.values.same, cedar_store.values.to_nodes, cedar_store.values.from_nodes,
+            cedar_store.values.CedarSet, Expr,
         )
         for _ in range(4000):
             call = rng.choice(calls)
