@@ -303,15 +303,15 @@ struct OnMaps;
 
 const CALLS: &str = "
     LinkedMap::reserve | abc | abc
-    LinkedMap::append | abc def | abcdef
-    LinkedMap::append | abc cbx | abcx
+    LinkedMap::append | abc defghijklmnopqrstuvwxyz | abcdefghijklmnopqrstuvwxyz
+    - LinkedMap::append | abc cbx | abcx
     LinkedMap::clone | abc | abc
     - LinkedMap::clone | nothing | nothing
     LinkedMap::from_index_map | abc | abc
     LinkedMap::with_capacity_and_hasher | nothing | nothing
     LinkedSet::reserve | abc | abc
-    LinkedSet::append | abc def | abcdef
-    LinkedSet::append | abc cbx | abcx
+    LinkedSet::append | abc defghijklmnopqrstuvwxyz | abcdefghijklmnopqrstuvwxyz
+    - LinkedSet::append | abc cbx | abcx
     LinkedSet::clone | abc | abc
     LinkedSet::from_index_set | abc | abc
     - LinkedMap::shift_remove | abcde a | bcde
