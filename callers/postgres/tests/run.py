@@ -70,6 +70,7 @@ def main(arguments: list[str]) -> int:
     names = [argument for argument in arguments if argument != "--minute"]
     names = names or sorted(os.path.basename(path)[:-3] for path in glob.glob(os.path.join(HERE, "test_*.py")))
     output = io.StringIO()
+    logging.getLogger("asyncio").setLevel(logging.ERROR)  # it reports slow steps
     logging.getLogger("psycopg.pool").setLevel(logging.CRITICAL)  # it reports each connection that a test cuts
     signal.signal(signal.SIGTERM, signal.default_int_handler)  # so that the servers are stopped
     tests = unittest.defaultTestLoader.loadTestsFromNames(names)

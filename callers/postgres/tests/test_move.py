@@ -172,7 +172,9 @@ class Moves(ClusterTest):
         await self.cluster.change(self.tenant, lambda draft: draft.add(others))
         writers = [Writer(self.cluster, self.tenant, number) for number in range(3)]
         tasks = [asyncio.create_task(writer.run()) for writer in writers]
-        await asyncio.sleep(0.5)
+        deadline = time.monotonic() + 120
+        while sum(writer.changes for writer in writers) < 10 and time.monotonic() < deadline:
+            await asyncio.sleep(0.1)
         before = sum(writer.changes for writer in writers)
         output = await asyncio.to_thread(self.command, "move", self.admin_directory, str(self.tenant), "b")
         await asyncio.sleep(0.5)
@@ -189,7 +191,7 @@ class Moves(ClusterTest):
             ]
             self.assertEqual(lost, [])
             self.assertEqual(view.version, 3 + sum(writer.changes for writer in writers))
-        self.assertGreater(before, 10)
+        self.assertGreaterEqual(before, 10)
         self.assertEqual(set(self.rows("a", self.tenant).values()), {0})
         self.assertEqual(self.leftovers(), [])
         print(

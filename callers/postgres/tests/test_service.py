@@ -308,6 +308,7 @@ class Faults(Service):
             self.assertEqual(self.request("GET", "/healthz")[0], 200)
         finally:
             self.server.start()
+        self.client.close()  # the service has ended the idle connection by now
         deadline = time.monotonic() + 10
         while self.query(a, a, token=token)[0] != 200 and time.monotonic() < deadline:
             time.sleep(0.1)
