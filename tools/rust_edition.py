@@ -18,6 +18,7 @@ The proved text is the layer in `crates/`. The tool applies these rules to it, i
 - Errors get the messages that `thiserror` would write, and `as_ref` becomes `AsRef` (`items.py`).
 - Parameters of public functions become as general as in std: `impl IntoIterator` or `impl AsRef<str>` (`general_parameters.py`).
 - Code whose form only a proof needs gets the usual form in Rust (`forms.py`, `statements.py`).
+- Iterators get their sizes and the further traits of std's iterators (`iterators.py`).
 - Functions that hash and compare uids are marked `#[inline]` (`items.py`). Calls of functions that only copy, compare
   or hash their arguments are replaced by the bodies (`calls.py`).
 - Names become the names of Rust's std, and each file gets the `use` items that it needs (`texts.py`).
@@ -41,7 +42,7 @@ from rust_edition.functions import Table, functions, imports_of, kind_of
 from rust_edition.ghosts import without_ghosts
 from rust_edition.items import File, Writer
 from rust_edition.trees import parse, text
-from rust_edition import calls, comments, exports, replacements, tests, texts
+from rust_edition import calls, comments, exports, iterators, replacements, tests, texts
 
 TOP = os.path.dirname(os.path.dirname(os.path.abspath(__file__)))
 SRC = os.path.join(TOP, 'rust', 'src')
@@ -73,7 +74,7 @@ panic = "abort"
 '''
 BEFORE, AFTER = replacements.entries()
 LISTS = SimpleNamespace(
-    choices=exceptions.CHOICES, dropped=exceptions.DROPPED | exceptions.ONLY_IN_TESTS, dropped_impls=exceptions.DROPPED_IMPLS,
+    choices=exceptions.CHOICES, growing=exceptions.GROWING, more_derives=exceptions.MORE_DERIVES, derived_by_hand=exceptions.WRITTEN_BY_HAND, dropped=exceptions.DROPPED | exceptions.ONLY_IN_TESTS, dropped_impls=exceptions.DROPPED_IMPLS,
     general=exceptions.GENERAL_PARAMETERS, hidden=exceptions.HIDDEN, dropped_types=exceptions.DROPPED_TYPES, unused=exceptions.UNUSED,
     inlined=exceptions.INLINED, crates=exceptions.CRATES)
 
@@ -156,7 +157,8 @@ def file_text(file, writer, imported):
     source = texts.renamed(text(nodes))
     nodes, paths = texts.split_uses(parse(source))
     body = texts.public_uses(text(nodes), file.crate, crates)
-    more = [('std', 'fmt'), ('std', 'error', 'Error'), ('crate', 'cedar_keyed_hash', 'KeyedState')]
+    body = iterators.completed(body, exceptions.ITERATORS.get((file.crate, file.module), {}))
+    more = [('std', 'fmt'), ('std', 'error', 'Error'), ('std', 'iter', 'FusedIterator'), ('crate', 'cedar_keyed_hash', 'KeyedState')]
     if file.crate == 'cedar_keyed_hash':
         more.pop()
     uses = texts.uses_of(paths, parse(body), file.crate, crates, more)

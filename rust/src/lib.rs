@@ -1,5 +1,5 @@
 //! The store layer of the [Cedar](https://www.cedarpolicy.com) authorization language: entities with all of their
-//! ancestors, and policies, templates and links in sets. It has the names and signatures of `cedar-policy-core` 4.14.1,
+//! ancestors, and policies, templates and links in sets. It has most names and signatures of `cedar-policy-core` 4.14.1,
 //! which is called the original here.
 //!
 //! ```
@@ -148,6 +148,11 @@ pub mod parser {
     /// Errors of texts of uids, names and identifiers.
     pub mod err {
         pub use crate::cedar_ids::ParseErrors;
+
+        /// Errors that validations of templates share with the parser of cedar-policy-core.
+        pub mod parse_errors {
+            pub use crate::handwritten::parse_errors::{InvalidActionType, SlotsInConditionClause};
+        }
     }
 }
 
@@ -169,9 +174,11 @@ pub mod replay {
 /// Transitive closures of graphs with any type of nodes.
 pub mod transitive_closure {
     pub use crate::cedar_graph::{
-        HasCycle, MissingTcEdge, Result, TCNode, TcError, Work, close_dag, compute_tc, compute_tc_counted,
-        enforce_tc_and_dag, repair_dag, repair_tc, repair_tc_counted,
+        HasCycle, MissingTcEdge, Result, TCNode, TcError, Work, close_dag, compute_tc as compute_tc_with_hasher,
+        compute_tc_counted, enforce_tc_and_dag as enforce_tc_and_dag_with_hasher, repair_dag,
+        repair_tc as repair_tc_with_hasher, repair_tc_counted,
     };
+    pub use crate::handwritten::closures::{compute_tc, enforce_tc_and_dag, repair_tc};
 }
 
 // The program in the README is a documentation test.

@@ -184,7 +184,7 @@ fn closures_do_not_depend_on_the_hasher() {
             entity.add_parent(uid((name * 7 + 3) % 40));
             nodes.insert(uid(name), entity);
         }
-        cedar_store::transitive_closure::compute_tc(&mut nodes, false).expect("the call succeeds");
+        cedar_store::transitive_closure::compute_tc_with_hasher(&mut nodes, false).expect("the call succeeds");
         let mut texts: Vec<String> = nodes.values().map(ToString::to_string).collect();
         texts.sort();
         texts

@@ -33,7 +33,7 @@ ONLY_IN_TESTS = {
     ('LineStore', 'new'), ('PolicySets', 'new'),
     ('command', 'read_policy_command'), ('making', 'static_policy'), ('making', 'slotted_template'),
     ('Entity', 'with_shared_parents'),
-    ('UidSet', 'is_ascending'), ('UidSet', 'retain'),
+    ('UidSet', 'is_ascending'), ('UidSet', 'retain'), ('err', 'copy_of_uids'),
 }
 # Functions of `ONLY_IN_TESTS` that the C library uses, functions of the C library that only proofs use, and its files that are dropped.
 USED_BY_C = {('Entity', 'with_shared_parents'), ('making', 'static_policy'), ('making', 'slotted_template')}
@@ -41,6 +41,17 @@ UNUSED_BY_C = {('Held', 'of_parts'), ('Held', 'into_parts')}
 DROPPED_FILES = {('cedar_c', 'parts')}
 DROPPED_TYPES = {'Linked', 'Direct', 'Streams'}
 DROPPED_IMPLS = {('Linked', 'Drop'), ('Linked', 'Deref'), ('Direct', 'Streams')}
+# Implementations that are written by hand, in `rust/src/handwritten/debug.rs`.
+WRITTEN_BY_HAND = {(name, 'Debug') for name in ('PolicyID', 'Annotations', 'HasCycle', 'Entities', 'UidSet')}
+# Implementations that a `derive` replaces.
+DERIVED = {('TemplateValidationError', 'Clone'), ('PolicySetValidationError', 'Clone')}
+DROPPED_IMPLS |= WRITTEN_BY_HAND | DERIVED
+# Enums that may get further variants. Errors with the variants of the original do not, so that a `match` over them
+# compiles as it does there.
+GROWING = {'ActionTypesError', 'EntitiesError', 'ExprNode', 'ExprValidationError', 'ParseErrors', 'RunError',
+           'TalkError'}
+# Traits that types derive in addition, so that errors derive `Clone`, `PartialEq` and `Eq`.
+MORE_DERIVES = {name: {'Clone', 'PartialEq', 'Eq'} for name in ('NonEmpty', 'MissingTcEdge', 'HasCycle')}
 
 # Parameters that only contracts use: (file, function) and names.
 UNUSED = {
@@ -54,7 +65,6 @@ UNUSED = {
 GENERAL_PARAMETERS = {
     ('Eid', 'new'): {'text': 'into'},
     ('PolicyID', 'from_string'): {'text': 'as_ref'},
-    ('PolicyID', 'from_smolstr'): {'id': 'into'},
     ('Unknown', 'new_untyped'): {'name': 'into'},
     ('Unknown', 'new_with_type'): {'name': 'into'},
     ('Expr', 'val'): {'literal': 'into'},
@@ -97,3 +107,47 @@ cedar_store_tests cedar_repl_tests'''.split()
 # The crates of the library for C, lowest first.
 CALLERS = '''cedar_c_lists cedar_c_trees cedar_c_bodies cedar_c_errors cedar_deep_copy cedar_deep_copy_stores cedar_deep_copy_policies
 cedar_c_stores cedar_c_sets cedar_c'''.split()
+
+# The iterators of a file, by name: the expression of the size, whether the size is exact, and the traits to derive.
+INNER = 'self.inner.size_hint()'
+ITERATORS = {
+    ('cedar_action', 'iters'): {
+        'EntityIterator': (
+            'let count = match self { Self::None => 0, Self::One(_) => 1, Self::Bunch(euids) => euids.len() };'
+            ' (count, Some(count))', True, 'Clone, Debug'),
+        'ActionTypeNames': ('self.euids.size_hint()', True, 'Clone, Debug'),
+    },
+    ('cedar_annotation', 'annotation'): {
+        'Iter': (INNER, True, 'Clone, Debug'),
+        'IntoIter': (INNER, True, 'Debug'),
+    },
+    ('cedar_entities', 'store_iters'): {
+        'Iter': (INNER, True, 'Clone, Debug'),
+        'IntoIter': (INNER, True, 'Debug'),
+    },
+    ('cedar_entity', 'iters'): {
+        'Keys': (INNER, True, 'Clone, Debug'),
+        'Pairs': (INNER, True, 'Clone, Debug'),
+        'Ancestors': (
+            'let count = self.parents.len() + self.indirect.len(); (count, Some(count))', True, 'Clone, Debug'),
+    },
+    ('cedar_policy', 'slots'): {'Slots': (INNER, True, 'Clone, Debug')},
+    ('cedar_policy_maps', 'iters'): {
+        'Policies': (INNER, True, 'Clone, Debug'),
+        'IntoPolicies': (INNER, True, 'Clone, Debug'),
+        'AllTemplates': (INNER, True, 'Clone, Debug'),
+        'Templates': ('(0, self.inner.size_hint().1)', False, 'Clone, Debug'),
+        'StaticPolicies': ('(0, self.inner.size_hint().1)', False, 'Clone, Debug'),
+        'LinkedIds': (INNER, True, 'Clone, Debug'),
+    },
+    ('cedar_scope', 'iters'): {
+        'ConstraintTypeNames': (
+            'let count = usize::from(self.of_uid.is_some()) + usize::from(self.stated.is_some());'
+            ' (count, Some(count))', True, 'Clone, Debug'),
+    },
+    ('cedar_uid_sets', 'uid_set'): {'Uids': (INNER, True, 'Clone, Debug')},
+    ('cedar_uid_sets', 'union'): {
+        'Union': (
+            '(self.one.len().max(self.other.len()), Some(self.one.len() + self.other.len()))', False, 'Clone, Debug'),
+    },
+}

@@ -13,6 +13,10 @@ from .self_types import self_type, with_self
 from .general_parameters import generalized
 
 
+# The traits that a type can derive, in the order in which they are written.
+DERIVES = ('Clone', 'Copy', 'Debug', 'Default', 'PartialEq', 'Eq', 'PartialOrd', 'Ord', 'Hash')
+
+
 def drop_notes(out):
     """Removes the comments and attributes at the end."""
     while out:
@@ -109,11 +113,16 @@ class Writer:
         j = after(nodes, i + 1)
         listed = list(code(nodes[j].items)[1].items)
         k = next(k for k in range(j, len(nodes)) if is_id(nodes[k]) and nodes[k][1] in ('struct', 'enum'))
-        if nodes[after(nodes, k + 1)][1] in file.copied:
+        name = nodes[after(nodes, k + 1)][1]
+        if name in file.copied:
             listed.insert(0, ('id', 'Clone'))
-        names = [n[1] for n in code(listed) if is_id(n) and n[1] not in ('Drop', 'Error')]
+        names = {n[1] for n in code(listed) if is_id(n)}
+        is_error = 'Error' in names
+        names |= {'Clone', 'PartialEq', 'Eq'} if is_error else set()
+        names |= self.lists.more_derives.get(name, set())
+        names = [trait for trait in DERIVES if trait in names and (name, trait) not in self.lists.derived_by_hand]
         if names:
-            out += parse(f'#[derive({", ".join(names)})]')
+            out += parse(f'#[derive({", ".join(names)})]' + ('\n#[non_exhaustive]' if name in self.lists.growing else ''))
             return j + 1
         return after(nodes, j + 1)
 
@@ -203,7 +212,8 @@ class Writer:
         """Sets the visibility of a function, and marks it `#[inline]` if it is listed."""
         if (owner or file.module, f.name) in self.lists.hidden:
             hide(out)
-        if (file.crate, file.module) in self.lists.inlined and f.name != 'fmt':
+        is_inlined = re.search(r'#\[inline(\(\w+\))?\]\s*$', text(out[max(0, visibility(out) - 8):visibility(out)]))
+        if (file.crate, file.module) in self.lists.inlined and f.name != 'fmt' and not is_inlined:
             out[visibility(out):] = parse('#[inline]\n') + out[visibility(out):]
 
 
@@ -307,8 +317,36 @@ impl{generics} fmt::Display for {name}{plain_generics} {{
     }}
 }}
 
-impl{generics} Error for {name}{plain_generics} {{}}
+impl{generics} Error for {name}{plain_generics} {{{source(texts)}}}
 '''
+
+
+def source(texts):
+    """Returns the method `source` for an enum of errors: the error that a variant contains, if there is one."""
+    arms = [a for a in (source_arm(name, fields) for (name, fields), _ in texts) if a]
+    if not arms:
+        return ''
+    if len(arms) < len(texts):
+        arms.append('_ => None,')
+    return f'''
+    /// Returns the error that the variant contains, if there is one.
+    fn source(&self) -> Option<&(dyn Error + 'static)> {{
+        match self {{ {' '.join(arms)} }}
+    }}
+'''
+
+
+def source_arm(name, fields):
+    """Returns the match arm that returns the error in a variant; `None` if the variant contains no error."""
+    for k, part in enumerate(split(fields.items) if fields is not None else []):
+        if not re.search(r'Error\b', plain(part)):
+            continue
+        if fields.open == '(':
+            places = ['_'] * len(split(fields.items))
+            places[k] = 'error'
+            return f'Self::{name}({", ".join(places)}) => Some(error),'
+        return f'Self::{name} {{ {field_name(part)}, .. }} => Some({field_name(part)}),'
+    return None
 
 
 def arm(path, fields, literal, args):

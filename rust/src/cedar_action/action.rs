@@ -46,7 +46,8 @@ pub enum ActionConstraint {
 /// # Differences from cedar-policy-core
 ///
 /// The original returns only the uids.
-#[derive(Debug)]
+#[derive(Clone, Debug, PartialEq, Eq)]
+#[non_exhaustive]
 pub enum ActionTypesError {
     /// These uids are not actions. They are in the order of the list.
     NotActions(NonEmpty<Arc<EntityUID>>),

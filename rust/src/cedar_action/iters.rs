@@ -3,12 +3,14 @@
 //! The iterators of action constraints.
 
 use crate::cedar_ids::entity::{EntityType, EntityUID};
+use std::iter::FusedIterator;
 
 /// An iterator over the uids of an action constraint.
 ///
 /// # Differences from cedar-policy-core
 ///
 /// This type is private in the original.
+#[derive(Clone, Debug)]
 pub enum EntityIterator<'a> {
     /// No uid.
     None,
@@ -33,7 +35,20 @@ impl<'a> Iterator for EntityIterator<'a> {
             Self::Bunch(euids) => pop_last(euids),
         }
     }
+
+    fn size_hint(&self) -> (usize, Option<usize>) {
+        let count = match self {
+            Self::None => 0,
+            Self::One(_) => 1,
+            Self::Bunch(euids) => euids.len(),
+        };
+        (count, Some(count))
+    }
 }
+
+impl ExactSizeIterator for EntityIterator<'_> {}
+
+impl FusedIterator for EntityIterator<'_> {}
 
 // Removes the last uid and returns it.
 fn pop_last<'a>(euids: &mut Vec<&'a EntityUID>) -> Option<&'a EntityUID> {
@@ -41,6 +56,7 @@ fn pop_last<'a>(euids: &mut Vec<&'a EntityUID>) -> Option<&'a EntityUID> {
 }
 
 /// An iterator over the types of the uids of an action constraint, in the order of [`EntityIterator`].
+#[derive(Clone, Debug)]
 pub struct ActionTypeNames<'a> {
     euids: EntityIterator<'a>,
 }
@@ -59,4 +75,12 @@ impl<'a> Iterator for ActionTypeNames<'a> {
         let euid = self.euids.next()?;
         Some(euid.entity_type())
     }
+
+    fn size_hint(&self) -> (usize, Option<usize>) {
+        self.euids.size_hint()
+    }
 }
+
+impl ExactSizeIterator for ActionTypeNames<'_> {}
+
+impl FusedIterator for ActionTypeNames<'_> {}

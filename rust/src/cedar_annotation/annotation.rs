@@ -9,6 +9,7 @@ use std::cmp::Ordering;
 use std::collections::{BTreeMap, btree_map};
 use std::fmt;
 use std::hash::{Hash, Hasher};
+use std::iter::FusedIterator;
 
 /// The value of an annotation of a policy: any text.
 ///
@@ -107,7 +108,7 @@ impl fmt::Display for Annotation {
 /// Equality, order and hash use the pairs in ascending order of their keys, and ignore locations. `clone` allocates in
 /// proportion to the content. `Display` writes a line `@key("value")` for each pair, by key. A value that is not ASCII
 /// is written as by `str::escape_debug`. Writing does not allocate.
-#[derive(Clone, Debug)]
+#[derive(Clone)]
 pub struct Annotations {
     pairs: BTreeMap<AnyId, Annotation>,
 }
@@ -335,7 +336,7 @@ impl IntoIterator for Annotations {
 }
 
 /// An iterator over the annotations of a policy with their keys, in ascending order of the keys.
-#[derive(Debug)]
+#[derive(Clone, Debug)]
 pub struct Iter<'a> {
     inner: btree_map::Iter<'a, AnyId, Annotation>,
 }
@@ -346,7 +347,15 @@ impl<'a> Iterator for Iter<'a> {
     fn next(&mut self) -> Option<(&'a AnyId, &'a Annotation)> {
         self.inner.next()
     }
+
+    fn size_hint(&self) -> (usize, Option<usize>) {
+        self.inner.size_hint()
+    }
 }
+
+impl ExactSizeIterator for Iter<'_> {}
+
+impl FusedIterator for Iter<'_> {}
 
 /// An owning iterator over the annotations of a policy with their keys, in ascending order of the keys.
 #[derive(Debug)]
@@ -360,7 +369,15 @@ impl Iterator for IntoIter {
     fn next(&mut self) -> Option<(AnyId, Annotation)> {
         self.inner.next()
     }
+
+    fn size_hint(&self) -> (usize, Option<usize>) {
+        self.inner.size_hint()
+    }
 }
+
+impl ExactSizeIterator for IntoIter {}
+
+impl FusedIterator for IntoIter {}
 
 impl PartialEq for Annotations {
     fn eq(&self, other: &Self) -> bool {

@@ -7,9 +7,11 @@ use crate::cedar_entity::node::SharedEntity;
 use crate::cedar_uid_sets::SharedUid;
 use std::collections::{HashMap, hash_map};
 use std::hash::BuildHasher;
+use std::iter::FusedIterator;
 use std::sync::Arc;
 
 /// An iterator over the entities of a store, each once, in no specified order.
+#[derive(Clone, Debug)]
 pub struct Iter<'a> {
     inner: hash_map::Iter<'a, SharedUid, SharedEntity>,
 }
@@ -27,10 +29,19 @@ impl<'a> Iterator for Iter<'a> {
         let (_uid, node) = self.inner.next()?;
         Some(&*node.0)
     }
+
+    fn size_hint(&self) -> (usize, Option<usize>) {
+        self.inner.size_hint()
+    }
 }
+
+impl ExactSizeIterator for Iter<'_> {}
+
+impl FusedIterator for Iter<'_> {}
 
 /// An iterator over the entities of a store, each once, in no specified order. An entity that is shared elsewhere is
 /// copied.
+#[derive(Debug)]
 pub struct IntoIter {
     inner: hash_map::IntoIter<SharedUid, SharedEntity>,
 }
@@ -50,4 +61,12 @@ impl Iterator for IntoIter {
         let (_uid, node) = self.inner.next()?;
         Some(Arc::unwrap_or_clone(node.0))
     }
+
+    fn size_hint(&self) -> (usize, Option<usize>) {
+        self.inner.size_hint()
+    }
 }
+
+impl ExactSizeIterator for IntoIter {}
+
+impl FusedIterator for IntoIter {}

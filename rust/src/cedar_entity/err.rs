@@ -13,7 +13,8 @@ use std::fmt;
 /// # Differences from cedar-policy-core
 ///
 /// The original nests the errors, and has further kinds for its JSON formats.
-#[derive(Debug)]
+#[derive(Clone, Debug, PartialEq, Eq)]
+#[non_exhaustive]
 pub enum EntitiesError {
     /// Two entities with this uid differ by `Entity::deep_eq`.
     Duplicate(EntityUID),
@@ -59,7 +60,15 @@ impl fmt::Display for EntitiesError {
     }
 }
 
-impl Error for EntitiesError {}
+impl Error for EntitiesError {
+    /// Returns the error that the variant contains, if there is one.
+    fn source(&self) -> Option<&(dyn Error + 'static)> {
+        match self {
+            Self::TransitiveClosureError(error) => Some(error),
+            _ => None,
+        }
+    }
+}
 
 /// Converts an error of the closure. Any other error becomes `TransitiveClosureError`.
 impl From<TcError<EntityUID>> for EntitiesError {

@@ -6,10 +6,12 @@ use crate::cedar_ids::entity::EntityUID;
 use crate::cedar_terms::PartialValue;
 use crate::cedar_uid_sets::{SharedUid, UidSet};
 use std::collections::{BTreeMap, btree_map};
+use std::iter::FusedIterator;
 use std::slice;
 
 pub use crate::cedar_uid_sets::Uids;
 /// An iterator over the keys of attributes or tags, in byte order.
+#[derive(Clone, Debug)]
 pub struct Keys<'a> {
     inner: btree_map::Keys<'a, String, PartialValue>,
 }
@@ -27,9 +29,18 @@ impl<'a> Iterator for Keys<'a> {
         let key = self.inner.next()?;
         Some(key.as_str())
     }
+
+    fn size_hint(&self) -> (usize, Option<usize>) {
+        self.inner.size_hint()
+    }
 }
 
+impl ExactSizeIterator for Keys<'_> {}
+
+impl FusedIterator for Keys<'_> {}
+
 /// An iterator over attributes or tags with their keys, in byte order of the keys.
+#[derive(Clone, Debug)]
 pub struct Pairs<'a> {
     inner: btree_map::Iter<'a, String, PartialValue>,
 }
@@ -47,7 +58,15 @@ impl<'a> Iterator for Pairs<'a> {
         let (key, value) = self.inner.next()?;
         Some((key.as_str(), value))
     }
+
+    fn size_hint(&self) -> (usize, Option<usize>) {
+        self.inner.size_hint()
+    }
 }
+
+impl ExactSizeIterator for Pairs<'_> {}
+
+impl FusedIterator for Pairs<'_> {}
 
 /// An iterator over the shared uids of two sets, one after the other, each in ascending order of uid.
 pub struct SharedUids<'a> {
@@ -82,6 +101,7 @@ impl<'a> Iterator for SharedUids<'a> {
 }
 
 /// An iterator over the uids of two sets, one after the other, each in ascending order of uid.
+#[derive(Clone, Debug)]
 pub struct Ancestors<'a> {
     parents: Uids<'a>,
     indirect: Uids<'a>,
@@ -105,4 +125,13 @@ impl<'a> Iterator for Ancestors<'a> {
         }
         self.indirect.next()
     }
+
+    fn size_hint(&self) -> (usize, Option<usize>) {
+        let count = self.parents.len() + self.indirect.len();
+        (count, Some(count))
+    }
 }
+
+impl ExactSizeIterator for Ancestors<'_> {}
+
+impl FusedIterator for Ancestors<'_> {}

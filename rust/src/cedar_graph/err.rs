@@ -8,7 +8,7 @@ use std::fmt::{Debug, Display};
 
 /// Three keys that show that a graph is not closed. `child` has an edge to `parent` and `parent` has an edge to
 /// `grandparent`, but `child` has no edge to `grandparent`.
-#[derive(Debug, PartialEq, Eq)]
+#[derive(Clone, Debug, PartialEq, Eq)]
 pub struct MissingTcEdge<K> {
     /// The key whose node has no edge to `grandparent`.
     pub child: K,
@@ -19,7 +19,7 @@ pub struct MissingTcEdge<K> {
 }
 
 /// A key that lies on a cycle. In a closed graph it has an edge to itself.
-#[derive(Debug, PartialEq, Eq)]
+#[derive(Clone, PartialEq, Eq)]
 pub struct HasCycle<K> {
     pub(crate) vertex: K,
 }
@@ -125,7 +125,7 @@ impl<K> HasCycle<K> {
 /// # Differences from cedar-policy-core
 ///
 /// The original has no such variant.
-#[derive(Debug, PartialEq, Eq)]
+#[derive(Clone, Debug, PartialEq, Eq)]
 pub enum TcError<K: Debug + Display> {
     /// The graph is not closed: it has a path of two edges without the direct edge.
     MissingTcEdge(MissingTcEdge<K>),

@@ -75,7 +75,10 @@ pub trait TCNode<K> {
     /// # Differences from cedar-policy-core
     ///
     /// The original has no such method.
-    fn order(keys: &[K]) -> Vec<usize> {
+    fn order(keys: &[K]) -> Vec<usize>
+    where
+        Self: Sized,
+    {
         (0..keys.len()).collect()
     }
 

@@ -10,7 +10,8 @@ use std::fmt;
 /// # Differences from cedar-policy-core
 ///
 /// The original stores the errors of its parser here.
-#[derive(Debug)]
+#[derive(Clone, Debug, PartialEq, Eq)]
+#[non_exhaustive]
 pub enum ParseErrors {
     /// The text of a uid does not end in `"`, has no `::"` before that, or has an invalid escaped text between the two.
     /// Only [`EntityUID::from_normalized_str`](crate::cedar_ids::EntityUID::from_normalized_str) returns this error.

@@ -5,7 +5,7 @@
 /// A list with at least one element: the first element, and the other elements in order.
 ///
 /// Both fields are public and serve as constructor and accessors.
-#[derive(Debug)]
+#[derive(Clone, Debug, PartialEq, Eq)]
 pub struct NonEmpty<T> {
     /// The first element.
     pub head: T,

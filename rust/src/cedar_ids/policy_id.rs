@@ -10,7 +10,6 @@ use std::hash::{Hash, Hasher};
 /// The id of a policy or of a template: any text.
 ///
 /// Equality, order and hash use the text. The order compares bytes. `clone` allocates a copy of the text.
-#[derive(Debug)]
 pub struct PolicyID {
     text: String,
 }
@@ -39,7 +38,7 @@ impl PolicyID {
     /// # }
     /// let id = PolicyID::from_string("it's");
     /// assert_eq!((id.as_ref(), id.to_string()), ("it's", r"it\'s".to_string()));
-    /// assert_eq!(id, PolicyID::from_smolstr("it's"));
+    /// assert_eq!(id, PolicyID::from_smolstr("it's".into()));
     /// assert_eq!(id.into_smolstr(), "it's");
     /// ```
     pub fn from_string(text: impl AsRef<str>) -> Self {
@@ -74,11 +73,11 @@ impl PolicyID {
     /// # }
     /// let id = PolicyID::from_string("it's");
     /// assert_eq!((id.as_ref(), id.to_string()), ("it's", r"it\'s".to_string()));
-    /// assert_eq!(id, PolicyID::from_smolstr("it's"));
+    /// assert_eq!(id, PolicyID::from_smolstr("it's".into()));
     /// assert_eq!(id.into_smolstr(), "it's");
     /// ```
-    pub fn from_smolstr(id: impl Into<String>) -> Self {
-        Self { text: id.into() }
+    pub fn from_smolstr(id: String) -> Self {
+        Self { text: id }
     }
 
     /// Returns the text. Does not allocate.
@@ -104,7 +103,7 @@ impl PolicyID {
     /// # }
     /// let id = PolicyID::from_string("it's");
     /// assert_eq!((id.as_ref(), id.to_string()), ("it's", r"it\'s".to_string()));
-    /// assert_eq!(id, PolicyID::from_smolstr("it's"));
+    /// assert_eq!(id, PolicyID::from_smolstr("it's".into()));
     /// assert_eq!(id.into_smolstr(), "it's");
     /// ```
     pub fn into_smolstr(self) -> String {

@@ -34,7 +34,7 @@ impl Error for UnexpectedSlotError {}
 /// # Differences from cedar-policy-core
 ///
 /// In the original, the variants for slots and actions contain structs of its parser.
-#[derive(Debug)]
+#[derive(Clone, Debug, PartialEq, Eq)]
 pub enum TemplateValidationError {
     /// The clause contains this slot, which is the first one in it.
     SlotsInConditionClause(Slot),
@@ -62,32 +62,12 @@ impl fmt::Display for TemplateValidationError {
     }
 }
 
-impl Error for TemplateValidationError {}
-
-impl Clone for TemplateValidationError {
-    fn clone(&self) -> Self {
+impl Error for TemplateValidationError {
+    /// Returns the error that the variant contains, if there is one.
+    fn source(&self) -> Option<&(dyn Error + 'static)> {
         match self {
-            Self::SlotsInConditionClause(slot) => {
-                let slot = slot.clone();
-                Self::SlotsInConditionClause(slot)
-            }
-            Self::InvalidActionType(euids) => {
-                let euids = copy_of_uids(euids);
-                Self::InvalidActionType(euids)
-            }
-            Self::SlotCacheMismatch => Self::SlotCacheMismatch,
-            Self::InvalidExpression(error) => {
-                let error = error.clone();
-                Self::InvalidExpression(error)
-            }
+            Self::InvalidExpression(error) => Some(error),
+            _ => None,
         }
-    }
-}
-
-// Copies a list of uids, which are shared.
-fn copy_of_uids(euids: &NonEmpty<Arc<EntityUID>>) -> NonEmpty<Arc<EntityUID>> {
-    NonEmpty {
-        head: euids.head.clone(),
-        tail: euids.tail.clone(),
     }
 }

@@ -8,9 +8,11 @@ use crate::cedar_ids::loc::Loc;
 use crate::cedar_scope::{EntityReference, PrincipalOrResource, PrincipalOrResourceConstraint};
 use crate::cedar_terms::expr::Expr;
 use crate::cedar_terms::slot::{Slot, SlotId};
+use std::iter::FusedIterator;
 use std::slice;
 
 /// An iterator over the slots of a template, in the order of `Template::slots` and with repetitions.
+#[derive(Clone, Debug)]
 pub struct Slots<'a> {
     inner: slice::Iter<'a, Slot>,
 }
@@ -28,7 +30,15 @@ impl<'a> Iterator for Slots<'a> {
     fn next(&mut self) -> Option<&'a Slot> {
         self.inner.next()
     }
+
+    fn size_hint(&self) -> (usize, Option<usize>) {
+        self.inner.size_hint()
+    }
 }
+
+impl ExactSizeIterator for Slots<'_> {}
+
+impl FusedIterator for Slots<'_> {}
 
 // Returns the slots of a body's condition, without building the condition: those of the clause, then the resource's,
 // the action's and the principal's.

@@ -48,7 +48,7 @@ fn check_calls(clause: Option<&Expr>) -> Result<(), TemplateValidationError> {
 
 // Returns an error with the first unknown function of an expression, if there is one.
 fn check_expr(clause: &Expr) -> Result<(), TemplateValidationError> {
-    match clause.try_validate() {
+    match clause.check_calls() {
         Ok(()) => Ok(()),
         Err(error) => Err(TemplateValidationError::InvalidExpression(error)),
     }

@@ -5,18 +5,21 @@
 use crate::cedar_ids::policy_id::PolicyID;
 use crate::cedar_policy::{Policy, Template};
 use crate::cedar_policy_maps::lists::{has_no_slots, is_link};
-use crate::linked_map::{IntoValues, Keys, LinkedMap, Values};
+use crate::ordered_map::OrderedMap;
 use std::hash::BuildHasher;
+use std::iter::FusedIterator;
 use std::sync::Arc;
+use std::{slice, vec};
 
 /// An iterator over the policies of a set, static policies and links, in insertion order.
+#[derive(Clone, Debug)]
 pub struct Policies<'a> {
-    inner: Values<'a, PolicyID, Policy>,
+    inner: slice::Iter<'a, Policy>,
 }
 
 impl<'a> Policies<'a> {
-    pub(crate) fn of(inner: Values<'a, PolicyID, Policy>) -> Self {
-        Self { inner }
+    pub(crate) fn of(policies: &'a [Policy]) -> Self {
+        Self { inner: policies.iter() }
     }
 }
 
@@ -26,15 +29,24 @@ impl<'a> Iterator for Policies<'a> {
     fn next(&mut self) -> Option<&'a Policy> {
         self.inner.next()
     }
+
+    fn size_hint(&self) -> (usize, Option<usize>) {
+        self.inner.size_hint()
+    }
 }
 
+impl ExactSizeIterator for Policies<'_> {}
+
+impl FusedIterator for Policies<'_> {}
+
 /// An owning iterator over the policies of a set, in insertion order.
+#[derive(Clone, Debug)]
 pub struct IntoPolicies {
-    inner: IntoValues<PolicyID, Policy>,
+    inner: vec::IntoIter<Policy>,
 }
 
 impl IntoPolicies {
-    pub(crate) fn of<S: BuildHasher>(links: LinkedMap<PolicyID, Policy, S>) -> Self {
+    pub(crate) fn of<S: BuildHasher>(links: OrderedMap<PolicyID, Policy, S>) -> Self {
         Self {
             inner: links.into_values(),
         }
@@ -47,35 +59,25 @@ impl Iterator for IntoPolicies {
     fn next(&mut self) -> Option<Policy> {
         self.inner.next()
     }
-}
 
-/// An iterator over the shared bodies of a set, of static policies and of templates, in insertion order.
-pub struct SharedBodies<'a> {
-    inner: Values<'a, PolicyID, Arc<Template>>,
-}
-
-impl<'a> SharedBodies<'a> {
-    pub(crate) fn of(inner: Values<'a, PolicyID, Arc<Template>>) -> Self {
-        Self { inner }
+    fn size_hint(&self) -> (usize, Option<usize>) {
+        self.inner.size_hint()
     }
 }
 
-impl<'a> Iterator for SharedBodies<'a> {
-    type Item = &'a Arc<Template>;
+impl ExactSizeIterator for IntoPolicies {}
 
-    fn next(&mut self) -> Option<&'a Arc<Template>> {
-        self.inner.next()
-    }
-}
+impl FusedIterator for IntoPolicies {}
 
 /// An iterator over the bodies of a set, of static policies and of templates, in insertion order.
+#[derive(Clone, Debug)]
 pub struct AllTemplates<'a> {
-    inner: SharedBodies<'a>,
+    inner: slice::Iter<'a, Arc<Template>>,
 }
 
 impl<'a> AllTemplates<'a> {
-    pub(crate) fn of(inner: SharedBodies<'a>) -> Self {
-        Self { inner }
+    pub(crate) fn of(bodies: &'a [Arc<Template>]) -> Self {
+        Self { inner: bodies.iter() }
     }
 }
 
@@ -85,15 +87,24 @@ impl<'a> Iterator for AllTemplates<'a> {
     fn next(&mut self) -> Option<&'a Template> {
         self.inner.next().map(|template| &**template)
     }
+
+    fn size_hint(&self) -> (usize, Option<usize>) {
+        self.inner.size_hint()
+    }
 }
 
+impl ExactSizeIterator for AllTemplates<'_> {}
+
+impl FusedIterator for AllTemplates<'_> {}
+
 /// An iterator over the bodies of a set that have slots, in insertion order.
+#[derive(Clone, Debug)]
 pub struct Templates<'a> {
     inner: AllTemplates<'a>,
 }
 
 impl<'a> Templates<'a> {
-    pub(crate) fn of(bodies: SharedBodies<'a>) -> Self {
+    pub(crate) fn of(bodies: &'a [Arc<Template>]) -> Self {
         Self {
             inner: AllTemplates::of(bodies),
         }
@@ -106,7 +117,13 @@ impl<'a> Iterator for Templates<'a> {
     fn next(&mut self) -> Option<&'a Template> {
         next_slotted(&mut self.inner)
     }
+
+    fn size_hint(&self) -> (usize, Option<usize>) {
+        (0, self.inner.size_hint().1)
+    }
 }
+
+impl FusedIterator for Templates<'_> {}
 
 // Returns the next body that has slots.
 fn next_slotted<'a>(inner: &mut AllTemplates<'a>) -> Option<&'a Template> {
@@ -123,13 +140,16 @@ fn next_slotted<'a>(inner: &mut AllTemplates<'a>) -> Option<&'a Template> {
 }
 
 /// An iterator over the static policies of a set, in insertion order.
+#[derive(Clone, Debug)]
 pub struct StaticPolicies<'a> {
     inner: Policies<'a>,
 }
 
 impl<'a> StaticPolicies<'a> {
-    pub(crate) fn of(inner: Policies<'a>) -> Self {
-        Self { inner }
+    pub(crate) fn of(policies: &'a [Policy]) -> Self {
+        Self {
+            inner: Policies::of(policies),
+        }
     }
 }
 
@@ -139,7 +159,13 @@ impl<'a> Iterator for StaticPolicies<'a> {
     fn next(&mut self) -> Option<&'a Policy> {
         next_static(&mut self.inner)
     }
+
+    fn size_hint(&self) -> (usize, Option<usize>) {
+        (0, self.inner.size_hint().1)
+    }
 }
+
+impl FusedIterator for StaticPolicies<'_> {}
 
 // Returns the next static policy.
 fn next_static<'a>(inner: &mut Policies<'a>) -> Option<&'a Policy> {
@@ -156,24 +182,14 @@ fn next_static<'a>(inner: &mut Policies<'a>) -> Option<&'a Policy> {
 }
 
 /// An iterator over the ids of the policies that use a body, in insertion order.
+#[derive(Clone, Debug)]
 pub struct LinkedIds<'a> {
-    // The id of a static policy. It comes before the other ids.
-    first: Option<&'a PolicyID>,
-    rest: Keys<'a, PolicyID, ()>,
+    inner: slice::Iter<'a, PolicyID>,
 }
 
 impl<'a> LinkedIds<'a> {
-    // Iterates over the ids of the links of a template.
-    pub(crate) fn of(rest: Keys<'a, PolicyID, ()>) -> Self {
-        Self { first: None, rest }
-    }
-
-    // Iterates over the id of a static policy.
-    pub(crate) fn of_one(id: &'a PolicyID) -> Self {
-        Self {
-            first: Some(id),
-            rest: Keys::empty(),
-        }
+    pub(crate) fn of(ids: &'a [PolicyID]) -> Self {
+        Self { inner: ids.iter() }
     }
 }
 
@@ -181,12 +197,14 @@ impl<'a> Iterator for LinkedIds<'a> {
     type Item = &'a PolicyID;
 
     fn next(&mut self) -> Option<&'a PolicyID> {
-        match self.first {
-            None => self.rest.next(),
-            Some(id) => {
-                self.first = None;
-                Some(id)
-            }
-        }
+        self.inner.next()
+    }
+
+    fn size_hint(&self) -> (usize, Option<usize>) {
+        self.inner.size_hint()
     }
 }
+
+impl ExactSizeIterator for LinkedIds<'_> {}
+
+impl FusedIterator for LinkedIds<'_> {}

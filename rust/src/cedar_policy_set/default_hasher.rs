@@ -128,7 +128,7 @@ impl PolicySet {
     /// assert_eq!(set, keyed);
     /// # Ok::<(), Box<dyn std::error::Error>>(())
     /// ```
-    pub fn try_from_iter(policies: impl IntoIterator<Item = Policy>) -> Result<Self, PolicySetError> {
+    pub fn try_from_iter<T: IntoIterator<Item = Policy>>(policies: T) -> Result<Self, PolicySetError> {
         Self::try_from_iter_with_hasher(KeyedState::default(), policies)
     }
 }

@@ -8,7 +8,7 @@ use std::error::Error;
 use std::fmt;
 
 /// The reason why a policy or template could not be added to a set.
-#[derive(Debug)]
+#[derive(Clone, Debug, PartialEq, Eq)]
 pub enum PolicySetError {
     /// The id is already in use.
     Occupied {
@@ -28,7 +28,7 @@ impl fmt::Display for PolicySetError {
 impl Error for PolicySetError {}
 
 /// The reason why the policies of a template or static policy could not be listed.
-#[derive(Debug)]
+#[derive(Clone, Debug, PartialEq, Eq)]
 pub enum PolicySetGetLinksError {
     /// There is no body with this id.
     MissingTemplate(PolicyID),
@@ -45,7 +45,7 @@ impl fmt::Display for PolicySetGetLinksError {
 impl Error for PolicySetGetLinksError {}
 
 /// The reason why a link could not be removed.
-#[derive(Debug)]
+#[derive(Clone, Debug, PartialEq, Eq)]
 pub enum PolicySetUnlinkError {
     /// The id is not in use.
     UnlinkingError(PolicyID),
@@ -68,7 +68,7 @@ impl fmt::Display for PolicySetUnlinkError {
 impl Error for PolicySetUnlinkError {}
 
 /// The reason why a template could not be removed.
-#[derive(Debug)]
+#[derive(Clone, Debug, PartialEq, Eq)]
 pub enum PolicySetTemplateRemovalError {
     /// The id is not in use.
     RemovePolicyNoTemplateError(PolicyID),
@@ -100,7 +100,7 @@ impl fmt::Display for PolicySetTemplateRemovalError {
 impl Error for PolicySetTemplateRemovalError {}
 
 /// The reason why a static policy could not be removed.
-#[derive(Debug)]
+#[derive(Clone, Debug, PartialEq, Eq)]
 pub enum PolicySetPolicyRemovalError {
     /// No policy has this id.
     RemovePolicyNoLinkError(PolicyID),
@@ -126,7 +126,7 @@ impl fmt::Display for PolicySetPolicyRemovalError {
 impl Error for PolicySetPolicyRemovalError {}
 
 /// The reason why a policy set is invalid. `clone` allocates copies of the ids and of the template's error.
-#[derive(Debug)]
+#[derive(Clone, Debug, PartialEq, Eq)]
 pub enum PolicySetValidationError {
     /// A body is invalid. It is the first invalid one in the order of the bodies.
     InvalidTemplate {
@@ -156,21 +156,12 @@ impl fmt::Display for PolicySetValidationError {
     }
 }
 
-impl Error for PolicySetValidationError {}
-
-impl Clone for PolicySetValidationError {
-    fn clone(&self) -> Self {
+impl Error for PolicySetValidationError {
+    /// Returns the error that the variant contains, if there is one.
+    fn source(&self) -> Option<&(dyn Error + 'static)> {
         match self {
-            Self::InvalidTemplate { id, error } => {
-                let id = id.clone();
-                let error = error.clone();
-                Self::InvalidTemplate { id, error }
-            }
-            Self::LinkToSlotlessTemplate { link_id, template_id } => {
-                let link_id = link_id.clone();
-                let template_id = template_id.clone();
-                Self::LinkToSlotlessTemplate { link_id, template_id }
-            }
+            Self::InvalidTemplate { error, .. } => Some(error),
+            _ => None,
         }
     }
 }

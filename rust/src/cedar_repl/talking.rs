@@ -11,7 +11,8 @@ use std::hash::BuildHasher;
 use std::io::{Read, Write};
 
 /// The reason why a conversation ended early.
-#[derive(Debug)]
+#[derive(Clone, Debug, PartialEq, Eq)]
+#[non_exhaustive]
 pub enum TalkError {
     /// A read failed. The output consists of the outputs for all lines that were completed before.
     Read,

@@ -3,8 +3,10 @@
 //! The iterator over the types in a constraint.
 
 use crate::cedar_ids::entity::EntityType;
+use std::iter::FusedIterator;
 
 /// An iterator over the types in a principal or resource constraint: the type of its uid, then the stated type.
+#[derive(Clone, Debug)]
 pub struct ConstraintTypeNames<'a> {
     of_uid: Option<&'a EntityType>,
     stated: Option<&'a EntityType>,
@@ -26,4 +28,13 @@ impl<'a> Iterator for ConstraintTypeNames<'a> {
             None => self.stated.take(),
         }
     }
+
+    fn size_hint(&self) -> (usize, Option<usize>) {
+        let count = usize::from(self.of_uid.is_some()) + usize::from(self.stated.is_some());
+        (count, Some(count))
+    }
 }
+
+impl ExactSizeIterator for ConstraintTypeNames<'_> {}
+
+impl FusedIterator for ConstraintTypeNames<'_> {}

@@ -10,7 +10,8 @@ use std::io::{ErrorKind, Read, Write};
 use std::{fmt, io, mem};
 
 /// The reason why a run ended early.
-#[derive(Debug)]
+#[derive(Clone, Debug, PartialEq, Eq)]
+#[non_exhaustive]
 pub enum RunError {
     /// A read failed. Nothing was written.
     Read,

@@ -7,7 +7,8 @@ use std::error::Error;
 use std::fmt;
 
 /// The reason why an expression is invalid.
-#[derive(Clone, Debug)]
+#[derive(Clone, Debug, PartialEq, Eq)]
+#[non_exhaustive]
 pub enum ExprValidationError {
     /// The expression calls a function other than `ip`, `decimal`, `datetime` and `duration`.
     UnknownFunction {

@@ -12,6 +12,7 @@ use crate::cedar_terms::var::Var;
 
 /// The root node of an expression. It borrows the content and the children of the node.
 #[derive(Debug)]
+#[non_exhaustive]
 pub enum ExprNode<'a> {
     /// A literal.
     Val(&'a Literal),

@@ -146,31 +146,7 @@ impl Expr {
     ///
     /// - `UnknownFunction`: the expression calls another function. The error contains the first such function, in the
     ///   order of [`Expr::subexpressions`].
-    ///
-    /// ```
-    /// # use cedar_store::{ast::*, entities::*};
-    /// # #[allow(unused)]
-    /// # fn uid(text: &str) -> EntityUID { EntityUID::from_normalized_str(text).unwrap() }
-    /// # #[allow(unused)]
-    /// # fn entity_with(own: &str, parents: &[&str]) -> Entity {
-    /// #     let mut entity = Entity::with_uid(uid(own));
-    /// #     parents.iter().for_each(|parent| entity.add_parent(uid(parent)));
-    /// #     entity
-    /// # }
-    /// # #[allow(unused)]
-    /// # fn template(name: &str, principal: PrincipalConstraint) -> Template {
-    /// #     let (id, all) = (PolicyID::from_string(name), ResourceConstraint::any());
-    /// #     Template::new(id, None, Annotations::new(), Effect::Permit, principal, ActionConstraint::any(), all, None)
-    /// # }
-    /// # #[allow(unused)]
-    /// # fn permit(name: &str) -> StaticPolicy {
-    /// #     StaticPolicy::try_from(template(name, PrincipalConstraint::any())).unwrap()
-    /// # }
-    /// let call = |name| Expr::call(Name::from_normalized_str(name).unwrap(), vec![]);
-    /// assert!(call("decimal").try_validate().is_ok());
-    /// assert_eq!(call("foo").try_validate().unwrap_err().to_string(), "`foo` is not a known function");
-    /// ```
-    pub fn try_validate(&self) -> Result<(), ExprValidationError> {
+    pub(crate) fn check_calls(&self) -> Result<(), ExprValidationError> {
         let nodes = self.subexpressions();
         for node in nodes {
             if let ExprKind::Call(name, _) = &node.kind {

@@ -151,7 +151,6 @@ fn have_one_eid(one: &EntityUID, other: &EntityUID) -> bool {
 
 // Checks whether two uids have the same numbers. If not, the uids differ.
 #[inline(always)]
-#[inline]
 pub(crate) fn have_same_numbers(one: &Key<'_>, other: &Key<'_>) -> bool {
     one.front == other.front && one.kind == other.kind
 }

@@ -9,10 +9,10 @@ use crate::cedar_uid_sets::order::{has, is_one_of, may_contain, place, place_fro
 use crate::cedar_uid_sets::shared_uid::SharedUid;
 use std::collections::HashSet;
 use std::hash::BuildHasher;
+use std::iter::FusedIterator;
 use std::{mem, slice};
 
 /// A set of shared uids: a vector in ascending order, without duplicates.
-#[derive(Debug)]
 pub struct UidSet {
     uids: Vec<SharedUid>,
 }
@@ -231,6 +231,7 @@ impl Clone for UidSet {
 }
 
 /// An iterator over the uids of a set, in ascending order.
+#[derive(Clone, Debug)]
 pub struct Uids<'a> {
     inner: slice::Iter<'a, SharedUid>,
 }
@@ -242,4 +243,12 @@ impl<'a> Iterator for Uids<'a> {
         let shared = self.inner.next()?;
         Some(shared.uid())
     }
+
+    fn size_hint(&self) -> (usize, Option<usize>) {
+        self.inner.size_hint()
+    }
 }
+
+impl ExactSizeIterator for Uids<'_> {}
+
+impl FusedIterator for Uids<'_> {}

@@ -6,8 +6,10 @@ use crate::cedar_ids::entity::EntityUID;
 use crate::cedar_uid_sets::shared_uid::SharedUid;
 use crate::cedar_uid_sets::uid_set::UidSet;
 use std::cmp::Ordering;
+use std::iter::FusedIterator;
 
 /// An iterator over the uids of two sets, in ascending order and without duplicates.
+#[derive(Clone, Debug)]
 pub struct Union<'a> {
     one: &'a [SharedUid],
     other: &'a [SharedUid],
@@ -55,4 +57,13 @@ impl<'a> Iterator for Union<'a> {
             }
         }
     }
+
+    fn size_hint(&self) -> (usize, Option<usize>) {
+        (
+            self.one.len().max(self.other.len()),
+            Some(self.one.len() + self.other.len()),
+        )
+    }
 }
+
+impl FusedIterator for Union<'_> {}

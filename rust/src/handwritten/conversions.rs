@@ -1,8 +1,8 @@
 //! Implementations of traits of the standard library. Each forwards to one function or to a value of the layer.
 use crate::ast::annotation;
 use crate::ast::{
-    Annotation, Annotations, AnyId, Entity, EntityReference, EntityUID, Expr, Literal, PartialValue, Policy, PolicySet,
-    StaticPolicy, Template, TemplateBody, Value, ValueKind,
+    Annotation, Annotations, AnyId, Entity, EntityReference, EntityUID, Expr, ExprValidationError, Literal,
+    PartialValue, Policy, PolicySet, StaticPolicy, Template, TemplateBody, TemplateValidationError, Value, ValueKind,
 };
 use crate::cedar_keyed_hash::KeyedState;
 use crate::cedar_uid_sets::{SharedUid, UidSet};
@@ -25,15 +25,17 @@ impl Default for KeyedState {
     }
 }
 
-impl<S: BuildHasher + Clone + Default> Default for Entities<S> {
+/// Returns an empty store with the default hasher. [`Entities::with_hasher`] takes another one.
+impl Default for Entities {
     fn default() -> Self {
-        Entities::with_hasher(S::default())
+        Entities::new()
     }
 }
 
-impl<S: BuildHasher + Copy + Default> Default for PolicySet<S> {
+/// Returns an empty set with the default hasher. [`PolicySet::with_hasher`] takes another one.
+impl Default for PolicySet {
     fn default() -> Self {
-        PolicySet::with_hasher(S::default())
+        PolicySet::new()
     }
 }
 
@@ -127,6 +129,18 @@ impl From<EntityUID> for Literal {
     }
 }
 
+impl From<Arc<EntityUID>> for Literal {
+    fn from(uid: Arc<EntityUID>) -> Self {
+        Literal::EntityUID(uid)
+    }
+}
+
+impl From<ExprValidationError> for TemplateValidationError {
+    fn from(error: ExprValidationError) -> Self {
+        TemplateValidationError::InvalidExpression(error)
+    }
+}
+
 impl<L: Into<Literal>> From<L> for Value {
     fn from(literal: L) -> Self {
         Value::new(ValueKind::Lit(literal.into()), None)
@@ -164,8 +178,8 @@ impl UidSet {
     }
 }
 
-impl<S: BuildHasher + Copy + Default> Default for Session<S> {
+impl Default for Session {
     fn default() -> Self {
-        Session::with_hasher(S::default())
+        Session::new()
     }
 }

@@ -3,6 +3,8 @@ use crate::ast::PolicyID;
 use crate::cedar_keyed_hash::KeyedState;
 use crate::ordered_map::{OrderedMap, Pairs};
 use std::hash::BuildHasher;
+use std::iter::FusedIterator;
+use std::ops::Index;
 use std::vec;
 
 /// The ids that a merge renamed, each with its new id, in the insertion order of the other set.
@@ -19,7 +21,9 @@ use std::vec;
 /// let (p, fresh) = (PolicyID::from_string("p"), PolicyID::from_string("policy0"));
 /// assert_eq!((renaming.len(), renaming.is_empty()), (1, false));
 /// assert_eq!(renaming.iter().collect::<Vec<_>>(), [(&p, &fresh)]);
-/// assert_eq!((renaming.keys().next(), renaming.get(&p)), (Some(&p), Some(&fresh)));
+/// assert!(renaming.keys().eq([&p]) && renaming.values().eq([&fresh]));
+/// assert_eq!((renaming.get(&p), &renaming[&p]), (Some(&fresh), &fresh));
+/// assert!(renaming.contains_key(&p) && !renaming.contains_key(&fresh));
 /// # Ok::<(), cedar_store::ast::PolicySetError>(())
 /// ```
 #[derive(Clone, Debug)]
@@ -43,13 +47,18 @@ impl<S> Renaming<S> {
     }
 
     /// Iterates over the pairs of an old and a new id, in order.
-    pub fn iter(&self) -> impl ExactSizeIterator<Item = (&PolicyID, &PolicyID)> {
-        self.ids.iter()
+    pub fn iter(&self) -> RenamedIds<'_> {
+        RenamedIds { pairs: self.ids.iter() }
     }
 
     /// Iterates over the old ids, in order.
-    pub fn keys(&self) -> impl ExactSizeIterator<Item = &PolicyID> {
+    pub fn keys(&self) -> impl DoubleEndedIterator<Item = &PolicyID> + ExactSizeIterator + FusedIterator + Clone {
         self.iter().map(|(id, _)| id)
+    }
+
+    /// Iterates over the new ids, in the order of the old ids.
+    pub fn values(&self) -> impl DoubleEndedIterator<Item = &PolicyID> + ExactSizeIterator + FusedIterator + Clone {
+        self.iter().map(|(_, fresh)| fresh)
     }
 }
 
@@ -58,6 +67,24 @@ impl<S: BuildHasher> Renaming<S> {
     pub fn get(&self, id: &PolicyID) -> Option<&PolicyID> {
         self.ids.get(id)
     }
+
+    /// Returns whether an id was renamed.
+    pub fn contains_key(&self, id: &PolicyID) -> bool {
+        self.get(id).is_some()
+    }
+}
+
+impl<S: BuildHasher> Index<&PolicyID> for Renaming<S> {
+    type Output = PolicyID;
+
+    /// Returns the new id of a renamed id.
+    ///
+    /// # Panics
+    ///
+    /// The id was not renamed. [`Renaming::get`] returns `None` then.
+    fn index(&self, id: &PolicyID) -> &PolicyID {
+        self.get(id).expect("the id was not renamed")
+    }
 }
 
 impl<'a, S> IntoIterator for &'a Renaming<S> {
@@ -65,7 +92,7 @@ impl<'a, S> IntoIterator for &'a Renaming<S> {
     type IntoIter = RenamedIds<'a>;
 
     fn into_iter(self) -> RenamedIds<'a> {
-        RenamedIds { pairs: self.ids.iter() }
+        self.iter()
     }
 }
 
@@ -104,4 +131,12 @@ impl<'a> Iterator for RenamedIds<'a> {
     }
 }
 
+impl DoubleEndedIterator for RenamedIds<'_> {
+    fn next_back(&mut self) -> Option<Self::Item> {
+        self.pairs.next_back()
+    }
+}
+
 impl ExactSizeIterator for RenamedIds<'_> {}
+
+impl FusedIterator for RenamedIds<'_> {}
