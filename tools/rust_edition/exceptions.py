@@ -48,8 +48,7 @@ DERIVED = {('TemplateValidationError', 'Clone'), ('PolicySetValidationError', 'C
 DROPPED_IMPLS |= WRITTEN_BY_HAND | DERIVED
 # Enums that may get further variants. Errors with the variants of the original do not, so that a `match` over them
 # compiles as it does there.
-GROWING = {'ActionTypesError', 'EntitiesError', 'ExprNode', 'ExprValidationError', 'ParseErrors', 'RunError',
-           'TalkError'}
+GROWING = {'EntitiesError', 'ExprNode', 'ExprValidationError', 'ParseErrors', 'RunError', 'TalkError'}
 # Traits that types derive in addition, so that errors derive `Clone`, `PartialEq` and `Eq`.
 MORE_DERIVES = {name: {'Clone', 'PartialEq', 'Eq'} for name in ('NonEmpty', 'MissingTcEdge', 'HasCycle')}
 

@@ -47,7 +47,6 @@ pub enum ActionConstraint {
 ///
 /// The original returns only the uids.
 #[derive(Clone, Debug, PartialEq, Eq)]
-#[non_exhaustive]
 pub enum ActionTypesError {
     /// These uids are not actions. They are in the order of the list.
     NotActions(NonEmpty<Arc<EntityUID>>),

@@ -54,7 +54,7 @@ pub use crate::cedar_entity_maps::TCComputation;
 pub struct Entities<S: BuildHasher = KeyedState> {
     pub(crate) entities: HashMap<SharedUid, SharedEntity, S>,
     pub(crate) partial: bool,
-    index: Index<S>,
+    pub(crate) index: Index<S>,
 }
 
 // Inserts an entity if its uid is new. Otherwise the existing entity must be deeply equal to it. If it is not, the new

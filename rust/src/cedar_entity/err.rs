@@ -105,8 +105,8 @@ fn unshared(fault: TcError<SharedUid>) -> TcError<EntityUID> {
 /// Converts an error of the closure, with plain uids in place of the shared ones. A uid that is still shared is copied.
 ///
 /// Any other error becomes `TransitiveClosureError`.
-impl From<TcError<SharedUid>> for EntitiesError {
-    fn from(error: TcError<SharedUid>) -> Self {
+impl EntitiesError {
+    pub(crate) fn of_shared(error: TcError<SharedUid>) -> Self {
         Self::from(unshared(error))
     }
 }

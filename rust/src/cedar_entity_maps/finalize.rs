@@ -22,7 +22,7 @@ use std::hash::BuildHasher;
 ///
 /// As in `enforce_tc_and_dag`.
 pub fn check<S: BuildHasher + Clone>(entities: &HashMap<SharedUid, SharedEntity, S>) -> Result<(), EntitiesError> {
-    enforce_tc_and_dag(entities)?;
+    enforce_tc_and_dag(entities).map_err(EntitiesError::of_shared)?;
     Ok(())
 }
 
@@ -42,10 +42,10 @@ fn close_affected<S: BuildHasher + Clone>(
     enforce_dag: bool,
 ) -> Result<(), EntitiesError> {
     if enforce_dag {
-        repair_dag(affected, entities)?;
+        repair_dag(affected, entities).map_err(EntitiesError::of_shared)?;
         return Ok(());
     }
-    repair_tc(affected, entities, false)?;
+    repair_tc(affected, entities, false).map_err(EntitiesError::of_shared)?;
     Ok(())
 }
 
@@ -71,10 +71,10 @@ fn repair_all<S: BuildHasher + Clone>(
     enforce_dag: bool,
 ) -> Result<(), EntitiesError> {
     if enforce_dag {
-        close_dag(entities)?;
+        close_dag(entities).map_err(EntitiesError::of_shared)?;
         return Ok(());
     }
-    compute_tc(entities, false)?;
+    compute_tc(entities, false).map_err(EntitiesError::of_shared)?;
     Ok(())
 }
 

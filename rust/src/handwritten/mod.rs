@@ -13,5 +13,6 @@ mod ordered_map_tests;
 pub(crate) mod parse_errors;
 mod policy_sets;
 pub(crate) mod renaming;
+mod try_edits;
 #[cfg(test)]
 mod uid_sets_tests;
