@@ -10,6 +10,7 @@ use crate::entities::{Entities, Iter};
 use crate::program::Session;
 use std::collections::HashSet;
 use std::hash::{BuildHasher, RandomState};
+use std::mem;
 use std::sync::{Arc, OnceLock};
 
 /// Returns a random key, which is drawn once per process from the source that the standard library uses for its hash
@@ -54,6 +55,20 @@ impl Default for Annotation {
 impl FromIterator<(AnyId, Annotation)> for Annotations {
     fn from_iter<I: IntoIterator<Item = (AnyId, Annotation)>>(pairs: I) -> Self {
         Annotations::try_from_iter(pairs)
+    }
+}
+
+/// Adds annotations. The last value of a key is kept.
+impl Extend<(AnyId, Annotation)> for Annotations {
+    fn extend<I: IntoIterator<Item = (AnyId, Annotation)>>(&mut self, pairs: I) {
+        *self = mem::take(self).into_iter().chain(pairs).collect();
+    }
+}
+
+impl<S: BuildHasher + Clone> Entities<S> {
+    /// Returns whether the store has an entity with this uid. Does not allocate.
+    pub fn contains(&self, uid: &EntityUID) -> bool {
+        self.stored(uid).is_some()
     }
 }
 

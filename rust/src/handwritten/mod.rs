@@ -13,6 +13,8 @@ mod ordered_map_tests;
 pub(crate) mod parse_errors;
 mod policy_sets;
 pub(crate) mod renaming;
+mod texts;
 mod try_edits;
 #[cfg(test)]
 mod uid_sets_tests;
+mod values;

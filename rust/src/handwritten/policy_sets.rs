@@ -1,7 +1,57 @@
-//! A policy set from its maps.
+//! A policy set as a collection of policies, and from its maps.
 use crate::ast::{Policy, PolicyID, PolicySet, Template};
+use crate::iters::{IntoPolicies, Policies};
 use std::collections::HashSet;
+use std::hash::BuildHasher;
 use std::sync::Arc;
+
+impl<S: BuildHasher + Copy> PolicySet<S> {
+    /// Iterates over the static policies and the links, in insertion order. It is [`PolicySet::policies`].
+    pub fn iter(&self) -> Policies<'_> {
+        self.policies()
+    }
+
+    /// Returns the number of static policies and links. Templates do not count.
+    ///
+    /// ```
+    /// use cedar_store::ast::{Effect, Expr, Policy, PolicyID, PolicySet};
+    ///
+    /// let allow = Policy::from_when_clause(Effect::Permit, Expr::val(true), PolicyID::from("allow"), None);
+    /// let set = PolicySet::singleton(allow);
+    /// assert_eq!((set.len(), set.contains(&PolicyID::from("allow"))), (1, true));
+    /// assert!(!set.contains(&PolicyID::from("deny")));
+    /// for policy in &set {
+    ///     assert_eq!(policy.effect(), Effect::Permit);
+    /// }
+    /// ```
+    pub fn len(&self) -> usize {
+        self.policies().len()
+    }
+
+    /// Returns whether a static policy or a link has this id. It does not find a template.
+    pub fn contains(&self, id: &PolicyID) -> bool {
+        self.get(id).is_some()
+    }
+}
+
+impl<'a, S: BuildHasher + Copy> IntoIterator for &'a PolicySet<S> {
+    type Item = &'a Policy;
+    type IntoIter = Policies<'a>;
+
+    fn into_iter(self) -> Policies<'a> {
+        self.policies()
+    }
+}
+
+impl<S: BuildHasher + Copy> IntoIterator for PolicySet<S> {
+    type Item = Policy;
+    type IntoIter = IntoPolicies;
+
+    /// Iterates over the static policies and the links, in insertion order. It is [`PolicySet::into_policies`].
+    fn into_iter(self) -> IntoPolicies {
+        self.into_policies()
+    }
+}
 
 impl PolicySet {
     /// Creates a set from the entries of its three maps, in the order of the maps:
