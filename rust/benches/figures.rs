@@ -1,8 +1,15 @@
 //! Measures the time of calls: `cargo bench`. Each figure is the shortest of several runs, on one thread unless the
-//! label says otherwise.
+//! label says otherwise. An indented figure is of another way to the same result.
+//!
+//! ```text
+//! cargo bench [-- [--size COUNT] [TEXT..]]
+//! ```
+//!
+//! Only figures whose label contains one of the texts are measured. `--size` is the number of entities of the store, by
+//! default 100,000.
 use cedar_store::ast::{
-    ActionConstraint, Annotations, Effect, Entity, EntityUID, PolicyID, PolicySet, PrincipalConstraint,
-    ResourceConstraint, SlotEnv, SlotId, Template,
+    ActionConstraint, Annotations, Effect, Entity, EntityReference, EntityUID, Policy, PolicyID, PolicySet,
+    PrincipalConstraint, PrincipalOrResourceConstraint, ResourceConstraint, SlotEnv, SlotId, Template,
 };
 use cedar_store::entities::{Dereference, Entities, TCComputation};
 use cedar_store::slice;
@@ -11,8 +18,56 @@ use std::sync::Arc;
 use std::thread;
 use std::time::{Duration, Instant};
 
-const SIZE: usize = 100_000;
 const FAN: usize = 8;
+
+/// The arguments of the program.
+struct Arguments {
+    size: usize,
+    texts: Vec<String>,
+}
+
+impl Arguments {
+    fn read() -> Arguments {
+        let (mut size, mut texts) = (100_000, Vec::new());
+        let mut rest = std::env::args().skip(1);
+        while let Some(argument) = rest.next() {
+            match argument.as_str() {
+                "--bench" => {}
+                "--size" => {
+                    let number = rest.next().and_then(|text| text.replace(['_', ','], "").parse().ok());
+                    size = number
+                        .filter(|size| *size >= 100)
+                        .expect("--size takes a number of at least 100");
+                }
+                _ => texts.push(argument),
+            }
+        }
+        Arguments { size, texts }
+    }
+
+    /// Returns whether the figure with this label is measured.
+    fn has(&self, label: &str) -> bool {
+        self.texts.is_empty() || self.texts.iter().any(|text| label.contains(text))
+    }
+
+    /// Prints the shortest time of several runs, in total and for each of `count` items. Each run gets a new input.
+    fn measure<T, R>(&self, label: &str, count: usize, mut make: impl FnMut() -> T, mut run: impl FnMut(T) -> R) {
+        if !self.has(label) {
+            return;
+        }
+        let once = || {
+            let input = make();
+            let start = Instant::now();
+            let output = black_box(run(input));
+            let time = start.elapsed();
+            drop(output);
+            time
+        };
+        let best = std::iter::repeat_with(once).take(7).min().unwrap_or(Duration::ZERO);
+        let each = best.as_nanos() / count as u128;
+        println!("{label:<58} {:>10.3} ms {each:>9} ns each", best.as_secs_f64() * 1e3);
+    }
+}
 
 fn node(number: usize) -> EntityUID {
     EntityUID::with_eid_and_type("Node", &format!("n{number}")).expect("a valid entity type")
@@ -36,38 +91,24 @@ fn build_tree(size: usize) -> Entities {
     Entities::from_entities(tree(size), TCComputation::ComputeNow).expect("no cycle")
 }
 
-/// Prints the shortest time of several runs, in total and for each of `count` items. Each run gets a new input.
-fn measure<T, R>(label: &str, count: usize, mut make: impl FnMut() -> T, mut run: impl FnMut(T) -> R) {
-    let once = || {
-        let input = make();
-        let start = Instant::now();
-        let output = black_box(run(input));
-        let time = start.elapsed();
-        drop(output);
-        time
-    };
-    let best = std::iter::repeat_with(once).take(7).min().unwrap_or(Duration::ZERO);
-    let each = best.as_nanos() / count as u128;
-    println!("{label:<58} {:>10.3} ms {each:>9} ns each", best.as_secs_f64() * 1e3);
-}
-
-fn stores() {
-    measure(
-        "building a tree of 100,000",
-        SIZE,
-        || tree(SIZE),
+fn stores(arguments: &Arguments) {
+    let size = arguments.size;
+    arguments.measure(
+        "building a tree",
+        size,
+        || tree(size),
         |list| Entities::from_entities(list, TCComputation::ComputeNow).expect("no cycle"),
     );
-    measure(
+    arguments.measure(
         "building a chain of 1,000",
         1_000,
         || (0..1_000).map(|it| entity(it, Some(it + 1))).collect(),
         |list: Vec<_>| Entities::from_entities(list, TCComputation::ComputeNow).expect("no cycle"),
     );
-    let store = build_tree(SIZE);
-    let (leaves, top) = ((SIZE - 10_000..SIZE).map(node).collect::<Vec<_>>(), node(0));
-    measure(
-        "10,000 queries for a descendant",
+    let store = build_tree(size);
+    let (leaves, top) = ((size - size / 10..size).map(node).collect::<Vec<_>>(), node(0));
+    arguments.measure(
+        "queries for a descendant",
         leaves.len(),
         || (),
         |()| {
@@ -77,7 +118,7 @@ fn stores() {
                 .count()
         },
     );
-    measure(
+    arguments.measure(
         "1,000 slices at one uid",
         1_000,
         || (),
@@ -89,9 +130,9 @@ fn stores() {
                 .sum::<usize>()
         },
     );
-    measure("copying the tree of 100,000", SIZE, || (), |()| store.clone());
+    arguments.measure("copying the tree", size, || (), |()| store.clone());
     let small = build_tree(10_000);
-    measure(
+    arguments.measure(
         "overwriting one entity of 10,000, 1,000 times",
         1_000,
         || small.clone(),
@@ -104,7 +145,7 @@ fn stores() {
     );
 }
 
-fn sets() {
+fn sets(arguments: &Arguments) {
     let template = Template::new(
         PolicyID::from_string("t"),
         None,
@@ -126,9 +167,9 @@ fn sets() {
         }
         set
     };
-    measure("10,000 links", 10_000, || (), |()| linked_set());
+    arguments.measure("10,000 links", 10_000, || (), |()| linked_set());
     let set = linked_set();
-    measure(
+    arguments.measure(
         "merging an equal set of 10,000 links",
         10_000,
         || set.clone(),
@@ -137,7 +178,7 @@ fn sets() {
             one
         },
     );
-    measure(
+    arguments.measure(
         "10,000 lookups of a policy",
         10_000,
         || (0..10_000).map(id).collect(),
@@ -146,10 +187,19 @@ fn sets() {
 }
 
 /// Prints the number of queries per second of one store by several threads.
-fn throughput() {
-    let (store, top) = (build_tree(SIZE), node(0));
-    let leaves: Vec<EntityUID> = (SIZE - 20_000..SIZE).map(node).collect();
-    for threads in [1, 2, 4, 8] {
+fn throughput(arguments: &Arguments) {
+    let label = |threads| format!("queries of one store by {threads} threads");
+    let measured: Vec<usize> = [1, 2, 4, 8]
+        .into_iter()
+        .filter(|threads| arguments.has(&label(*threads)))
+        .collect();
+    if measured.is_empty() {
+        return;
+    }
+    let size = arguments.size;
+    let (store, top) = (build_tree(size), node(0));
+    let leaves: Vec<EntityUID> = (size - size / 5..size).map(node).collect();
+    for threads in measured {
         let start = Instant::now();
         thread::scope(|scope| {
             for _ in 0..threads {
@@ -164,15 +214,134 @@ fn throughput() {
             }
         });
         let rate = (threads * 10 * leaves.len()) as f64 / start.elapsed().as_secs_f64();
-        println!(
-            "queries of one store by {threads} threads   {:>36.2} million per second",
-            rate / 1e6
-        );
+        println!("{:<58} {:>10.2} million per second", label(threads), rate / 1e6);
     }
 }
 
+/// Measures edits of one entity: in place, by value, and of a copy, which is the other way to keep a store after an
+/// error.
+fn edits(arguments: &Arguments) {
+    let (size, count) = (arguments.size, 1_000);
+    // the store has listed children, as a store has after a few edits
+    let store = || {
+        let first = |store: Entities, it| store.add_entities(one(size + it, it), TCComputation::ComputeNow);
+        (0..20).fold(build_tree(size), |store, it| first(store, it).expect("no cycle"))
+    };
+    fn one(number: usize, parent: usize) -> [Arc<Entity>; 1] {
+        [Arc::new(entity(number, Some(parent)))]
+    }
+    let list = |it: usize| one(2 * size + it, it % size);
+    let now = TCComputation::ComputeNow;
+    arguments.measure(
+        "try_add_entities of one entity, 1,000 times",
+        count,
+        store,
+        |mut store| {
+            (0..count).for_each(|it| store.try_add_entities(list(it), now).expect("no cycle"));
+            store
+        },
+    );
+    arguments.measure("  add_entities of one entity, 1,000 times", count, store, |store| {
+        (0..count).fold(store, |store, it| store.add_entities(list(it), now).expect("no cycle"))
+    });
+    arguments.measure("  clone and add_entities of one entity, 10 times", 10, store, |store| {
+        (0..10).fold(store, |store, it| {
+            store.clone().add_entities(list(it), now).expect("no cycle")
+        })
+    });
+    arguments.measure(
+        "try_upsert_entities of one entity, 1,000 times",
+        count,
+        store,
+        |mut store| {
+            (0..count).for_each(|it| {
+                store
+                    .try_upsert_entities(one(size - 1 - it, it), now)
+                    .expect("no cycle")
+            });
+            store
+        },
+    );
+    arguments.measure("  upsert_entities of one entity, 1,000 times", count, store, |store| {
+        let edit = |store: Entities, it| store.upsert_entities(one(size - 1 - it, it), now);
+        (0..count).fold(store, |store, it| edit(store, it).expect("no cycle"))
+    });
+    arguments.measure(
+        "try_remove_entities of one entity, 1,000 times",
+        count,
+        store,
+        |mut store| {
+            (0..count).for_each(|it| store.try_remove_entities([node(size - 1 - it)], now).expect("no cycle"));
+            store
+        },
+    );
+    arguments.measure("  remove_entities of one entity, 1,000 times", count, store, |store| {
+        let edit = |store: Entities, it| store.remove_entities([node(size - 1 - it)], now);
+        (0..count).fold(store, |store, it| edit(store, it).expect("no cycle"))
+    });
+}
+
+/// Returns whether a policy applies to a principal, by the allocated constraint.
+fn applies_by_constraint(store: &Entities, policy: &Policy, principal: &EntityUID) -> bool {
+    match policy.principal_constraint().as_inner() {
+        PrincipalOrResourceConstraint::In(EntityReference::EUID(other)) => {
+            principal == &**other
+                || matches!(store.entity(principal), Dereference::Data(it) if it.is_descendant_of(other))
+        }
+        other => panic!("the constraint is {other:?}"),
+    }
+}
+
+/// Measures the decision whether links apply to a request: with borrowed and with allocated constraints.
+fn scopes(arguments: &Arguments) {
+    let (store, principal, other) = (build_tree(1_000), node(999), node(1));
+    let (by_principal, any) = (PrincipalConstraint::is_in_slot(), ResourceConstraint::any());
+    let (annotations, action) = (Annotations::new(), ActionConstraint::any());
+    let id = PolicyID::from;
+    let template = Template::new(
+        id("t"),
+        None,
+        annotations,
+        Effect::Permit,
+        by_principal,
+        action,
+        any,
+        None,
+    );
+    let mut set = PolicySet::new();
+    set.add_template(template).expect("the id is not bound");
+    for number in 0..1_000 {
+        let bound = SlotEnv::from([(SlotId::principal(), node(number))]);
+        set.link(id("t"), format!("link{number}").into(), bound)
+            .expect("the id is not bound");
+    }
+    arguments.measure(
+        "applies_to_scope of 1,000 links",
+        1_000,
+        || (),
+        |()| {
+            set.iter()
+                .filter(|policy| policy.applies_to_scope(&principal, &other, &other, &store))
+                .count()
+        },
+    );
+    arguments.measure(
+        "  principal_constraint of 1,000 links",
+        1_000,
+        || (),
+        |()| {
+            set.iter()
+                .filter(|policy| applies_by_constraint(&store, policy, &principal))
+                .count()
+        },
+    );
+}
+
 fn main() {
-    stores();
-    sets();
-    throughput();
+    let arguments = Arguments::read();
+    stores(&arguments);
+    edits(&arguments);
+    sets(&arguments);
+    scopes(&arguments);
+    throughput(&arguments);
 }

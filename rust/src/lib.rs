@@ -77,6 +77,7 @@ pub use cedar_dry_run::{have_no_indirect, would_add, would_upsert};
 pub use cedar_keyed_hash::{KeyedHasher, KeyedState};
 pub use cedar_slice::slice;
 pub use handwritten::renaming::{RenamedIds, Renaming};
+pub use handwritten::scopes::BorrowedConstraint;
 
 /// Ids, entities, values, expressions, constraints, policies, templates and policy sets.
 pub mod ast {

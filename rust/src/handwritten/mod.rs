@@ -13,6 +13,7 @@ mod ordered_map_tests;
 pub(crate) mod parse_errors;
 mod policy_sets;
 pub(crate) mod renaming;
+pub(crate) mod scopes;
 mod texts;
 mod try_edits;
 #[cfg(test)]
