@@ -18,7 +18,8 @@ The proved text is the layer in `crates/`. The tool applies these rules to it, i
 - Errors get the messages that `thiserror` would write, and `as_ref` becomes `AsRef` (`items.py`).
 - Parameters of public functions become as general as in std: `impl IntoIterator` or `impl AsRef<str>` (`general_parameters.py`).
 - Code whose form only a proof needs gets the usual form in Rust (`forms.py`, `statements.py`).
-- Iterators get their sizes and the further traits of std's iterators (`iterators.py`).
+- Iterators get their sizes and the further traits of std's iterators (`iterators.py`). Builders of hashers are cloned
+  (`hashers.py`).
 - Functions that hash and compare uids are marked `#[inline]` (`items.py`). Calls of functions that only copy, compare
   or hash their arguments are replaced by the bodies (`calls.py`).
 - Names become the names of Rust's std, and each file gets the `use` items that it needs (`texts.py`).
@@ -42,7 +43,7 @@ from rust_edition.functions import Table, functions, imports_of, kind_of
 from rust_edition.ghosts import without_ghosts
 from rust_edition.items import File, Writer
 from rust_edition.trees import parse, text
-from rust_edition import calls, comments, exports, iterators, replacements, tests, texts
+from rust_edition import calls, comments, exports, hashers, iterators, replacements, tests, texts
 
 TOP = os.path.dirname(os.path.dirname(os.path.abspath(__file__)))
 SRC = os.path.join(TOP, 'rust', 'src')
@@ -158,6 +159,7 @@ def file_text(file, writer, imported):
     nodes, paths = texts.split_uses(parse(source))
     body = texts.public_uses(text(nodes), file.crate, crates)
     body = iterators.completed(body, exceptions.ITERATORS.get((file.crate, file.module), {}))
+    body = hashers.cloned(body) if file.crate in exceptions.CRATES else body
     more = [('std', 'fmt'), ('std', 'error', 'Error'), ('std', 'iter', 'FusedIterator'), ('crate', 'cedar_keyed_hash', 'KeyedState')]
     if file.crate == 'cedar_keyed_hash':
         more.pop()

@@ -146,6 +146,28 @@ fn sets_and_stores_are_collections() {
     assert_eq!(texts, [r#"a="new""#, r#"b="b""#, r#"c="c""#]);
 }
 
+#[test]
+fn a_policy_set_takes_the_hasher_of_the_standard_library() {
+    let mut set = PolicySet::with_hasher(RandomState::new());
+    for name in ["b", "a"] {
+        set.add(policy(name)).expect("the id is free");
+    }
+    let mut other = PolicySet::with_hasher(RandomState::new());
+    other
+        .add(Policy::from_when_clause(
+            Effect::Forbid,
+            Expr::val(true),
+            "a".into(),
+            None,
+        ))
+        .expect("an empty set");
+    let renaming = set.merge_policyset(&other, true).expect("the id is renamed");
+    assert_eq!(renaming.get(&"a".into()), Some(&"policy0".into()));
+    let copy = set.clone();
+    set.remove_static(&"b".into()).expect("a static policy");
+    assert_eq!((set.len(), copy.len()), (2, 3));
+}
+
 /// Checks that a copy of an error is equal to it and has its text, and that another error differs.
 fn assert_error<E: std::error::Error + Clone + Eq + Send + Sync + 'static>(error: E, other: E) {
     assert!(error == error.clone() && error != other);

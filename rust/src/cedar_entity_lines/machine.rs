@@ -78,7 +78,7 @@ fn push_ancestors(out: &mut Vec<u8>, uids: Union<'_>) {
     out.push(b'\n');
 }
 
-impl<S: BuildHasher + Copy> LineStore<S> {
+impl<S: BuildHasher + Clone> LineStore<S> {
     /// Creates an empty store and an empty queue, with this builder of hashers. Does not allocate.
     pub fn with_hasher(hasher: S) -> Self {
         Self {
@@ -103,7 +103,7 @@ impl<S: BuildHasher + Copy> LineStore<S> {
                 push_count(out, self.store.len());
             }
             Err(error) => {
-                self.store = Entities::with_hasher(*self.store.hasher());
+                self.store = Entities::with_hasher(self.store.hasher().clone());
                 push_refusal(out, &error);
             }
         }
@@ -112,7 +112,7 @@ impl<S: BuildHasher + Copy> LineStore<S> {
     // Runs `add`: adds the queued entities to the store.
     fn add(&mut self, out: &mut Vec<u8>) {
         let list = mem::take(&mut self.waiting);
-        let hasher = *self.store.hasher();
+        let hasher = self.store.hasher().clone();
         let store = mem::replace(&mut self.store, Entities::with_hasher(hasher));
         let given = store.add_entities(list, TCComputation::ComputeNow);
         self.store_and_report(given, out);
@@ -120,14 +120,14 @@ impl<S: BuildHasher + Copy> LineStore<S> {
 
     // Runs `build`: replaces the store by a store of the queued entities.
     fn build(&mut self, out: &mut Vec<u8>) {
-        self.store = Entities::with_hasher(*self.store.hasher());
+        self.store = Entities::with_hasher(self.store.hasher().clone());
         self.add(out);
     }
 
     // Runs `upsert`: adds the queued entities to the store, and replaces entities with the same uids.
     fn upsert(&mut self, out: &mut Vec<u8>) {
         let list = mem::take(&mut self.waiting);
-        let hasher = *self.store.hasher();
+        let hasher = self.store.hasher().clone();
         let store = mem::replace(&mut self.store, Entities::with_hasher(hasher));
         let given = store.upsert_entities(list, TCComputation::ComputeNow);
         self.store_and_report(given, out);
@@ -135,7 +135,7 @@ impl<S: BuildHasher + Copy> LineStore<S> {
 
     // Runs `remove`: removes the entities with these uids.
     fn remove(&mut self, uids: Vec<EntityUID>, out: &mut Vec<u8>) {
-        let hasher = *self.store.hasher();
+        let hasher = self.store.hasher().clone();
         let store = mem::replace(&mut self.store, Entities::with_hasher(hasher));
         let given = store.remove_entities(uids, TCComputation::ComputeNow);
         self.store_and_report(given, out);

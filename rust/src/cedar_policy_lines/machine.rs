@@ -34,11 +34,11 @@ pub struct PolicySets<S: BuildHasher = KeyedState> {
     annotations: Option<Arc<Annotations>>,
 }
 
-impl<S: BuildHasher + Copy> PolicySets<S> {
+impl<S: BuildHasher + Clone> PolicySets<S> {
     /// Creates two empty policy sets with this builder of hashers. Does not allocate.
     pub fn with_hasher(hasher: S) -> Self {
         Self {
-            current: PolicySet::with_hasher(hasher),
+            current: PolicySet::with_hasher(hasher.clone()),
             aside: PolicySet::with_hasher(hasher),
             room: LinkRoom::new(),
             annotations: None,

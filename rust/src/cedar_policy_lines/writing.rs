@@ -103,7 +103,7 @@ pub(crate) fn push_by_unlinking(out: &mut Vec<u8>, answer: Result<Policy, Policy
 }
 
 // Writes the renamed ids, each with its new id.
-fn push_renamed<S: BuildHasher + Copy>(out: &mut Vec<u8>, renaming: &Renaming<S>) {
+fn push_renamed<S: BuildHasher + Clone>(out: &mut Vec<u8>, renaming: &Renaming<S>) {
     for (old, new) in renaming {
         push_id(out, "\t", old);
         push_id(out, "\t", new);
@@ -111,14 +111,14 @@ fn push_renamed<S: BuildHasher + Copy>(out: &mut Vec<u8>, renaming: &Renaming<S>
 }
 
 // Writes the line of a successful merge.
-fn push_merged<S: BuildHasher + Copy>(out: &mut Vec<u8>, renaming: &Renaming<S>) {
+fn push_merged<S: BuildHasher + Clone>(out: &mut Vec<u8>, renaming: &Renaming<S>) {
     out.extend_from_slice(b"ok");
     push_renamed(out, renaming);
     out.push(b'\n');
 }
 
 // Writes the result of merging.
-pub(crate) fn push_by_merging<S: BuildHasher + Copy>(out: &mut Vec<u8>, answer: Result<Renaming<S>, PolicySetError>) {
+pub(crate) fn push_by_merging<S: BuildHasher + Clone>(out: &mut Vec<u8>, answer: Result<Renaming<S>, PolicySetError>) {
     match answer {
         Ok(renaming) => push_merged(out, &renaming),
         Err(PolicySetError::Occupied { id }) => push_refused(out, "occupied ", &id),
@@ -126,21 +126,21 @@ pub(crate) fn push_by_merging<S: BuildHasher + Copy>(out: &mut Vec<u8>, answer: 
 }
 
 // Writes the ids of all bodies.
-fn push_bodies<S: BuildHasher + Copy>(out: &mut Vec<u8>, set: &PolicySet<S>) {
+fn push_bodies<S: BuildHasher + Clone>(out: &mut Vec<u8>, set: &PolicySet<S>) {
     for template in set.all_templates() {
         push_id(out, "\t", template.id());
     }
 }
 
 // Writes the ids of all policies.
-fn push_policies<S: BuildHasher + Copy>(out: &mut Vec<u8>, set: &PolicySet<S>) {
+fn push_policies<S: BuildHasher + Clone>(out: &mut Vec<u8>, set: &PolicySet<S>) {
     for policy in set.policies() {
         push_id(out, "\t", policy.id());
     }
 }
 
 // Writes the two lines with the ids of a set.
-pub(crate) fn push_ids<S: BuildHasher + Copy>(out: &mut Vec<u8>, set: &PolicySet<S>) {
+pub(crate) fn push_ids<S: BuildHasher + Clone>(out: &mut Vec<u8>, set: &PolicySet<S>) {
     out.extend_from_slice(b"bodies");
     push_bodies(out, set);
     out.extend_from_slice(b"\npolicies");

@@ -6,8 +6,7 @@ use crate::cedar_ids::policy_id::PolicyID;
 use crate::cedar_policy::{Policy, Template, share_template};
 use crate::cedar_policy_maps::maps::{EnteringLists, bodies_by_id, ids_by_template, policies_by_id};
 use crate::cedar_policy_maps::policy_maps::PolicyMaps;
-use crate::linked_map::{LinkedMap, LinkedSet};
-use crate::ordered_map::OrderedMap;
+use crate::ordered_map::{OrderedMap, OrderedSet};
 use std::hash::BuildHasher;
 use std::sync::Arc;
 
@@ -34,11 +33,11 @@ impl<T> SharedAndNew<T> {
 struct Entering<S: BuildHasher> {
     templates: OrderedMap<PolicyID, Arc<Template>, S>,
     links: OrderedMap<PolicyID, Policy, S>,
-    listed: OrderedMap<PolicyID, LinkedSet<PolicyID, S>, S>,
-    grown: OrderedMap<PolicyID, LinkedSet<PolicyID, S>, S>,
+    listed: OrderedMap<PolicyID, OrderedSet<PolicyID, S>, S>,
+    grown: OrderedMap<PolicyID, OrderedSet<PolicyID, S>, S>,
 }
 
-impl<S: BuildHasher + Copy> PolicyMaps<S> {
+impl<S: BuildHasher + Clone> PolicyMaps<S> {
     /// Appends new bodies and policies, each in their order. Existing bodies and policies are replaced by the equal
     /// ones in `stand`, so that the set shares their data and locations.
     ///
@@ -54,11 +53,11 @@ impl<S: BuildHasher + Copy> PolicyMaps<S> {
             stand: alike,
             join: policies,
         } = policies;
-        let entering = new_entries(*self.links.hasher(), join, policies);
+        let entering = new_entries(self.links.hasher().clone(), join, policies);
         self.push_new(entering, stand, alike);
     }
 
-    /// Replaces the templates of the policies at some places by shared ones, each if the two are equal. The content of
+    /// Replaces the templates of the policies at some indices by shared ones, each if the two are equal. The content of
     /// the maps does not change. Does not allocate.
     pub fn share_templates(&mut self, templates: Vec<(usize, Arc<Template>)>) {
         share_all(&mut self.links, templates);
@@ -88,8 +87,8 @@ impl<S: BuildHasher + Copy> PolicyMaps<S> {
 }
 
 // Returns the entries to append, given the new bodies and policies.
-fn new_entries<S: BuildHasher + Copy>(hasher: S, bodies: Vec<Arc<Template>>, policies: Vec<Policy>) -> Entering<S> {
-    let links = policies_by_id(hasher, policies);
+fn new_entries<S: BuildHasher + Clone>(hasher: S, bodies: Vec<Arc<Template>>, policies: Vec<Policy>) -> Entering<S> {
+    let links = policies_by_id(hasher.clone(), policies);
     let EnteringLists { listed, grown } = ids_by_template(&bodies, &links);
     let templates = bodies_by_id(hasher, bodies);
     Entering {
@@ -101,10 +100,10 @@ fn new_entries<S: BuildHasher + Copy>(hasher: S, bodies: Vec<Arc<Template>>, pol
 }
 
 // Reserves space in the three maps, and in the lists that grow.
-fn make_room<S: BuildHasher + Copy>(
-    templates: &mut LinkedMap<PolicyID, Arc<Template>, S>,
-    links: &mut LinkedMap<PolicyID, Policy, S>,
-    map: &mut LinkedMap<PolicyID, LinkedSet<PolicyID, S>, S>,
+fn make_room<S: BuildHasher + Clone>(
+    templates: &mut OrderedMap<PolicyID, Arc<Template>, S>,
+    links: &mut OrderedMap<PolicyID, Policy, S>,
+    map: &mut OrderedMap<PolicyID, OrderedSet<PolicyID, S>, S>,
     entering: &Entering<S>,
 ) {
     templates.reserve(entering.templates.len());
@@ -114,16 +113,17 @@ fn make_room<S: BuildHasher + Copy>(
 }
 
 // Appends entries with new keys. The space must be reserved.
-pub(crate) fn push_all<V, S: BuildHasher + Copy>(
-    map: &mut LinkedMap<PolicyID, V, S>,
+pub(crate) fn push_all<V, S: BuildHasher + Clone>(
+    map: &mut OrderedMap<PolicyID, V, S>,
     entries: OrderedMap<PolicyID, V, S>,
 ) {
-    map.extend_new(entries);
+    let mut entries = entries;
+    map.append(&mut entries);
 }
 
 // Reserves space in the list under a key, if there is one.
-fn room_in_list<S: BuildHasher + Copy>(
-    map: &mut LinkedMap<PolicyID, LinkedSet<PolicyID, S>, S>,
+fn room_in_list<S: BuildHasher + Clone>(
+    map: &mut OrderedMap<PolicyID, OrderedSet<PolicyID, S>, S>,
     body: &PolicyID,
     count: usize,
 ) {
@@ -133,14 +133,14 @@ fn room_in_list<S: BuildHasher + Copy>(
 }
 
 // Reserves space in a set.
-fn room_in_set<S: BuildHasher + Copy>(ids: &mut LinkedSet<PolicyID, S>, count: usize) {
+fn room_in_set<S: BuildHasher + Clone>(ids: &mut OrderedSet<PolicyID, S>, count: usize) {
     ids.reserve(count);
 }
 
 // Reserves space in lists for the ids to append to each.
-pub(crate) fn room_in_lists<S: BuildHasher + Copy>(
-    map: &mut LinkedMap<PolicyID, LinkedSet<PolicyID, S>, S>,
-    grown: &OrderedMap<PolicyID, LinkedSet<PolicyID, S>, S>,
+pub(crate) fn room_in_lists<S: BuildHasher + Clone>(
+    map: &mut OrderedMap<PolicyID, OrderedSet<PolicyID, S>, S>,
+    grown: &OrderedMap<PolicyID, OrderedSet<PolicyID, S>, S>,
 ) {
     for (body, ids) in grown {
         room_in_list(map, body, ids.len());
@@ -148,16 +148,16 @@ pub(crate) fn room_in_lists<S: BuildHasher + Copy>(
 }
 
 // Appends ids to a set. The space must be reserved.
-fn append_ids<S: BuildHasher + Copy>(ids: &mut LinkedSet<PolicyID, S>, more: LinkedSet<PolicyID, S>) {
+fn append_ids<S: BuildHasher + Clone>(ids: &mut OrderedSet<PolicyID, S>, more: OrderedSet<PolicyID, S>) {
     let mut more = more;
     ids.append(&mut more);
 }
 
 // Appends ids to the list under a key, if there is one. The space must be reserved.
-fn grow_list<S: BuildHasher + Copy>(
-    map: &mut LinkedMap<PolicyID, LinkedSet<PolicyID, S>, S>,
+fn grow_list<S: BuildHasher + Clone>(
+    map: &mut OrderedMap<PolicyID, OrderedSet<PolicyID, S>, S>,
     body: &PolicyID,
-    more: LinkedSet<PolicyID, S>,
+    more: OrderedSet<PolicyID, S>,
 ) {
     if let Some(ids) = map.get_mut(body) {
         append_ids(ids, more);
@@ -165,9 +165,9 @@ fn grow_list<S: BuildHasher + Copy>(
 }
 
 // Appends ids to lists. The space must be reserved.
-pub(crate) fn grow_lists<S: BuildHasher + Copy>(
-    map: &mut LinkedMap<PolicyID, LinkedSet<PolicyID, S>, S>,
-    grown: OrderedMap<PolicyID, LinkedSet<PolicyID, S>, S>,
+pub(crate) fn grow_lists<S: BuildHasher + Clone>(
+    map: &mut OrderedMap<PolicyID, OrderedSet<PolicyID, S>, S>,
+    grown: OrderedMap<PolicyID, OrderedSet<PolicyID, S>, S>,
 ) {
     for (body, more) in grown {
         grow_list(map, &body, more);
@@ -175,8 +175,8 @@ pub(crate) fn grow_lists<S: BuildHasher + Copy>(
 }
 
 // Replaces existing bodies by equal ones with the same ids.
-fn replace_equal_bodies<S: BuildHasher + Copy>(
-    templates: &mut LinkedMap<PolicyID, Arc<Template>, S>,
+fn replace_equal_bodies<S: BuildHasher + Clone>(
+    templates: &mut OrderedMap<PolicyID, Arc<Template>, S>,
     bodies: Vec<Arc<Template>>,
 ) {
     for template in bodies {
@@ -185,8 +185,8 @@ fn replace_equal_bodies<S: BuildHasher + Copy>(
 }
 
 // Replaces the body with the same id, if it is equal.
-fn replace_equal_body<S: BuildHasher + Copy>(
-    templates: &mut LinkedMap<PolicyID, Arc<Template>, S>,
+fn replace_equal_body<S: BuildHasher + Clone>(
+    templates: &mut OrderedMap<PolicyID, Arc<Template>, S>,
     template: Arc<Template>,
 ) {
     if let Some(stands) = templates.get_mut(template.id()) {
@@ -209,9 +209,9 @@ fn is_body(template: &Template, other: &Template) -> bool {
     template == other
 }
 
-// Replaces the templates of the policies at some places, each if the two are equal.
-fn share_all<S: BuildHasher + Copy>(
-    links: &mut LinkedMap<PolicyID, Policy, S>,
+// Replaces the templates of the policies at some indices, each if the two are equal.
+fn share_all<S: BuildHasher + Clone>(
+    links: &mut OrderedMap<PolicyID, Policy, S>,
     templates: Vec<(usize, Arc<Template>)>,
 ) {
     for (place, template) in templates {
@@ -219,22 +219,26 @@ fn share_all<S: BuildHasher + Copy>(
     }
 }
 
-// Replaces the template of the policy at a place, if the two are equal.
-fn share_at<S: BuildHasher + Copy>(links: &mut LinkedMap<PolicyID, Policy, S>, place: usize, template: Arc<Template>) {
-    if let Some(policy) = links.get_at_mut(place) {
+// Replaces the template of the policy at an index, if the two are equal.
+fn share_at<S: BuildHasher + Clone>(
+    links: &mut OrderedMap<PolicyID, Policy, S>,
+    place: usize,
+    template: Arc<Template>,
+) {
+    if let Some(policy) = links.get_index_mut(place) {
         share_template(policy, template);
     }
 }
 
 // Replaces existing policies by equal ones with the same ids.
-fn replace_equal_policies<S: BuildHasher + Copy>(links: &mut LinkedMap<PolicyID, Policy, S>, policies: Vec<Policy>) {
+fn replace_equal_policies<S: BuildHasher + Clone>(links: &mut OrderedMap<PolicyID, Policy, S>, policies: Vec<Policy>) {
     for policy in policies {
         replace_equal_policy(links, policy);
     }
 }
 
 // Replaces the policy with the same id, if it is equal.
-fn replace_equal_policy<S: BuildHasher + Copy>(links: &mut LinkedMap<PolicyID, Policy, S>, policy: Policy) {
+fn replace_equal_policy<S: BuildHasher + Clone>(links: &mut OrderedMap<PolicyID, Policy, S>, policy: Policy) {
     if let Some(stands) = links.get_mut(policy.id()) {
         replace_policy(stands, policy);
     }

@@ -80,12 +80,12 @@ fn numbered(trial: &Trial, id: PolicyID) -> PolicyID {
 }
 
 // Returns whether one of the two sets uses the id.
-fn is_bound_in_either<S: BuildHasher + Copy>(here: &PolicyMaps<S>, other: &PolicyMaps<S>, id: &PolicyID) -> bool {
+fn is_bound_in_either<S: BuildHasher + Clone>(here: &PolicyMaps<S>, other: &PolicyMaps<S>, id: &PolicyID) -> bool {
     here.is_bound(id) || other.is_bound(id)
 }
 
 // Returns the first free id from this number on, and advances `trial` to its number.
-fn next_free<S: BuildHasher + Copy>(here: &PolicyMaps<S>, other: &PolicyMaps<S>, trial: &mut Trial) -> PolicyID {
+fn next_free<S: BuildHasher + Clone>(here: &PolicyMaps<S>, other: &PolicyMaps<S>, trial: &mut Trial) -> PolicyID {
     let mut id = PolicyID::from_smolstr(String::with_capacity(ROOM));
     loop {
         id = numbered(trial, id);
@@ -97,12 +97,12 @@ fn next_free<S: BuildHasher + Copy>(here: &PolicyMaps<S>, other: &PolicyMaps<S>,
 }
 
 // Returns the renaming of `ids` to the first free ids, in order.
-pub(crate) fn fresh_ids<S: BuildHasher + Copy>(
+pub(crate) fn fresh_ids<S: BuildHasher + Clone>(
     ids: OrderedSet<PolicyID, S>,
     here: &PolicyMaps<S>,
     other: &PolicyMaps<S>,
 ) -> OrderedMap<PolicyID, PolicyID, S> {
-    let mut renaming = OrderedMap::with_capacity_and_hasher(ids.len(), *ids.hasher());
+    let mut renaming = OrderedMap::with_capacity_and_hasher(ids.len(), ids.hasher().clone());
     let mut trial = first();
     for id in ids {
         let fresh = next_free(here, other, &mut trial);

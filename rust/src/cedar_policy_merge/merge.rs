@@ -5,8 +5,10 @@
 use crate::cedar_binding::same_bindings;
 use crate::cedar_ids::policy_id::PolicyID;
 use crate::cedar_policy::{Policy, Template};
-use crate::cedar_policy_maps::{PolicyMaps, SharedAndNew, is_link, iters};
-use crate::cedar_policy_merge::cursor_lookup::{Places, body_at, has_body, has_policy, new_body_at, policy_at};
+use crate::cedar_policy_maps::{PolicyMaps, SharedAndNew, is_link};
+use crate::cedar_policy_merge::cursor_lookup::{
+    Places, body_at, has_body, has_policy, new_body_at, place_of_policy, policy_at,
+};
 use crate::cedar_policy_merge::fresh::fresh_ids;
 use crate::cedar_policy_merge::places::are_placed_as;
 use crate::cedar_policy_set_errors::err::PolicySetError;
@@ -35,7 +37,7 @@ use std::sync::Arc;
 /// O(n), where n is the size of the other set. Allocates the copies of the new bindings, and of policies of this set
 /// that get new locations. Allocates space in the maps, in the lists of links and for the renamed bindings, and the
 /// result.
-pub fn merge_maps<S: BuildHasher + Copy>(
+pub fn merge_maps<S: BuildHasher + Clone>(
     here: &mut PolicyMaps<S>,
     other: &PolicyMaps<S>,
     rename_duplicates: bool,
@@ -50,7 +52,7 @@ pub fn merge_maps<S: BuildHasher + Copy>(
 }
 
 // Inserts the bindings of the other set under their new ids.
-fn store_merged<S: BuildHasher + Copy>(
+fn store_merged<S: BuildHasher + Clone>(
     here: &mut PolicyMaps<S>,
     other: &PolicyMaps<S>,
     renaming: &OrderedMap<PolicyID, PolicyID, S>,
@@ -63,7 +65,7 @@ fn store_merged<S: BuildHasher + Copy>(
 }
 
 // Returns the first conflicting id, if renaming is not allowed.
-fn refused<S: BuildHasher + Copy>(ids: &OrderedSet<PolicyID, S>, rename: bool) -> Option<&PolicyID> {
+fn refused<S: BuildHasher + Clone>(ids: &OrderedSet<PolicyID, S>, rename: bool) -> Option<&PolicyID> {
     if rename {
         return None;
     }
@@ -71,15 +73,15 @@ fn refused<S: BuildHasher + Copy>(ids: &OrderedSet<PolicyID, S>, rename: bool) -
 }
 
 // Returns the ids in conflict.
-fn conflicting_ids<S: BuildHasher + Copy>(here: &PolicyMaps<S>, other: &PolicyMaps<S>) -> OrderedSet<PolicyID, S> {
-    let mut ids = OrderedSet::with_hasher(*here.hasher());
+fn conflicting_ids<S: BuildHasher + Clone>(here: &PolicyMaps<S>, other: &PolicyMaps<S>) -> OrderedSet<PolicyID, S> {
+    let mut ids = OrderedSet::with_hasher(here.hasher().clone());
     gather_all(&mut ids, here, other);
     ids
 }
 
 // Collects the ids in conflict, in four groups. The bodies and the policies of the other set are scanned once each. Ids
 // of the last two groups are kept in a list until their group comes.
-fn gather_all<S: BuildHasher + Copy>(ids: &mut OrderedSet<PolicyID, S>, here: &PolicyMaps<S>, other: &PolicyMaps<S>) {
+fn gather_all<S: BuildHasher + Clone>(ids: &mut OrderedSet<PolicyID, S>, here: &PolicyMaps<S>, other: &PolicyMaps<S>) {
     let mut links = Vec::new();
     let mut templates = Vec::new();
     gather_bodies(ids, &mut links, here, other);
@@ -89,7 +91,7 @@ fn gather_all<S: BuildHasher + Copy>(ids: &mut OrderedSet<PolicyID, S>, here: &P
 }
 
 // Inserts the ids of a list.
-fn gather_listed<S: BuildHasher + Copy>(ids: &mut OrderedSet<PolicyID, S>, listed: Vec<PolicyID>) {
+fn gather_listed<S: BuildHasher + Clone>(ids: &mut OrderedSet<PolicyID, S>, listed: Vec<PolicyID>) {
     for id in listed {
         ids.insert(id);
     }
@@ -97,7 +99,7 @@ fn gather_listed<S: BuildHasher + Copy>(ids: &mut OrderedSet<PolicyID, S>, liste
 
 // Collects the ids of the other set's bodies that conflict with bodies of this set. Appends to `links` the ids that
 // conflict with links of this set.
-fn gather_bodies<S: BuildHasher + Copy>(
+fn gather_bodies<S: BuildHasher + Clone>(
     ids: &mut OrderedSet<PolicyID, S>,
     links: &mut Vec<PolicyID>,
     here: &PolicyMaps<S>,
@@ -114,7 +116,7 @@ fn gather_bodies<S: BuildHasher + Copy>(
 }
 
 // Collects the id of one body as `gather_bodies` does for all of them.
-fn gather_body<S: BuildHasher + Copy>(
+fn gather_body<S: BuildHasher + Clone>(
     ids: &mut OrderedSet<PolicyID, S>,
     links: &mut Vec<PolicyID>,
     here: &PolicyMaps<S>,
@@ -134,20 +136,20 @@ fn gather_body<S: BuildHasher + Copy>(
 
 // Collects the ids of the other set's policies that conflict with policies of this set. Appends to `templates` the ids
 // that conflict with bodies of this set. The ids of conflicting bodies are already in `ids`.
-fn gather_policies<S: BuildHasher + Copy>(
+fn gather_policies<S: BuildHasher + Clone>(
     ids: &mut OrderedSet<PolicyID, S>,
     templates: &mut Vec<PolicyID>,
     here: &PolicyMaps<S>,
     other: &PolicyMaps<S>,
 ) {
     let mut next = 0;
-    for policy in other.policies() {
+    for policy in other.all_policies() {
         gather_policy(ids, templates, here, policy, &mut next);
     }
 }
 
 // Collects the id of one policy as `gather_policies` does for all of them.
-fn gather_policy<S: BuildHasher + Copy>(
+fn gather_policy<S: BuildHasher + Clone>(
     ids: &mut OrderedSet<PolicyID, S>,
     templates: &mut Vec<PolicyID>,
     here: &PolicyMaps<S>,
@@ -165,7 +167,7 @@ fn gather_policy<S: BuildHasher + Copy>(
 }
 
 // Inserts an id, if it is in conflict.
-fn gather_id<S: BuildHasher + Copy>(ids: &mut OrderedSet<PolicyID, S>, id: &PolicyID, clashes: bool) {
+fn gather_id<S: BuildHasher + Clone>(ids: &mut OrderedSet<PolicyID, S>, id: &PolicyID, clashes: bool) {
     if clashes {
         ids.insert(id.clone());
     }
@@ -180,7 +182,7 @@ fn list_id(ids: &mut Vec<PolicyID>, id: &PolicyID, clashes: bool) {
 
 // Returns whether two bodies with one id are bound differently. If both sets have a policy with the id and the bodies
 // are equal, both policies are static and equal.
-fn is_different_body<S: BuildHasher + Copy>(
+fn is_different_body<S: BuildHasher + Clone>(
     here: &PolicyMaps<S>,
     other: &PolicyMaps<S>,
     stands: &Template,
@@ -191,7 +193,7 @@ fn is_different_body<S: BuildHasher + Copy>(
 }
 
 // Returns whether both sets or neither set have a policy with the id.
-fn have_policies_alike<S: BuildHasher + Copy>(
+fn have_policies_alike<S: BuildHasher + Clone>(
     here: &PolicyMaps<S>,
     other: &PolicyMaps<S>,
     id: &PolicyID,
@@ -206,12 +208,16 @@ fn have_policies_alike<S: BuildHasher + Copy>(
 
 // Returns whether two policies with one id are bound differently and one of them is a link. Static policies are
 // compared by their bodies.
-fn is_different_policy<S: BuildHasher + Copy>(ids: &OrderedSet<PolicyID, S>, stands: &Policy, policy: &Policy) -> bool {
+fn is_different_policy<S: BuildHasher + Clone>(
+    ids: &OrderedSet<PolicyID, S>,
+    stands: &Policy,
+    policy: &Policy,
+) -> bool {
     has_link(stands, policy) && !is_same_policy(ids, stands, policy)
 }
 
 // Returns whether two policies with one id are equal.
-fn is_same_policy<S: BuildHasher + Copy>(ids: &OrderedSet<PolicyID, S>, stands: &Policy, policy: &Policy) -> bool {
+fn is_same_policy<S: BuildHasher + Clone>(ids: &OrderedSet<PolicyID, S>, stands: &Policy, policy: &Policy) -> bool {
     is_same_template(ids, stands.template(), policy.template())
         && have_links_alike(stands, policy)
         && same_bindings(stands.env(), policy.env())
@@ -219,7 +225,7 @@ fn is_same_policy<S: BuildHasher + Copy>(ids: &OrderedSet<PolicyID, S>, stands: 
 
 // Returns whether two templates are equal. Templates with the same id are equal, unless the id is in `ids`. Only then
 // they are compared.
-fn is_same_template<S: BuildHasher + Copy>(
+fn is_same_template<S: BuildHasher + Clone>(
     ids: &OrderedSet<PolicyID, S>,
     stands: &Template,
     template: &Template,
@@ -234,7 +240,7 @@ fn is_same_template<S: BuildHasher + Copy>(
 }
 
 // Returns whether an id is in the set. Does not hash the id if the set is empty.
-fn is_listed_id<S: BuildHasher + Copy>(ids: &OrderedSet<PolicyID, S>, id: &PolicyID) -> bool {
+fn is_listed_id<S: BuildHasher + Clone>(ids: &OrderedSet<PolicyID, S>, id: &PolicyID) -> bool {
     if ids.is_empty() {
         return false;
     }
@@ -256,7 +262,7 @@ fn has_link(stands: &Policy, policy: &Policy) -> bool {
 }
 
 // Returns the new id of an id, if it is renamed. Does not hash the id if there are no renamed ids.
-fn new_of<'a, S: BuildHasher + Copy>(
+fn new_of<'a, S: BuildHasher + Clone>(
     renaming: &'a OrderedMap<PolicyID, PolicyID, S>,
     id: &PolicyID,
 ) -> Option<&'a PolicyID> {
@@ -268,7 +274,7 @@ fn new_of<'a, S: BuildHasher + Copy>(
 
 // Returns whether this set uses the id of a body of the other set after renaming. This set uses no new id. Bodies are
 // checked first, because most ids are found there.
-fn is_bound_in_target<S: BuildHasher + Copy>(
+fn is_bound_in_target<S: BuildHasher + Clone>(
     here: &PolicyMaps<S>,
     new: Option<&PolicyID>,
     id: &PolicyID,
@@ -280,22 +286,22 @@ fn is_bound_in_target<S: BuildHasher + Copy>(
     }
 }
 
-// Returns this set's policy with this id after renaming, and its place. This set uses no new id.
-fn policy_in_target<'a, S: BuildHasher + Copy>(
-    here: &'a PolicyMaps<S>,
+// Returns the place of this set's policy with this id after renaming. This set uses no new id.
+fn position_of<S: BuildHasher + Clone>(
+    here: &PolicyMaps<S>,
     new: Option<&PolicyID>,
     id: &PolicyID,
     next: &mut usize,
-) -> Option<(usize, &'a Policy)> {
+) -> Option<usize> {
     match new {
         Some(_) => None,
-        None => here.policy_near(id, next),
+        None => place_of_policy(here, id, next),
     }
 }
 
 // Returns whether this set has a body with the id `new` or, if there is no new id, `id`. A new id is never in use in
 // this set, so the result is then false.
-fn contains_body<S: BuildHasher + Copy>(here: &PolicyMaps<S>, new: Option<&PolicyID>, id: &PolicyID) -> bool {
+fn contains_body<S: BuildHasher + Clone>(here: &PolicyMaps<S>, new: Option<&PolicyID>, id: &PolicyID) -> bool {
     match new {
         Some(_) => false,
         None => here.has_body(id),
@@ -312,7 +318,7 @@ fn part<T>(parted: &mut SharedAndNew<T>, stands: bool, thing: T) {
 }
 
 // Splits the bodies of the other set, under their new ids, into existing and new ones.
-fn parted_bodies<S: BuildHasher + Copy>(
+fn parted_bodies<S: BuildHasher + Clone>(
     here: &PolicyMaps<S>,
     other: &PolicyMaps<S>,
     renaming: &OrderedMap<PolicyID, PolicyID, S>,
@@ -323,10 +329,10 @@ fn parted_bodies<S: BuildHasher + Copy>(
 }
 
 // Splits these bodies, and appends each to the existing or to the new ones.
-fn part_bodies<S: BuildHasher + Copy>(
+fn part_bodies<S: BuildHasher + Clone>(
     parted: &mut SharedAndNew<Arc<Template>>,
     here: &PolicyMaps<S>,
-    theirs: iters::SharedBodies<'_>,
+    theirs: &[Arc<Template>],
     renaming: &OrderedMap<PolicyID, PolicyID, S>,
 ) {
     let mut next = 0;
@@ -336,7 +342,7 @@ fn part_bodies<S: BuildHasher + Copy>(
 }
 
 // Appends a body under its new id to the existing or to the new ones.
-fn part_body<S: BuildHasher + Copy>(
+fn part_body<S: BuildHasher + Clone>(
     parted: &mut SharedAndNew<Arc<Template>>,
     here: &PolicyMaps<S>,
     template: &Arc<Template>,
@@ -369,7 +375,7 @@ struct SharedAndNewPolicies {
 }
 
 // Splits the policies of the other set, under their new ids.
-fn parted_policies<S: BuildHasher + Copy>(
+fn parted_policies<S: BuildHasher + Clone>(
     here: &PolicyMaps<S>,
     other: &PolicyMaps<S>,
     renaming: &OrderedMap<PolicyID, PolicyID, S>,
@@ -381,16 +387,16 @@ fn parted_policies<S: BuildHasher + Copy>(
         next: 0,
         joined: 0,
     };
-    let theirs = other.policies();
+    let theirs = other.all_policies();
     part_policies(&mut parted, here, theirs, renaming, joined);
     (parted.policies, parted.shares)
 }
 
 // Splits these policies, one after another.
-fn part_policies<S: BuildHasher + Copy>(
+fn part_policies<S: BuildHasher + Clone>(
     parted: &mut SharedAndNewPolicies,
     here: &PolicyMaps<S>,
-    theirs: iters::Policies<'_>,
+    theirs: &[Policy],
     renaming: &OrderedMap<PolicyID, PolicyID, S>,
     joined: &[Arc<Template>],
 ) {
@@ -401,7 +407,7 @@ fn part_policies<S: BuildHasher + Copy>(
 
 // Appends a policy under its new id to the new policies. If this set has an equal policy with the id, it is recorded as
 // an existing one.
-fn part_policy<S: BuildHasher + Copy>(
+fn part_policy<S: BuildHasher + Clone>(
     parted: &mut SharedAndNewPolicies,
     here: &PolicyMaps<S>,
     policy: &Policy,
@@ -409,7 +415,8 @@ fn part_policy<S: BuildHasher + Copy>(
     joined: &[Arc<Template>],
 ) {
     let new = new_of(renaming, policy.id());
-    if let Some((place, stands)) = policy_in_target(here, new, policy.id(), &mut parted.next) {
+    if let Some(place) = position_of(here, new, policy.id(), &mut parted.next) {
+        let stands = &here.all_policies()[place];
         push_shared(parted, place, stands, policy);
         return;
     }
@@ -421,7 +428,7 @@ fn part_policy<S: BuildHasher + Copy>(
 }
 
 // Returns the copy of a policy of the other set that is inserted.
-fn joining<S: BuildHasher + Copy>(
+fn joining<S: BuildHasher + Clone>(
     policy: &Policy,
     new: Option<&PolicyID>,
     renaming: &OrderedMap<PolicyID, PolicyID, S>,
@@ -465,7 +472,7 @@ fn static_on(template: &Arc<Template>) -> Option<Policy> {
 }
 
 // Returns a policy under its new id. A link gets its template under the template's new id.
-fn renamed_policy<S: BuildHasher + Copy>(
+fn renamed_policy<S: BuildHasher + Clone>(
     policy: &Policy,
     new: Option<&PolicyID>,
     renaming: &OrderedMap<PolicyID, PolicyID, S>,
@@ -486,7 +493,7 @@ fn with_new_id(policy: &Policy, new: Option<&PolicyID>) -> Policy {
 
 // Returns a link with its template under the template's new id. Returns nothing if the template is not renamed, and for
 // a static policy.
-fn on_renamed_template<S: BuildHasher + Copy>(
+fn on_renamed_template<S: BuildHasher + Clone>(
     policy: &Policy,
     renaming: &OrderedMap<PolicyID, PolicyID, S>,
 ) -> Option<Policy> {

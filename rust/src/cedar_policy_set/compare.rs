@@ -7,21 +7,21 @@ use crate::cedar_policy_maps::{AllTemplates, Policies};
 use crate::cedar_policy_set::policy_set::PolicySet;
 use std::hash::BuildHasher;
 
-impl<S: BuildHasher + Copy> Clone for PolicySet<S> {
+impl<S: BuildHasher + Clone> Clone for PolicySet<S> {
     fn clone(&self) -> Self {
         let maps = self.maps.clone();
         Self { maps }
     }
 }
 
-impl<S: BuildHasher + Copy> PartialEq for PolicySet<S> {
+impl<S: BuildHasher + Clone> PartialEq for PolicySet<S> {
     fn eq(&self, other: &Self) -> bool {
         same_bodies(self.maps.all_templates(), other.maps.all_templates())
             && same_policies(self.maps.policies(), other.maps.policies())
     }
 }
 
-impl<S: BuildHasher + Copy> Eq for PolicySet<S> {}
+impl<S: BuildHasher + Clone> Eq for PolicySet<S> {}
 
 // Returns whether two lists of bodies are equal, element by element.
 fn same_bodies(bodies: AllTemplates<'_>, mut others: AllTemplates<'_>) -> bool {

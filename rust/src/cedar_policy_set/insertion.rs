@@ -10,7 +10,7 @@ use crate::cedar_policy_set_errors::err::PolicySetError;
 use std::hash::BuildHasher;
 use std::sync::Arc;
 
-impl<S: BuildHasher + Copy> PolicySet<S> {
+impl<S: BuildHasher + Clone> PolicySet<S> {
     /// Creates a policy set from a list of policies, with this builder of hashers. Adds the policies one after another
     /// with [`PolicySet::add`].
     ///

@@ -7,7 +7,7 @@ use crate::cedar_policy::{LinkingError, Policy, SlotEnv};
 use crate::cedar_policy_set::policy_set::PolicySet;
 use std::hash::BuildHasher;
 
-impl<S: BuildHasher + Copy> PolicySet<S> {
+impl<S: BuildHasher + Clone> PolicySet<S> {
     /// Links the template with this id to these bindings under a new id, and appends the link to the policies. To
     /// unlink the new link returns it and restores the former set, including both orders.
     ///

@@ -8,7 +8,7 @@ use crate::cedar_policy_set_errors::err::PolicySetError;
 use crate::handwritten::renaming::Renaming;
 use std::hash::BuildHasher;
 
-impl<S: BuildHasher + Copy> PolicySet<S> {
+impl<S: BuildHasher + Clone> PolicySet<S> {
     /// Merges another policy set into this one. Returns the renamed ids of the other set with their new ids. The other
     /// set does not change.
     ///

@@ -37,7 +37,7 @@ impl<S: BuildHasher> fmt::Debug for PolicySet<S> {
     }
 }
 
-impl<S: BuildHasher + Copy> PolicySet<S> {
+impl<S: BuildHasher + Clone> PolicySet<S> {
     /// Creates an empty policy set with this builder of hashers. Does not allocate.
     ///
     /// # Differences from cedar-policy-core

@@ -11,7 +11,7 @@ use crate::cedar_policy_set_errors::err::{
 };
 use std::hash::BuildHasher;
 
-impl<S: BuildHasher + Copy> PolicySet<S> {
+impl<S: BuildHasher + Clone> PolicySet<S> {
     /// Removes the link with this id and returns it. The order of the remaining policies does not change.
     ///
     /// # Errors

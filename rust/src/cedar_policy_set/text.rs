@@ -8,7 +8,7 @@ use crate::cedar_policy_set::policy_set::PolicySet;
 use std::fmt;
 use std::hash::BuildHasher;
 
-impl<S: BuildHasher + Copy> fmt::Display for PolicySet<S> {
+impl<S: BuildHasher + Clone> fmt::Display for PolicySet<S> {
     /// Writes all bodies and then all policies, separated by line feeds. Writes `<empty policyset>` for an empty set.
     /// Does not allocate.
     fn fmt(&self, f: &mut fmt::Formatter<'_>) -> fmt::Result {

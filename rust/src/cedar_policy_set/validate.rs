@@ -8,7 +8,7 @@ use crate::cedar_policy_set::policy_set::PolicySet;
 use crate::cedar_policy_set_errors::err::PolicySetValidationError;
 use std::hash::BuildHasher;
 
-impl<S: BuildHasher + Copy> PolicySet<S> {
+impl<S: BuildHasher + Clone> PolicySet<S> {
     /// Returns the set itself, if its links and bodies are valid.
     ///
     /// # Errors

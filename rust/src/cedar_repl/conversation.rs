@@ -50,7 +50,7 @@ fn refuse(manner: ErrorMode, number: usize, line: &[u8], out: &mut Vec<u8>) -> b
 }
 
 // Appends the output for a line. Returns whether the conversation continues.
-fn answer<S: BuildHasher + Copy>(
+fn answer<S: BuildHasher + Clone>(
     session: &mut Session<S>,
     manner: ErrorMode,
     number: usize,
@@ -63,7 +63,7 @@ fn answer<S: BuildHasher + Copy>(
     refuse(manner, number, line, out)
 }
 
-impl<S: BuildHasher + Copy> Conversation<S> {
+impl<S: BuildHasher + Clone> Conversation<S> {
     // Creates a conversation that has not received anything.
     pub(crate) fn new(hasher: S, manner: ErrorMode) -> Self {
         Self {

@@ -48,7 +48,7 @@ fn read_some<R: Read>(reader: &mut R, buffer: &mut [u8]) -> Result<usize, TalkEr
 }
 
 // Finishes at the end of the input: writes the output for an incomplete last line, and returns the status.
-fn finish<S: BuildHasher + Copy, W: Write>(
+fn finish<S: BuildHasher + Clone, W: Write>(
     conversation: &mut Conversation<S>,
     writer: &mut W,
 ) -> Result<u8, TalkError> {
@@ -58,7 +58,7 @@ fn finish<S: BuildHasher + Copy, W: Write>(
 }
 
 // Processes the input until it ends or a line ends the conversation. Returns the status of `talk`.
-fn converse<S: BuildHasher + Copy, R: Read, W: Write>(
+fn converse<S: BuildHasher + Clone, R: Read, W: Write>(
     conversation: &mut Conversation<S>,
     reader: &mut R,
     writer: &mut W,
@@ -134,7 +134,7 @@ fn converse<S: BuildHasher + Copy, R: Read, W: Write>(
 /// assert_eq!(written, [b"ok 0\nline 2: not a command\n", help_texts().0.as_bytes()].concat());
 /// # Ok::<(), Box<dyn std::error::Error>>(())
 /// ```
-pub fn talk<S: BuildHasher + Copy, R: Read, W: Write>(
+pub fn talk<S: BuildHasher + Clone, R: Read, W: Write>(
     hasher: S,
     manner: ErrorMode,
     reader: &mut R,

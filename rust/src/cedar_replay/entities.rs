@@ -24,10 +24,10 @@ pub enum EntityCall {
 }
 
 // Returns the store after one call.
-fn replay_one<S: BuildHasher + Copy>(store: Entities<S>, call: EntityCall) -> Result<Entities<S>, EntitiesError> {
+fn replay_one<S: BuildHasher + Clone>(store: Entities<S>, call: EntityCall) -> Result<Entities<S>, EntitiesError> {
     match call {
         EntityCall::From(list) => {
-            let hasher = *store.hasher();
+            let hasher = store.hasher().clone();
             Entities::from_entities_with_hasher(hasher, list, TCComputation::ComputeNow)
         }
         EntityCall::Add(list) => store.add_entities(list, TCComputation::ComputeNow),
@@ -130,7 +130,7 @@ pub fn replay_entities(calls: impl IntoIterator<Item = EntityCall>) -> Result<En
 /// let keyed = cedar_store::KeyedState::with_keys(1, 2);
 /// assert_eq!(replay_entities_with_hasher(keyed, calls()).expect("every call succeeds").len(), 1);
 /// ```
-pub fn replay_entities_with_hasher<S: BuildHasher + Copy>(
+pub fn replay_entities_with_hasher<S: BuildHasher + Clone>(
     hasher: S,
     calls: impl IntoIterator<Item = EntityCall>,
 ) -> Result<Entities<S>, (usize, EntitiesError)> {

@@ -9,7 +9,7 @@ use crate::cedar_replay::call::{Answer, PolicyCall};
 use std::hash::BuildHasher;
 
 // Links a template, and drops the returned reference to the link.
-fn link<S: BuildHasher + Copy>(
+fn link<S: BuildHasher + Clone>(
     set: &mut PolicySet<S>,
     template_id: PolicyID,
     new_id: PolicyID,
@@ -20,7 +20,7 @@ fn link<S: BuildHasher + Copy>(
 }
 
 // Runs one call.
-fn replay_one<S: BuildHasher + Copy>(set: &mut PolicySet<S>, call: PolicyCall<S>) -> Answer<S> {
+fn replay_one<S: BuildHasher + Clone>(set: &mut PolicySet<S>, call: PolicyCall<S>) -> Answer<S> {
     match call {
         PolicyCall::AddStatic(policy) => Answer::AddStatic(set.add_static(policy)),
         PolicyCall::AddTemplate(template) => Answer::AddTemplate(set.add_template(template)),
@@ -74,7 +74,7 @@ fn append<S: BuildHasher>(answers: &mut Vec<Answer<S>>, answer: Answer<S>) {
 /// let results = replay_policies(&mut set, calls);
 /// assert!(matches!(results[..], [Answer::AddStatic(Ok(())), Answer::AddStatic(Err(_))]));
 /// ```
-pub fn replay_policies<S: BuildHasher + Copy>(set: &mut PolicySet<S>, calls: Vec<PolicyCall<S>>) -> Vec<Answer<S>> {
+pub fn replay_policies<S: BuildHasher + Clone>(set: &mut PolicySet<S>, calls: Vec<PolicyCall<S>>) -> Vec<Answer<S>> {
     let mut answers = Vec::with_capacity(calls.len());
     for call in calls {
         let answer = replay_one(set, call);

@@ -74,7 +74,7 @@ fn first_line(input: &[u8]) -> (&[u8], Option<&[u8]>) {
 
 // Runs all lines of the input. Returns the output, the status, and the session in its final state. All lines share one
 // buffer of fields.
-fn answer<S: BuildHasher + Copy>(hasher: S, input: &[u8]) -> (Vec<u8>, u8, Session<S>) {
+fn answer<S: BuildHasher + Clone>(hasher: S, input: &[u8]) -> (Vec<u8>, u8, Session<S>) {
     let mut session = Session::with_hasher(hasher);
     let mut fields = Vec::new();
     let mut out = Vec::new();
@@ -99,7 +99,7 @@ fn send<W: Write>(writer: &mut W, bytes: &[u8]) -> Result<(), RunError> {
 }
 
 // Reads the input to its end and writes its output. Returns the status and the session in its final state.
-fn run_by<S: BuildHasher + Copy, R: Read, W: Write>(
+fn run_by<S: BuildHasher + Clone, R: Read, W: Write>(
     hasher: S,
     reader: &mut R,
     writer: &mut W,
@@ -210,7 +210,7 @@ pub fn run<R: Read, W: Write>(reader: &mut R, writer: &mut W) -> Result<u8, RunE
 /// assert_eq!(run_and_leave_with(key, &mut &b"frob"[..], &mut Vec::new())?, 2);
 /// # Ok::<(), Box<dyn std::error::Error>>(())
 /// ```
-pub fn run_with<S: BuildHasher + Copy, R: Read, W: Write>(
+pub fn run_with<S: BuildHasher + Clone, R: Read, W: Write>(
     hasher: S,
     reader: &mut R,
     writer: &mut W,
@@ -306,7 +306,7 @@ pub fn run_and_leave<R: Read, W: Write>(reader: &mut R, writer: &mut W) -> Resul
 /// assert_eq!(run_and_leave_with(key, &mut &b"frob"[..], &mut Vec::new())?, 2);
 /// # Ok::<(), Box<dyn std::error::Error>>(())
 /// ```
-pub fn run_and_leave_with<S: BuildHasher + Copy, R: Read, W: Write>(
+pub fn run_and_leave_with<S: BuildHasher + Clone, R: Read, W: Write>(
     hasher: S,
     reader: &mut R,
     writer: &mut W,

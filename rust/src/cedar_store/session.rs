@@ -106,7 +106,7 @@ impl Session {
     }
 }
 
-impl<S: BuildHasher + Copy> Session<S> {
+impl<S: BuildHasher + Clone> Session<S> {
     /// Creates a session as [`Session::new`] does, with maps that use this builder of hashers. The choice of hasher
     /// never changes the output.
     ///
@@ -139,7 +139,7 @@ impl<S: BuildHasher + Copy> Session<S> {
     /// ```
     pub fn with_hasher(hasher: S) -> Self {
         Self {
-            entities: LineStore::with_hasher(hasher),
+            entities: LineStore::with_hasher(hasher.clone()),
             sets: PolicySets::with_hasher(hasher),
             known: KnownUids::new(),
         }

@@ -5,7 +5,7 @@ use std::collections::HashSet;
 use std::hash::BuildHasher;
 use std::sync::Arc;
 
-impl<S: BuildHasher + Copy> PolicySet<S> {
+impl<S: BuildHasher + Clone> PolicySet<S> {
     /// Iterates over the static policies and the links, in insertion order. It is [`PolicySet::policies`].
     pub fn iter(&self) -> Policies<'_> {
         self.policies()
@@ -34,7 +34,7 @@ impl<S: BuildHasher + Copy> PolicySet<S> {
     }
 }
 
-impl<'a, S: BuildHasher + Copy> IntoIterator for &'a PolicySet<S> {
+impl<'a, S: BuildHasher + Clone> IntoIterator for &'a PolicySet<S> {
     type Item = &'a Policy;
     type IntoIter = Policies<'a>;
 
@@ -43,7 +43,7 @@ impl<'a, S: BuildHasher + Copy> IntoIterator for &'a PolicySet<S> {
     }
 }
 
-impl<S: BuildHasher + Copy> IntoIterator for PolicySet<S> {
+impl<S: BuildHasher + Clone> IntoIterator for PolicySet<S> {
     type Item = Policy;
     type IntoIter = IntoPolicies;
 
