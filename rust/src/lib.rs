@@ -4,24 +4,85 @@
 //!
 //! ```
 //! use cedar_store::ast::{Entity, EntityUID};
-//! use cedar_store::entities::{Dereference, Entities, TCComputation};
+//! use cedar_store::entities::{Entities, TCComputation};
 //!
 //! # fn main() -> Result<(), Box<dyn std::error::Error>> {
-//! let uid = EntityUID::from_normalized_str;
-//! let (alice, staff, all) = (uid(r#"User::"alice""#)?, uid(r#"Group::"staff""#)?, uid(r#"Group::"all""#)?);
-//! let mut entities = [alice.clone(), staff.clone(), all.clone()].map(Entity::with_uid);
-//! entities[0].add_parent(staff.clone());
-//! entities[1].add_parent(all.clone());
-//! let store = Entities::from_entities(entities, TCComputation::ComputeNow)?;
-//! assert!(matches!(store.entity(&alice), Dereference::Data(e) if e.is_descendant_of(&all)));
+//! let all: EntityUID = r#"Group::"all""#.parse()?;
+//! let mut staff = Entity::with_uid(r#"Group::"staff""#.parse()?);
+//! let mut alice = Entity::with_uid(r#"User::"alice""#.parse()?);
+//! alice.add_parent(staff.uid().clone());
+//! staff.add_parent(all.clone());
+//! let uid = alice.uid().clone();
+//! let store = Entities::from_entities([alice, staff], TCComputation::ComputeNow)?;
+//! assert!(store.stored(&uid).is_some_and(|alice| alice.is_descendant_of(&all)));
 //! # Ok(())
 //! # }
 //! ```
 //!
 //! A store closes its entities: each entity has everything that it reaches over parents as an ancestor, and a cycle is
 //! an error. A policy set binds ids to static policies, templates and links of templates. Two sets can be merged, with
-//! new ids for items whose ids conflict. Stores, sets and their content are `Send` and `Sync`. The program aborts if an
-//! allocation fails.
+//! new ids for items whose ids conflict.
+//!
+//! # Modules
+//!
+//! | Module or item | Contents |
+//! |---|---|
+//! | [`ast`] | ids, uids, entities, values, expressions, constraints, policies, templates, [`PolicySet`](ast::PolicySet) |
+//! | [`entities`] | [`Entities`](entities::Entities), the store, and its errors |
+//! | [`transitive_closure`] | closures of graphs with nodes of any type |
+//! | [`parser`] | source locations and parse errors |
+//! | [`slice`](slice()) | the store of some entities and all entities above them |
+//! | [`would_add`], [`would_upsert`] | dry runs of edits |
+//! | [`BorrowedConstraint`] | constraints of a policy, without a copy |
+//! | [`iters`] | the iterators that functions return |
+//! | [`KeyedState`] | the default builder of hashers |
+//! | [`replay`], [`program`] | lists of calls, and the line-based program |
+//!
+//! # Edits and snapshots
+//!
+//! [`Entities::add_entities`](entities::Entities::add_entities) and its like take the store, as in the original, and an
+//! error drops it. [`Entities::try_add_entities`](entities::Entities::try_add_entities),
+//! [`try_upsert_entities`](entities::Entities::try_upsert_entities) and
+//! [`try_remove_entities`](entities::Entities::try_remove_entities) edit a store in place and keep it after an error,
+//! for about the same cost.
+//!
+//! A clone of a store shares the entities, and costs one pointer copy for each entity. A clone of a policy set copies
+//! each id and each link, and shares the templates.
+//!
+//! # Threads
+//!
+//! Stores, sets and their content are `Send` and `Sync`: any number of threads can read one store. To edit a store that
+//! other threads read, clone it, edit the clone, and replace an `Arc` of the store by an `Arc` of the clone.
+//!
+//! # Errors
+//!
+//! A function that can fail returns an error, which implements [`Error`](std::error::Error), `Clone` and `PartialEq`,
+//! and whose [`source`](std::error::Error::source) is the cause. The comment of each function lists its errors. After an
+//! error, a set or a store that was borrowed is as before. The program aborts if an allocation fails, as in std.
+//!
+//! # Cost
+//!
+//! The comment of each function states its complexity. A lookup of an entity hashes its uid once. A query for an
+//! ancestor is a binary search among the ancestors. An edit of a store costs what it changes, once the store lists the
+//! children of each uid (see [`Entities`](entities::Entities)).
+//!
+//! # Coming from cedar-policy-core
+//!
+//! Replace `cedar_policy_core` by `cedar_store` in the paths. What differs most often:
+//!
+//! - Texts of uids and names are read in their printed form only: [`FromStr`](std::str::FromStr) and
+//!   `from_normalized_str` accept no blanks and no other escapes. There is no parser for policies.
+//! - Functions take neither a schema nor extensions, and texts are `String` and `&str` where the original has `SmolStr`.
+//! - An expression has literals, variables, slots, unknowns, sets, calls, `!`, `&&`, `==`, `in` and `is`. The other
+//!   eleven kinds of the original are not here.
+//! - The action of a policy can have a slot, and [`Policy::action_constraint`](ast::Policy::action_constraint) returns a
+//!   filled constraint by value.
+//! - Functions on maps with the default hasher have the signatures of the original. A function that ends in
+//!   `_with_hasher` takes another hasher, as does the type parameter of [`Entities`](entities::Entities) and
+//!   [`PolicySet`](ast::PolicySet).
+//! - A merge returns a [`Renaming`] instead of a map. It has the lookups and iterators of one.
+//! - [`TCNode`](transitive_closure::TCNode) has more methods, all with a default. A store with equal contents prints the
+//!   same text each time, in ascending order of uid.
 //!
 //! # What is proved
 //!
