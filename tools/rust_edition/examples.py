@@ -27,6 +27,22 @@ def entries(path=os.path.join(HERE, 'examples.txt')):
     return hidden, found
 
 
+def helpers_for(hidden, lines):
+    """Returns the hidden lines that an example needs: the `use`, and the helper functions that it calls."""
+    groups, needed = [], []
+    for line in hidden:
+        if re.match(r': (use|fn) ', line):
+            groups.append([])
+        groups[-1].append(line)
+    code = '\n'.join(lines)
+    for group in reversed(groups):  # a helper calls only helpers before it
+        name = re.match(r': fn (\w+)', group[0])
+        if name is None or re.search(rf'\b{name.group(1)}\b', code):
+            needed[:0] = group
+            code += '\n'.join(group)
+    return needed
+
+
 def comment_line(line):
     """Returns a line as it is written in the comment."""
     return '# ' + line[2:] if line.startswith(': ') else line
@@ -34,7 +50,7 @@ def comment_line(line):
 
 def comment(lines, hidden, indent):
     """Returns an example as lines of a comment."""
-    code = [comment_line(line) for line in hidden + lines]
+    code = [comment_line(line) for line in helpers_for(hidden, lines) + lines]
     if any('?' in re.sub(r'"[^"]*"', '', line) for line in lines):
         code.append('# Ok::<(), Box<dyn std::error::Error>>(())')
     return [f'{indent}///', f'{indent}/// ```'] + [f'{indent}/// {line}'.rstrip() for line in code] + [f'{indent}/// ```']

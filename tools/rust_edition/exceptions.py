@@ -26,9 +26,11 @@ DROPPED = {('KeyedState', 'new'), ('PolicyMaps', 'body_count'), ('PolicyMaps', '
            ('fresh', 'count_ids'), ('fresh', 'size'), ('node', 'listed'),
            ('shared_node', 'listed_pointers'), ('store_text', 'next_entity'), ('store_text', 'is_before'),
            ('store_text', 'write_by_walks')}
+# A function that is written by hand, in `rust/src/handwritten/policy_sets.rs`.
+DROPPED |= {('PolicySet', 'from_raw_components')}
 # Functions that only the tests of the layer use, so the package does not have them.
 ONLY_IN_TESTS = {
-    ('PolicySet', 'from_raw_components'), ('PolicyMaps', 'from_raw_components'), ('lists', 'read_policy'),
+    ('PolicyMaps', 'from_raw_components'), ('lists', 'read_policy'),
     ('lists', 'read_policies'), ('maps', 'filter_templates'), ('maps', 'linked_lists'), ('maps', 'link_lists'),
     ('LineStore', 'new'), ('PolicySets', 'new'),
     ('command', 'read_policy_command'), ('making', 'static_policy'), ('making', 'slotted_template'),

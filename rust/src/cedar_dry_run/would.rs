@@ -32,22 +32,11 @@ fn part_for<S: BuildHasher + Clone>(store: &Entities<S>, list: &[Arc<Entity>]) -
 ///
 /// ```
 /// # use cedar_store::{ast::*, entities::*};
-/// # #[allow(unused)]
 /// # fn uid(text: &str) -> EntityUID { EntityUID::from_normalized_str(text).unwrap() }
-/// # #[allow(unused)]
 /// # fn entity_with(own: &str, parents: &[&str]) -> Entity {
 /// #     let mut entity = Entity::with_uid(uid(own));
 /// #     parents.iter().for_each(|parent| entity.add_parent(uid(parent)));
 /// #     entity
-/// # }
-/// # #[allow(unused)]
-/// # fn template(name: &str, principal: PrincipalConstraint) -> Template {
-/// #     let (id, all) = (PolicyID::from_string(name), ResourceConstraint::any());
-/// #     Template::new(id, None, Annotations::new(), Effect::Permit, principal, ActionConstraint::any(), all, None)
-/// # }
-/// # #[allow(unused)]
-/// # fn permit(name: &str) -> StaticPolicy {
-/// #     StaticPolicy::try_from(template(name, PrincipalConstraint::any())).unwrap()
 /// # }
 /// use cedar_store::{have_no_indirect, would_add, would_upsert};
 /// # use std::sync::Arc;
@@ -78,22 +67,11 @@ pub fn would_add<S: BuildHasher + Clone>(store: &Entities<S>, list: &[Arc<Entity
 ///
 /// ```
 /// # use cedar_store::{ast::*, entities::*};
-/// # #[allow(unused)]
 /// # fn uid(text: &str) -> EntityUID { EntityUID::from_normalized_str(text).unwrap() }
-/// # #[allow(unused)]
 /// # fn entity_with(own: &str, parents: &[&str]) -> Entity {
 /// #     let mut entity = Entity::with_uid(uid(own));
 /// #     parents.iter().for_each(|parent| entity.add_parent(uid(parent)));
 /// #     entity
-/// # }
-/// # #[allow(unused)]
-/// # fn template(name: &str, principal: PrincipalConstraint) -> Template {
-/// #     let (id, all) = (PolicyID::from_string(name), ResourceConstraint::any());
-/// #     Template::new(id, None, Annotations::new(), Effect::Permit, principal, ActionConstraint::any(), all, None)
-/// # }
-/// # #[allow(unused)]
-/// # fn permit(name: &str) -> StaticPolicy {
-/// #     StaticPolicy::try_from(template(name, PrincipalConstraint::any())).unwrap()
 /// # }
 /// use cedar_store::{have_no_indirect, would_add, would_upsert};
 /// # use std::sync::Arc;
@@ -125,22 +103,11 @@ fn has_no_indirect(entity: &Entity) -> bool {
 ///
 /// ```
 /// # use cedar_store::{ast::*, entities::*};
-/// # #[allow(unused)]
 /// # fn uid(text: &str) -> EntityUID { EntityUID::from_normalized_str(text).unwrap() }
-/// # #[allow(unused)]
 /// # fn entity_with(own: &str, parents: &[&str]) -> Entity {
 /// #     let mut entity = Entity::with_uid(uid(own));
 /// #     parents.iter().for_each(|parent| entity.add_parent(uid(parent)));
 /// #     entity
-/// # }
-/// # #[allow(unused)]
-/// # fn template(name: &str, principal: PrincipalConstraint) -> Template {
-/// #     let (id, all) = (PolicyID::from_string(name), ResourceConstraint::any());
-/// #     Template::new(id, None, Annotations::new(), Effect::Permit, principal, ActionConstraint::any(), all, None)
-/// # }
-/// # #[allow(unused)]
-/// # fn permit(name: &str) -> StaticPolicy {
-/// #     StaticPolicy::try_from(template(name, PrincipalConstraint::any())).unwrap()
 /// # }
 /// use cedar_store::{have_no_indirect, would_add, would_upsert};
 /// # use std::sync::Arc;

@@ -94,23 +94,7 @@ impl Entity {
     ///
     /// ```
     /// # use cedar_store::{ast::*, entities::*};
-    /// # #[allow(unused)]
     /// # fn uid(text: &str) -> EntityUID { EntityUID::from_normalized_str(text).unwrap() }
-    /// # #[allow(unused)]
-    /// # fn entity_with(own: &str, parents: &[&str]) -> Entity {
-    /// #     let mut entity = Entity::with_uid(uid(own));
-    /// #     parents.iter().for_each(|parent| entity.add_parent(uid(parent)));
-    /// #     entity
-    /// # }
-    /// # #[allow(unused)]
-    /// # fn template(name: &str, principal: PrincipalConstraint) -> Template {
-    /// #     let (id, all) = (PolicyID::from_string(name), ResourceConstraint::any());
-    /// #     Template::new(id, None, Annotations::new(), Effect::Permit, principal, ActionConstraint::any(), all, None)
-    /// # }
-    /// # #[allow(unused)]
-    /// # fn permit(name: &str) -> StaticPolicy {
-    /// #     StaticPolicy::try_from(template(name, PrincipalConstraint::any())).unwrap()
-    /// # }
     /// # use std::collections::HashSet;
     /// let pair = |key: &str, value: i64| (key.to_string(), PartialValue::from(Value::from(value)));
     /// let entity = Entity::new_with_attr_partial_value(
@@ -150,23 +134,7 @@ impl Entity {
     ///
     /// ```
     /// # use cedar_store::{ast::*, entities::*};
-    /// # #[allow(unused)]
     /// # fn uid(text: &str) -> EntityUID { EntityUID::from_normalized_str(text).unwrap() }
-    /// # #[allow(unused)]
-    /// # fn entity_with(own: &str, parents: &[&str]) -> Entity {
-    /// #     let mut entity = Entity::with_uid(uid(own));
-    /// #     parents.iter().for_each(|parent| entity.add_parent(uid(parent)));
-    /// #     entity
-    /// # }
-    /// # #[allow(unused)]
-    /// # fn template(name: &str, principal: PrincipalConstraint) -> Template {
-    /// #     let (id, all) = (PolicyID::from_string(name), ResourceConstraint::any());
-    /// #     Template::new(id, None, Annotations::new(), Effect::Permit, principal, ActionConstraint::any(), all, None)
-    /// # }
-    /// # #[allow(unused)]
-    /// # fn permit(name: &str) -> StaticPolicy {
-    /// #     StaticPolicy::try_from(template(name, PrincipalConstraint::any())).unwrap()
-    /// # }
     /// let mut entity = Entity::with_uid(uid(r#"A::"a""#));
     /// entity.add_indirect_ancestor(uid(r#"A::"b""#));
     /// entity.add_indirect_ancestor(uid(r#"A::"c""#));
@@ -206,23 +174,7 @@ impl Entity {
     ///
     /// ```
     /// # use cedar_store::{ast::*, entities::*};
-    /// # #[allow(unused)]
     /// # fn uid(text: &str) -> EntityUID { EntityUID::from_normalized_str(text).unwrap() }
-    /// # #[allow(unused)]
-    /// # fn entity_with(own: &str, parents: &[&str]) -> Entity {
-    /// #     let mut entity = Entity::with_uid(uid(own));
-    /// #     parents.iter().for_each(|parent| entity.add_parent(uid(parent)));
-    /// #     entity
-    /// # }
-    /// # #[allow(unused)]
-    /// # fn template(name: &str, principal: PrincipalConstraint) -> Template {
-    /// #     let (id, all) = (PolicyID::from_string(name), ResourceConstraint::any());
-    /// #     Template::new(id, None, Annotations::new(), Effect::Permit, principal, ActionConstraint::any(), all, None)
-    /// # }
-    /// # #[allow(unused)]
-    /// # fn permit(name: &str) -> StaticPolicy {
-    /// #     StaticPolicy::try_from(template(name, PrincipalConstraint::any())).unwrap()
-    /// # }
     /// let mut entity = Entity::with_uid(uid(r#"A::"a""#));
     /// entity.add_indirect_ancestor(uid(r#"A::"b""#));
     /// entity.add_indirect_ancestor(uid(r#"A::"c""#));
@@ -242,23 +194,7 @@ impl Entity {
     ///
     /// ```
     /// # use cedar_store::{ast::*, entities::*};
-    /// # #[allow(unused)]
     /// # fn uid(text: &str) -> EntityUID { EntityUID::from_normalized_str(text).unwrap() }
-    /// # #[allow(unused)]
-    /// # fn entity_with(own: &str, parents: &[&str]) -> Entity {
-    /// #     let mut entity = Entity::with_uid(uid(own));
-    /// #     parents.iter().for_each(|parent| entity.add_parent(uid(parent)));
-    /// #     entity
-    /// # }
-    /// # #[allow(unused)]
-    /// # fn template(name: &str, principal: PrincipalConstraint) -> Template {
-    /// #     let (id, all) = (PolicyID::from_string(name), ResourceConstraint::any());
-    /// #     Template::new(id, None, Annotations::new(), Effect::Permit, principal, ActionConstraint::any(), all, None)
-    /// # }
-    /// # #[allow(unused)]
-    /// # fn permit(name: &str) -> StaticPolicy {
-    /// #     StaticPolicy::try_from(template(name, PrincipalConstraint::any())).unwrap()
-    /// # }
     /// # use std::collections::HashSet;
     /// let pair = |key: &str, value: i64| (key.to_string(), PartialValue::from(Value::from(value)));
     /// let entity = Entity::new_with_attr_partial_value(
@@ -284,23 +220,7 @@ impl Entity {
     ///
     /// ```
     /// # use cedar_store::{ast::*, entities::*};
-    /// # #[allow(unused)]
     /// # fn uid(text: &str) -> EntityUID { EntityUID::from_normalized_str(text).unwrap() }
-    /// # #[allow(unused)]
-    /// # fn entity_with(own: &str, parents: &[&str]) -> Entity {
-    /// #     let mut entity = Entity::with_uid(uid(own));
-    /// #     parents.iter().for_each(|parent| entity.add_parent(uid(parent)));
-    /// #     entity
-    /// # }
-    /// # #[allow(unused)]
-    /// # fn template(name: &str, principal: PrincipalConstraint) -> Template {
-    /// #     let (id, all) = (PolicyID::from_string(name), ResourceConstraint::any());
-    /// #     Template::new(id, None, Annotations::new(), Effect::Permit, principal, ActionConstraint::any(), all, None)
-    /// # }
-    /// # #[allow(unused)]
-    /// # fn permit(name: &str) -> StaticPolicy {
-    /// #     StaticPolicy::try_from(template(name, PrincipalConstraint::any())).unwrap()
-    /// # }
     /// # use std::collections::HashSet;
     /// let pair = |key: &str, value: i64| (key.to_string(), PartialValue::from(Value::from(value)));
     /// let entity = Entity::new_with_attr_partial_value(
@@ -326,23 +246,7 @@ impl Entity {
     ///
     /// ```
     /// # use cedar_store::{ast::*, entities::*};
-    /// # #[allow(unused)]
     /// # fn uid(text: &str) -> EntityUID { EntityUID::from_normalized_str(text).unwrap() }
-    /// # #[allow(unused)]
-    /// # fn entity_with(own: &str, parents: &[&str]) -> Entity {
-    /// #     let mut entity = Entity::with_uid(uid(own));
-    /// #     parents.iter().for_each(|parent| entity.add_parent(uid(parent)));
-    /// #     entity
-    /// # }
-    /// # #[allow(unused)]
-    /// # fn template(name: &str, principal: PrincipalConstraint) -> Template {
-    /// #     let (id, all) = (PolicyID::from_string(name), ResourceConstraint::any());
-    /// #     Template::new(id, None, Annotations::new(), Effect::Permit, principal, ActionConstraint::any(), all, None)
-    /// # }
-    /// # #[allow(unused)]
-    /// # fn permit(name: &str) -> StaticPolicy {
-    /// #     StaticPolicy::try_from(template(name, PrincipalConstraint::any())).unwrap()
-    /// # }
     /// # use std::collections::HashSet;
     /// let pair = |key: &str, value: i64| (key.to_string(), PartialValue::from(Value::from(value)));
     /// let entity = Entity::new_with_attr_partial_value(
@@ -368,23 +272,7 @@ impl Entity {
     ///
     /// ```
     /// # use cedar_store::{ast::*, entities::*};
-    /// # #[allow(unused)]
     /// # fn uid(text: &str) -> EntityUID { EntityUID::from_normalized_str(text).unwrap() }
-    /// # #[allow(unused)]
-    /// # fn entity_with(own: &str, parents: &[&str]) -> Entity {
-    /// #     let mut entity = Entity::with_uid(uid(own));
-    /// #     parents.iter().for_each(|parent| entity.add_parent(uid(parent)));
-    /// #     entity
-    /// # }
-    /// # #[allow(unused)]
-    /// # fn template(name: &str, principal: PrincipalConstraint) -> Template {
-    /// #     let (id, all) = (PolicyID::from_string(name), ResourceConstraint::any());
-    /// #     Template::new(id, None, Annotations::new(), Effect::Permit, principal, ActionConstraint::any(), all, None)
-    /// # }
-    /// # #[allow(unused)]
-    /// # fn permit(name: &str) -> StaticPolicy {
-    /// #     StaticPolicy::try_from(template(name, PrincipalConstraint::any())).unwrap()
-    /// # }
     /// # use std::collections::HashSet;
     /// let pair = |key: &str, value: i64| (key.to_string(), PartialValue::from(Value::from(value)));
     /// let entity = Entity::new_with_attr_partial_value(
@@ -410,22 +298,11 @@ impl Entity {
     ///
     /// ```
     /// # use cedar_store::{ast::*, entities::*};
-    /// # #[allow(unused)]
     /// # fn uid(text: &str) -> EntityUID { EntityUID::from_normalized_str(text).unwrap() }
-    /// # #[allow(unused)]
     /// # fn entity_with(own: &str, parents: &[&str]) -> Entity {
     /// #     let mut entity = Entity::with_uid(uid(own));
     /// #     parents.iter().for_each(|parent| entity.add_parent(uid(parent)));
     /// #     entity
-    /// # }
-    /// # #[allow(unused)]
-    /// # fn template(name: &str, principal: PrincipalConstraint) -> Template {
-    /// #     let (id, all) = (PolicyID::from_string(name), ResourceConstraint::any());
-    /// #     Template::new(id, None, Annotations::new(), Effect::Permit, principal, ActionConstraint::any(), all, None)
-    /// # }
-    /// # #[allow(unused)]
-    /// # fn permit(name: &str) -> StaticPolicy {
-    /// #     StaticPolicy::try_from(template(name, PrincipalConstraint::any())).unwrap()
     /// # }
     /// let mut entity = entity_with(r#"A::"a""#, &[r#"A::"b""#]);
     /// entity.add_indirect_ancestor(uid(r#"A::"c""#));
@@ -442,22 +319,11 @@ impl Entity {
     ///
     /// ```
     /// # use cedar_store::{ast::*, entities::*};
-    /// # #[allow(unused)]
     /// # fn uid(text: &str) -> EntityUID { EntityUID::from_normalized_str(text).unwrap() }
-    /// # #[allow(unused)]
     /// # fn entity_with(own: &str, parents: &[&str]) -> Entity {
     /// #     let mut entity = Entity::with_uid(uid(own));
     /// #     parents.iter().for_each(|parent| entity.add_parent(uid(parent)));
     /// #     entity
-    /// # }
-    /// # #[allow(unused)]
-    /// # fn template(name: &str, principal: PrincipalConstraint) -> Template {
-    /// #     let (id, all) = (PolicyID::from_string(name), ResourceConstraint::any());
-    /// #     Template::new(id, None, Annotations::new(), Effect::Permit, principal, ActionConstraint::any(), all, None)
-    /// # }
-    /// # #[allow(unused)]
-    /// # fn permit(name: &str) -> StaticPolicy {
-    /// #     StaticPolicy::try_from(template(name, PrincipalConstraint::any())).unwrap()
     /// # }
     /// let mut entity = entity_with(r#"A::"a""#, &[r#"A::"b""#]);
     /// entity.add_indirect_ancestor(uid(r#"A::"c""#));
@@ -474,22 +340,11 @@ impl Entity {
     ///
     /// ```
     /// # use cedar_store::{ast::*, entities::*};
-    /// # #[allow(unused)]
     /// # fn uid(text: &str) -> EntityUID { EntityUID::from_normalized_str(text).unwrap() }
-    /// # #[allow(unused)]
     /// # fn entity_with(own: &str, parents: &[&str]) -> Entity {
     /// #     let mut entity = Entity::with_uid(uid(own));
     /// #     parents.iter().for_each(|parent| entity.add_parent(uid(parent)));
     /// #     entity
-    /// # }
-    /// # #[allow(unused)]
-    /// # fn template(name: &str, principal: PrincipalConstraint) -> Template {
-    /// #     let (id, all) = (PolicyID::from_string(name), ResourceConstraint::any());
-    /// #     Template::new(id, None, Annotations::new(), Effect::Permit, principal, ActionConstraint::any(), all, None)
-    /// # }
-    /// # #[allow(unused)]
-    /// # fn permit(name: &str) -> StaticPolicy {
-    /// #     StaticPolicy::try_from(template(name, PrincipalConstraint::any())).unwrap()
     /// # }
     /// let mut entity = entity_with(r#"A::"a""#, &[r#"A::"b""#]);
     /// entity.add_indirect_ancestor(uid(r#"A::"c""#));
@@ -521,23 +376,7 @@ impl Entity {
     ///
     /// ```
     /// # use cedar_store::{ast::*, entities::*};
-    /// # #[allow(unused)]
     /// # fn uid(text: &str) -> EntityUID { EntityUID::from_normalized_str(text).unwrap() }
-    /// # #[allow(unused)]
-    /// # fn entity_with(own: &str, parents: &[&str]) -> Entity {
-    /// #     let mut entity = Entity::with_uid(uid(own));
-    /// #     parents.iter().for_each(|parent| entity.add_parent(uid(parent)));
-    /// #     entity
-    /// # }
-    /// # #[allow(unused)]
-    /// # fn template(name: &str, principal: PrincipalConstraint) -> Template {
-    /// #     let (id, all) = (PolicyID::from_string(name), ResourceConstraint::any());
-    /// #     Template::new(id, None, Annotations::new(), Effect::Permit, principal, ActionConstraint::any(), all, None)
-    /// # }
-    /// # #[allow(unused)]
-    /// # fn permit(name: &str) -> StaticPolicy {
-    /// #     StaticPolicy::try_from(template(name, PrincipalConstraint::any())).unwrap()
-    /// # }
     /// # use std::collections::HashSet;
     /// let pair = |key: &str, value: i64| (key.to_string(), PartialValue::from(Value::from(value)));
     /// let entity = Entity::new_with_attr_partial_value(
@@ -563,23 +402,7 @@ impl Entity {
     ///
     /// ```
     /// # use cedar_store::{ast::*, entities::*};
-    /// # #[allow(unused)]
     /// # fn uid(text: &str) -> EntityUID { EntityUID::from_normalized_str(text).unwrap() }
-    /// # #[allow(unused)]
-    /// # fn entity_with(own: &str, parents: &[&str]) -> Entity {
-    /// #     let mut entity = Entity::with_uid(uid(own));
-    /// #     parents.iter().for_each(|parent| entity.add_parent(uid(parent)));
-    /// #     entity
-    /// # }
-    /// # #[allow(unused)]
-    /// # fn template(name: &str, principal: PrincipalConstraint) -> Template {
-    /// #     let (id, all) = (PolicyID::from_string(name), ResourceConstraint::any());
-    /// #     Template::new(id, None, Annotations::new(), Effect::Permit, principal, ActionConstraint::any(), all, None)
-    /// # }
-    /// # #[allow(unused)]
-    /// # fn permit(name: &str) -> StaticPolicy {
-    /// #     StaticPolicy::try_from(template(name, PrincipalConstraint::any())).unwrap()
-    /// # }
     /// # use std::collections::HashSet;
     /// let pair = |key: &str, value: i64| (key.to_string(), PartialValue::from(Value::from(value)));
     /// let entity = Entity::new_with_attr_partial_value(
@@ -605,23 +428,7 @@ impl Entity {
     ///
     /// ```
     /// # use cedar_store::{ast::*, entities::*};
-    /// # #[allow(unused)]
     /// # fn uid(text: &str) -> EntityUID { EntityUID::from_normalized_str(text).unwrap() }
-    /// # #[allow(unused)]
-    /// # fn entity_with(own: &str, parents: &[&str]) -> Entity {
-    /// #     let mut entity = Entity::with_uid(uid(own));
-    /// #     parents.iter().for_each(|parent| entity.add_parent(uid(parent)));
-    /// #     entity
-    /// # }
-    /// # #[allow(unused)]
-    /// # fn template(name: &str, principal: PrincipalConstraint) -> Template {
-    /// #     let (id, all) = (PolicyID::from_string(name), ResourceConstraint::any());
-    /// #     Template::new(id, None, Annotations::new(), Effect::Permit, principal, ActionConstraint::any(), all, None)
-    /// # }
-    /// # #[allow(unused)]
-    /// # fn permit(name: &str) -> StaticPolicy {
-    /// #     StaticPolicy::try_from(template(name, PrincipalConstraint::any())).unwrap()
-    /// # }
     /// # use std::collections::HashSet;
     /// let pair = |key: &str, value: i64| (key.to_string(), PartialValue::from(Value::from(value)));
     /// let entity = Entity::new_with_attr_partial_value(
@@ -647,23 +454,7 @@ impl Entity {
     ///
     /// ```
     /// # use cedar_store::{ast::*, entities::*};
-    /// # #[allow(unused)]
     /// # fn uid(text: &str) -> EntityUID { EntityUID::from_normalized_str(text).unwrap() }
-    /// # #[allow(unused)]
-    /// # fn entity_with(own: &str, parents: &[&str]) -> Entity {
-    /// #     let mut entity = Entity::with_uid(uid(own));
-    /// #     parents.iter().for_each(|parent| entity.add_parent(uid(parent)));
-    /// #     entity
-    /// # }
-    /// # #[allow(unused)]
-    /// # fn template(name: &str, principal: PrincipalConstraint) -> Template {
-    /// #     let (id, all) = (PolicyID::from_string(name), ResourceConstraint::any());
-    /// #     Template::new(id, None, Annotations::new(), Effect::Permit, principal, ActionConstraint::any(), all, None)
-    /// # }
-    /// # #[allow(unused)]
-    /// # fn permit(name: &str) -> StaticPolicy {
-    /// #     StaticPolicy::try_from(template(name, PrincipalConstraint::any())).unwrap()
-    /// # }
     /// # use std::collections::HashSet;
     /// let pair = |key: &str, value: i64| (key.to_string(), PartialValue::from(Value::from(value)));
     /// let entity = Entity::new_with_attr_partial_value(
@@ -689,23 +480,7 @@ impl Entity {
     ///
     /// ```
     /// # use cedar_store::{ast::*, entities::*};
-    /// # #[allow(unused)]
     /// # fn uid(text: &str) -> EntityUID { EntityUID::from_normalized_str(text).unwrap() }
-    /// # #[allow(unused)]
-    /// # fn entity_with(own: &str, parents: &[&str]) -> Entity {
-    /// #     let mut entity = Entity::with_uid(uid(own));
-    /// #     parents.iter().for_each(|parent| entity.add_parent(uid(parent)));
-    /// #     entity
-    /// # }
-    /// # #[allow(unused)]
-    /// # fn template(name: &str, principal: PrincipalConstraint) -> Template {
-    /// #     let (id, all) = (PolicyID::from_string(name), ResourceConstraint::any());
-    /// #     Template::new(id, None, Annotations::new(), Effect::Permit, principal, ActionConstraint::any(), all, None)
-    /// # }
-    /// # #[allow(unused)]
-    /// # fn permit(name: &str) -> StaticPolicy {
-    /// #     StaticPolicy::try_from(template(name, PrincipalConstraint::any())).unwrap()
-    /// # }
     /// let mut entity = Entity::with_uid(uid(r#"A::"a""#));
     /// entity.add_indirect_ancestor(uid(r#"A::"b""#));
     /// entity.add_indirect_ancestor(uid(r#"A::"c""#));
@@ -725,23 +500,7 @@ impl Entity {
     ///
     /// ```
     /// # use cedar_store::{ast::*, entities::*};
-    /// # #[allow(unused)]
     /// # fn uid(text: &str) -> EntityUID { EntityUID::from_normalized_str(text).unwrap() }
-    /// # #[allow(unused)]
-    /// # fn entity_with(own: &str, parents: &[&str]) -> Entity {
-    /// #     let mut entity = Entity::with_uid(uid(own));
-    /// #     parents.iter().for_each(|parent| entity.add_parent(uid(parent)));
-    /// #     entity
-    /// # }
-    /// # #[allow(unused)]
-    /// # fn template(name: &str, principal: PrincipalConstraint) -> Template {
-    /// #     let (id, all) = (PolicyID::from_string(name), ResourceConstraint::any());
-    /// #     Template::new(id, None, Annotations::new(), Effect::Permit, principal, ActionConstraint::any(), all, None)
-    /// # }
-    /// # #[allow(unused)]
-    /// # fn permit(name: &str) -> StaticPolicy {
-    /// #     StaticPolicy::try_from(template(name, PrincipalConstraint::any())).unwrap()
-    /// # }
     /// let mut entity = Entity::with_uid(uid(r#"A::"a""#));
     /// entity.add_indirect_ancestor(uid(r#"A::"b""#));
     /// entity.add_indirect_ancestor(uid(r#"A::"c""#));
@@ -762,23 +521,7 @@ impl Entity {
     ///
     /// ```
     /// # use cedar_store::{ast::*, entities::*};
-    /// # #[allow(unused)]
     /// # fn uid(text: &str) -> EntityUID { EntityUID::from_normalized_str(text).unwrap() }
-    /// # #[allow(unused)]
-    /// # fn entity_with(own: &str, parents: &[&str]) -> Entity {
-    /// #     let mut entity = Entity::with_uid(uid(own));
-    /// #     parents.iter().for_each(|parent| entity.add_parent(uid(parent)));
-    /// #     entity
-    /// # }
-    /// # #[allow(unused)]
-    /// # fn template(name: &str, principal: PrincipalConstraint) -> Template {
-    /// #     let (id, all) = (PolicyID::from_string(name), ResourceConstraint::any());
-    /// #     Template::new(id, None, Annotations::new(), Effect::Permit, principal, ActionConstraint::any(), all, None)
-    /// # }
-    /// # #[allow(unused)]
-    /// # fn permit(name: &str) -> StaticPolicy {
-    /// #     StaticPolicy::try_from(template(name, PrincipalConstraint::any())).unwrap()
-    /// # }
     /// let mut entity = Entity::with_uid(uid(r#"A::"a""#));
     /// entity.add_indirect_ancestor(uid(r#"A::"b""#));
     /// entity.add_indirect_ancestor(uid(r#"A::"c""#));
@@ -822,23 +565,7 @@ impl Entity {
     ///
     /// ```
     /// # use cedar_store::{ast::*, entities::*};
-    /// # #[allow(unused)]
     /// # fn uid(text: &str) -> EntityUID { EntityUID::from_normalized_str(text).unwrap() }
-    /// # #[allow(unused)]
-    /// # fn entity_with(own: &str, parents: &[&str]) -> Entity {
-    /// #     let mut entity = Entity::with_uid(uid(own));
-    /// #     parents.iter().for_each(|parent| entity.add_parent(uid(parent)));
-    /// #     entity
-    /// # }
-    /// # #[allow(unused)]
-    /// # fn template(name: &str, principal: PrincipalConstraint) -> Template {
-    /// #     let (id, all) = (PolicyID::from_string(name), ResourceConstraint::any());
-    /// #     Template::new(id, None, Annotations::new(), Effect::Permit, principal, ActionConstraint::any(), all, None)
-    /// # }
-    /// # #[allow(unused)]
-    /// # fn permit(name: &str) -> StaticPolicy {
-    /// #     StaticPolicy::try_from(template(name, PrincipalConstraint::any())).unwrap()
-    /// # }
     /// let mut entity = Entity::with_uid(uid(r#"A::"a""#));
     /// entity.add_indirect_ancestor(uid(r#"A::"b""#));
     /// entity.add_indirect_ancestor(uid(r#"A::"c""#));
@@ -864,22 +591,11 @@ impl Entity {
     ///
     /// ```
     /// # use cedar_store::{ast::*, entities::*};
-    /// # #[allow(unused)]
     /// # fn uid(text: &str) -> EntityUID { EntityUID::from_normalized_str(text).unwrap() }
-    /// # #[allow(unused)]
     /// # fn entity_with(own: &str, parents: &[&str]) -> Entity {
     /// #     let mut entity = Entity::with_uid(uid(own));
     /// #     parents.iter().for_each(|parent| entity.add_parent(uid(parent)));
     /// #     entity
-    /// # }
-    /// # #[allow(unused)]
-    /// # fn template(name: &str, principal: PrincipalConstraint) -> Template {
-    /// #     let (id, all) = (PolicyID::from_string(name), ResourceConstraint::any());
-    /// #     Template::new(id, None, Annotations::new(), Effect::Permit, principal, ActionConstraint::any(), all, None)
-    /// # }
-    /// # #[allow(unused)]
-    /// # fn permit(name: &str) -> StaticPolicy {
-    /// #     StaticPolicy::try_from(template(name, PrincipalConstraint::any())).unwrap()
     /// # }
     /// let mut one = entity_with(r#"A::"a""#, &[r#"A::"b""#]);
     /// let mut other = Entity::with_uid(uid(r#"A::"a""#));
@@ -914,22 +630,11 @@ impl Entity {
     ///
     /// ```
     /// # use cedar_store::{ast::*, entities::*};
-    /// # #[allow(unused)]
     /// # fn uid(text: &str) -> EntityUID { EntityUID::from_normalized_str(text).unwrap() }
-    /// # #[allow(unused)]
     /// # fn entity_with(own: &str, parents: &[&str]) -> Entity {
     /// #     let mut entity = Entity::with_uid(uid(own));
     /// #     parents.iter().for_each(|parent| entity.add_parent(uid(parent)));
     /// #     entity
-    /// # }
-    /// # #[allow(unused)]
-    /// # fn template(name: &str, principal: PrincipalConstraint) -> Template {
-    /// #     let (id, all) = (PolicyID::from_string(name), ResourceConstraint::any());
-    /// #     Template::new(id, None, Annotations::new(), Effect::Permit, principal, ActionConstraint::any(), all, None)
-    /// # }
-    /// # #[allow(unused)]
-    /// # fn permit(name: &str) -> StaticPolicy {
-    /// #     StaticPolicy::try_from(template(name, PrincipalConstraint::any())).unwrap()
     /// # }
     /// let mut one = entity_with(r#"A::"a""#, &[r#"A::"b""#]);
     /// let mut other = Entity::with_uid(uid(r#"A::"a""#));
@@ -1055,22 +760,11 @@ impl Entity {
     ///
     /// ```
     /// # use cedar_store::{ast::*, entities::*};
-    /// # #[allow(unused)]
     /// # fn uid(text: &str) -> EntityUID { EntityUID::from_normalized_str(text).unwrap() }
-    /// # #[allow(unused)]
     /// # fn entity_with(own: &str, parents: &[&str]) -> Entity {
     /// #     let mut entity = Entity::with_uid(uid(own));
     /// #     parents.iter().for_each(|parent| entity.add_parent(uid(parent)));
     /// #     entity
-    /// # }
-    /// # #[allow(unused)]
-    /// # fn template(name: &str, principal: PrincipalConstraint) -> Template {
-    /// #     let (id, all) = (PolicyID::from_string(name), ResourceConstraint::any());
-    /// #     Template::new(id, None, Annotations::new(), Effect::Permit, principal, ActionConstraint::any(), all, None)
-    /// # }
-    /// # #[allow(unused)]
-    /// # fn permit(name: &str) -> StaticPolicy {
-    /// #     StaticPolicy::try_from(template(name, PrincipalConstraint::any())).unwrap()
     /// # }
     /// let own = entity_with(r#"A::"a""#, &[r#"A::"a""#]);
     /// assert!(!own.is_valid());
@@ -1090,22 +784,11 @@ impl Entity {
     ///
     /// ```
     /// # use cedar_store::{ast::*, entities::*};
-    /// # #[allow(unused)]
     /// # fn uid(text: &str) -> EntityUID { EntityUID::from_normalized_str(text).unwrap() }
-    /// # #[allow(unused)]
     /// # fn entity_with(own: &str, parents: &[&str]) -> Entity {
     /// #     let mut entity = Entity::with_uid(uid(own));
     /// #     parents.iter().for_each(|parent| entity.add_parent(uid(parent)));
     /// #     entity
-    /// # }
-    /// # #[allow(unused)]
-    /// # fn template(name: &str, principal: PrincipalConstraint) -> Template {
-    /// #     let (id, all) = (PolicyID::from_string(name), ResourceConstraint::any());
-    /// #     Template::new(id, None, Annotations::new(), Effect::Permit, principal, ActionConstraint::any(), all, None)
-    /// # }
-    /// # #[allow(unused)]
-    /// # fn permit(name: &str) -> StaticPolicy {
-    /// #     StaticPolicy::try_from(template(name, PrincipalConstraint::any())).unwrap()
     /// # }
     /// let own = entity_with(r#"A::"a""#, &[r#"A::"a""#]);
     /// assert!(!own.is_valid());
@@ -1124,22 +807,11 @@ impl Entity {
     ///
     /// ```
     /// # use cedar_store::{ast::*, entities::*};
-    /// # #[allow(unused)]
     /// # fn uid(text: &str) -> EntityUID { EntityUID::from_normalized_str(text).unwrap() }
-    /// # #[allow(unused)]
     /// # fn entity_with(own: &str, parents: &[&str]) -> Entity {
     /// #     let mut entity = Entity::with_uid(uid(own));
     /// #     parents.iter().for_each(|parent| entity.add_parent(uid(parent)));
     /// #     entity
-    /// # }
-    /// # #[allow(unused)]
-    /// # fn template(name: &str, principal: PrincipalConstraint) -> Template {
-    /// #     let (id, all) = (PolicyID::from_string(name), ResourceConstraint::any());
-    /// #     Template::new(id, None, Annotations::new(), Effect::Permit, principal, ActionConstraint::any(), all, None)
-    /// # }
-    /// # #[allow(unused)]
-    /// # fn permit(name: &str) -> StaticPolicy {
-    /// #     StaticPolicy::try_from(template(name, PrincipalConstraint::any())).unwrap()
     /// # }
     /// let own = entity_with(r#"A::"a""#, &[r#"A::"a""#]);
     /// assert!(!own.is_valid());
@@ -1177,23 +849,7 @@ impl Entity {
     ///
     /// ```
     /// # use cedar_store::{ast::*, entities::*};
-    /// # #[allow(unused)]
     /// # fn uid(text: &str) -> EntityUID { EntityUID::from_normalized_str(text).unwrap() }
-    /// # #[allow(unused)]
-    /// # fn entity_with(own: &str, parents: &[&str]) -> Entity {
-    /// #     let mut entity = Entity::with_uid(uid(own));
-    /// #     parents.iter().for_each(|parent| entity.add_parent(uid(parent)));
-    /// #     entity
-    /// # }
-    /// # #[allow(unused)]
-    /// # fn template(name: &str, principal: PrincipalConstraint) -> Template {
-    /// #     let (id, all) = (PolicyID::from_string(name), ResourceConstraint::any());
-    /// #     Template::new(id, None, Annotations::new(), Effect::Permit, principal, ActionConstraint::any(), all, None)
-    /// # }
-    /// # #[allow(unused)]
-    /// # fn permit(name: &str) -> StaticPolicy {
-    /// #     StaticPolicy::try_from(template(name, PrincipalConstraint::any())).unwrap()
-    /// # }
     /// let mut entity = Entity::with_uid(uid(r#"A::"a""#));
     /// entity.add_indirect_ancestor(uid(r#"A::"b""#));
     /// entity.add_indirect_ancestor(uid(r#"A::"c""#));
@@ -1214,23 +870,7 @@ impl Entity {
     ///
     /// ```
     /// # use cedar_store::{ast::*, entities::*};
-    /// # #[allow(unused)]
     /// # fn uid(text: &str) -> EntityUID { EntityUID::from_normalized_str(text).unwrap() }
-    /// # #[allow(unused)]
-    /// # fn entity_with(own: &str, parents: &[&str]) -> Entity {
-    /// #     let mut entity = Entity::with_uid(uid(own));
-    /// #     parents.iter().for_each(|parent| entity.add_parent(uid(parent)));
-    /// #     entity
-    /// # }
-    /// # #[allow(unused)]
-    /// # fn template(name: &str, principal: PrincipalConstraint) -> Template {
-    /// #     let (id, all) = (PolicyID::from_string(name), ResourceConstraint::any());
-    /// #     Template::new(id, None, Annotations::new(), Effect::Permit, principal, ActionConstraint::any(), all, None)
-    /// # }
-    /// # #[allow(unused)]
-    /// # fn permit(name: &str) -> StaticPolicy {
-    /// #     StaticPolicy::try_from(template(name, PrincipalConstraint::any())).unwrap()
-    /// # }
     /// let mut entity = Entity::with_uid(uid(r#"A::"a""#));
     /// entity.add_indirect_ancestor(uid(r#"A::"b""#));
     /// entity.add_indirect_ancestor(uid(r#"A::"c""#));
@@ -1258,22 +898,11 @@ impl Entity {
     ///
     /// ```
     /// # use cedar_store::{ast::*, entities::*};
-    /// # #[allow(unused)]
     /// # fn uid(text: &str) -> EntityUID { EntityUID::from_normalized_str(text).unwrap() }
-    /// # #[allow(unused)]
     /// # fn entity_with(own: &str, parents: &[&str]) -> Entity {
     /// #     let mut entity = Entity::with_uid(uid(own));
     /// #     parents.iter().for_each(|parent| entity.add_parent(uid(parent)));
     /// #     entity
-    /// # }
-    /// # #[allow(unused)]
-    /// # fn template(name: &str, principal: PrincipalConstraint) -> Template {
-    /// #     let (id, all) = (PolicyID::from_string(name), ResourceConstraint::any());
-    /// #     Template::new(id, None, Annotations::new(), Effect::Permit, principal, ActionConstraint::any(), all, None)
-    /// # }
-    /// # #[allow(unused)]
-    /// # fn permit(name: &str) -> StaticPolicy {
-    /// #     StaticPolicy::try_from(template(name, PrincipalConstraint::any())).unwrap()
     /// # }
     /// let mut entity = entity_with(r#"A::"a""#, &[r#"A::"b""#]);
     /// entity.add_indirect_ancestor(uid(r#"A::"c""#));
@@ -1292,22 +921,11 @@ impl Entity {
     ///
     /// ```
     /// # use cedar_store::{ast::*, entities::*};
-    /// # #[allow(unused)]
     /// # fn uid(text: &str) -> EntityUID { EntityUID::from_normalized_str(text).unwrap() }
-    /// # #[allow(unused)]
     /// # fn entity_with(own: &str, parents: &[&str]) -> Entity {
     /// #     let mut entity = Entity::with_uid(uid(own));
     /// #     parents.iter().for_each(|parent| entity.add_parent(uid(parent)));
     /// #     entity
-    /// # }
-    /// # #[allow(unused)]
-    /// # fn template(name: &str, principal: PrincipalConstraint) -> Template {
-    /// #     let (id, all) = (PolicyID::from_string(name), ResourceConstraint::any());
-    /// #     Template::new(id, None, Annotations::new(), Effect::Permit, principal, ActionConstraint::any(), all, None)
-    /// # }
-    /// # #[allow(unused)]
-    /// # fn permit(name: &str) -> StaticPolicy {
-    /// #     StaticPolicy::try_from(template(name, PrincipalConstraint::any())).unwrap()
     /// # }
     /// let mut entity = entity_with(r#"A::"a""#, &[r#"A::"b""#]);
     /// entity.add_indirect_ancestor(uid(r#"A::"c""#));
@@ -1342,22 +960,11 @@ impl Entity {
     ///
     /// ```
     /// # use cedar_store::{ast::*, entities::*};
-    /// # #[allow(unused)]
     /// # fn uid(text: &str) -> EntityUID { EntityUID::from_normalized_str(text).unwrap() }
-    /// # #[allow(unused)]
     /// # fn entity_with(own: &str, parents: &[&str]) -> Entity {
     /// #     let mut entity = Entity::with_uid(uid(own));
     /// #     parents.iter().for_each(|parent| entity.add_parent(uid(parent)));
     /// #     entity
-    /// # }
-    /// # #[allow(unused)]
-    /// # fn template(name: &str, principal: PrincipalConstraint) -> Template {
-    /// #     let (id, all) = (PolicyID::from_string(name), ResourceConstraint::any());
-    /// #     Template::new(id, None, Annotations::new(), Effect::Permit, principal, ActionConstraint::any(), all, None)
-    /// # }
-    /// # #[allow(unused)]
-    /// # fn permit(name: &str) -> StaticPolicy {
-    /// #     StaticPolicy::try_from(template(name, PrincipalConstraint::any())).unwrap()
     /// # }
     /// let mut entity = entity_with(r#"A::"a""#, &[r#"A::"b""#]);
     /// entity.add_indirect_ancestor(uid(r#"A::"c""#));

@@ -158,22 +158,11 @@ pub struct Work {
 ///
 /// ```
 /// # use cedar_store::{ast::*, entities::*};
-/// # #[allow(unused)]
 /// # fn uid(text: &str) -> EntityUID { EntityUID::from_normalized_str(text).unwrap() }
-/// # #[allow(unused)]
 /// # fn entity_with(own: &str, parents: &[&str]) -> Entity {
 /// #     let mut entity = Entity::with_uid(uid(own));
 /// #     parents.iter().for_each(|parent| entity.add_parent(uid(parent)));
 /// #     entity
-/// # }
-/// # #[allow(unused)]
-/// # fn template(name: &str, principal: PrincipalConstraint) -> Template {
-/// #     let (id, all) = (PolicyID::from_string(name), ResourceConstraint::any());
-/// #     Template::new(id, None, Annotations::new(), Effect::Permit, principal, ActionConstraint::any(), all, None)
-/// # }
-/// # #[allow(unused)]
-/// # fn permit(name: &str) -> StaticPolicy {
-/// #     StaticPolicy::try_from(template(name, PrincipalConstraint::any())).unwrap()
 /// # }
 /// use cedar_store::transitive_closure::{TcError, compute_tc, enforce_tc_and_dag};
 /// # use std::collections::HashMap;
@@ -211,22 +200,11 @@ pub fn compute_tc<K: Clone + Eq + Hash + Debug + Display, V: TCNode<K>, S: Build
 ///
 /// ```
 /// # use cedar_store::{ast::*, entities::*};
-/// # #[allow(unused)]
 /// # fn uid(text: &str) -> EntityUID { EntityUID::from_normalized_str(text).unwrap() }
-/// # #[allow(unused)]
 /// # fn entity_with(own: &str, parents: &[&str]) -> Entity {
 /// #     let mut entity = Entity::with_uid(uid(own));
 /// #     parents.iter().for_each(|parent| entity.add_parent(uid(parent)));
 /// #     entity
-/// # }
-/// # #[allow(unused)]
-/// # fn template(name: &str, principal: PrincipalConstraint) -> Template {
-/// #     let (id, all) = (PolicyID::from_string(name), ResourceConstraint::any());
-/// #     Template::new(id, None, Annotations::new(), Effect::Permit, principal, ActionConstraint::any(), all, None)
-/// # }
-/// # #[allow(unused)]
-/// # fn permit(name: &str) -> StaticPolicy {
-/// #     StaticPolicy::try_from(template(name, PrincipalConstraint::any())).unwrap()
 /// # }
 /// use cedar_store::transitive_closure::{compute_tc_counted, repair_tc, repair_tc_counted};
 /// # use std::collections::{HashMap, HashSet};
@@ -283,22 +261,11 @@ pub fn compute_tc_counted<K: Clone + Eq + Hash + Debug + Display, V: TCNode<K>, 
 ///
 /// ```
 /// # use cedar_store::{ast::*, entities::*};
-/// # #[allow(unused)]
 /// # fn uid(text: &str) -> EntityUID { EntityUID::from_normalized_str(text).unwrap() }
-/// # #[allow(unused)]
 /// # fn entity_with(own: &str, parents: &[&str]) -> Entity {
 /// #     let mut entity = Entity::with_uid(uid(own));
 /// #     parents.iter().for_each(|parent| entity.add_parent(uid(parent)));
 /// #     entity
-/// # }
-/// # #[allow(unused)]
-/// # fn template(name: &str, principal: PrincipalConstraint) -> Template {
-/// #     let (id, all) = (PolicyID::from_string(name), ResourceConstraint::any());
-/// #     Template::new(id, None, Annotations::new(), Effect::Permit, principal, ActionConstraint::any(), all, None)
-/// # }
-/// # #[allow(unused)]
-/// # fn permit(name: &str) -> StaticPolicy {
-/// #     StaticPolicy::try_from(template(name, PrincipalConstraint::any())).unwrap()
 /// # }
 /// use cedar_store::transitive_closure::{compute_tc_counted, repair_tc, repair_tc_counted};
 /// # use std::collections::{HashMap, HashSet};
@@ -341,22 +308,11 @@ pub fn repair_tc<K: Clone + Eq + Hash + Debug + Display, V: TCNode<K>, S: BuildH
 ///
 /// ```
 /// # use cedar_store::{ast::*, entities::*};
-/// # #[allow(unused)]
 /// # fn uid(text: &str) -> EntityUID { EntityUID::from_normalized_str(text).unwrap() }
-/// # #[allow(unused)]
 /// # fn entity_with(own: &str, parents: &[&str]) -> Entity {
 /// #     let mut entity = Entity::with_uid(uid(own));
 /// #     parents.iter().for_each(|parent| entity.add_parent(uid(parent)));
 /// #     entity
-/// # }
-/// # #[allow(unused)]
-/// # fn template(name: &str, principal: PrincipalConstraint) -> Template {
-/// #     let (id, all) = (PolicyID::from_string(name), ResourceConstraint::any());
-/// #     Template::new(id, None, Annotations::new(), Effect::Permit, principal, ActionConstraint::any(), all, None)
-/// # }
-/// # #[allow(unused)]
-/// # fn permit(name: &str) -> StaticPolicy {
-/// #     StaticPolicy::try_from(template(name, PrincipalConstraint::any())).unwrap()
 /// # }
 /// use cedar_store::transitive_closure::{compute_tc_counted, repair_tc, repair_tc_counted};
 /// # use std::collections::{HashMap, HashSet};
@@ -409,22 +365,11 @@ pub fn repair_tc_counted<
 ///
 /// ```
 /// # use cedar_store::{ast::*, entities::*};
-/// # #[allow(unused)]
 /// # fn uid(text: &str) -> EntityUID { EntityUID::from_normalized_str(text).unwrap() }
-/// # #[allow(unused)]
 /// # fn entity_with(own: &str, parents: &[&str]) -> Entity {
 /// #     let mut entity = Entity::with_uid(uid(own));
 /// #     parents.iter().for_each(|parent| entity.add_parent(uid(parent)));
 /// #     entity
-/// # }
-/// # #[allow(unused)]
-/// # fn template(name: &str, principal: PrincipalConstraint) -> Template {
-/// #     let (id, all) = (PolicyID::from_string(name), ResourceConstraint::any());
-/// #     Template::new(id, None, Annotations::new(), Effect::Permit, principal, ActionConstraint::any(), all, None)
-/// # }
-/// # #[allow(unused)]
-/// # fn permit(name: &str) -> StaticPolicy {
-/// #     StaticPolicy::try_from(template(name, PrincipalConstraint::any())).unwrap()
 /// # }
 /// use cedar_store::transitive_closure::{TcError, compute_tc, enforce_tc_and_dag};
 /// # use std::collections::HashMap;

@@ -40,23 +40,6 @@ impl StaticPolicy {
     ///
     /// ```
     /// # use cedar_store::{ast::*, entities::*};
-    /// # #[allow(unused)]
-    /// # fn uid(text: &str) -> EntityUID { EntityUID::from_normalized_str(text).unwrap() }
-    /// # #[allow(unused)]
-    /// # fn entity_with(own: &str, parents: &[&str]) -> Entity {
-    /// #     let mut entity = Entity::with_uid(uid(own));
-    /// #     parents.iter().for_each(|parent| entity.add_parent(uid(parent)));
-    /// #     entity
-    /// # }
-    /// # #[allow(unused)]
-    /// # fn template(name: &str, principal: PrincipalConstraint) -> Template {
-    /// #     let (id, all) = (PolicyID::from_string(name), ResourceConstraint::any());
-    /// #     Template::new(id, None, Annotations::new(), Effect::Permit, principal, ActionConstraint::any(), all, None)
-    /// # }
-    /// # #[allow(unused)]
-    /// # fn permit(name: &str) -> StaticPolicy {
-    /// #     StaticPolicy::try_from(template(name, PrincipalConstraint::any())).unwrap()
-    /// # }
     /// let of = |principal| {
     ///     let id = PolicyID::from_string("p");
     ///     let (action, resource) = (ActionConstraint::any(), ResourceConstraint::any());
@@ -97,23 +80,6 @@ impl StaticPolicy {
     ///
     /// ```
     /// # use cedar_store::{ast::*, entities::*};
-    /// # #[allow(unused)]
-    /// # fn uid(text: &str) -> EntityUID { EntityUID::from_normalized_str(text).unwrap() }
-    /// # #[allow(unused)]
-    /// # fn entity_with(own: &str, parents: &[&str]) -> Entity {
-    /// #     let mut entity = Entity::with_uid(uid(own));
-    /// #     parents.iter().for_each(|parent| entity.add_parent(uid(parent)));
-    /// #     entity
-    /// # }
-    /// # #[allow(unused)]
-    /// # fn template(name: &str, principal: PrincipalConstraint) -> Template {
-    /// #     let (id, all) = (PolicyID::from_string(name), ResourceConstraint::any());
-    /// #     Template::new(id, None, Annotations::new(), Effect::Permit, principal, ActionConstraint::any(), all, None)
-    /// # }
-    /// # #[allow(unused)]
-    /// # fn permit(name: &str) -> StaticPolicy {
-    /// #     StaticPolicy::try_from(template(name, PrincipalConstraint::any())).unwrap()
-    /// # }
     /// let of = |principal| {
     ///     let id = PolicyID::from_string("p");
     ///     let (action, resource) = (ActionConstraint::any(), ResourceConstraint::any());
@@ -135,23 +101,6 @@ impl StaticPolicy {
     ///
     /// ```
     /// # use cedar_store::{ast::*, entities::*};
-    /// # #[allow(unused)]
-    /// # fn uid(text: &str) -> EntityUID { EntityUID::from_normalized_str(text).unwrap() }
-    /// # #[allow(unused)]
-    /// # fn entity_with(own: &str, parents: &[&str]) -> Entity {
-    /// #     let mut entity = Entity::with_uid(uid(own));
-    /// #     parents.iter().for_each(|parent| entity.add_parent(uid(parent)));
-    /// #     entity
-    /// # }
-    /// # #[allow(unused)]
-    /// # fn template(name: &str, principal: PrincipalConstraint) -> Template {
-    /// #     let (id, all) = (PolicyID::from_string(name), ResourceConstraint::any());
-    /// #     Template::new(id, None, Annotations::new(), Effect::Permit, principal, ActionConstraint::any(), all, None)
-    /// # }
-    /// # #[allow(unused)]
-    /// # fn permit(name: &str) -> StaticPolicy {
-    /// #     StaticPolicy::try_from(template(name, PrincipalConstraint::any())).unwrap()
-    /// # }
     /// let of = |principal| {
     ///     let id = PolicyID::from_string("p");
     ///     let (action, resource) = (ActionConstraint::any(), ResourceConstraint::any());
@@ -177,23 +126,6 @@ impl StaticPolicy {
     ///
     /// ```
     /// # use cedar_store::{ast::*, entities::*};
-    /// # #[allow(unused)]
-    /// # fn uid(text: &str) -> EntityUID { EntityUID::from_normalized_str(text).unwrap() }
-    /// # #[allow(unused)]
-    /// # fn entity_with(own: &str, parents: &[&str]) -> Entity {
-    /// #     let mut entity = Entity::with_uid(uid(own));
-    /// #     parents.iter().for_each(|parent| entity.add_parent(uid(parent)));
-    /// #     entity
-    /// # }
-    /// # #[allow(unused)]
-    /// # fn template(name: &str, principal: PrincipalConstraint) -> Template {
-    /// #     let (id, all) = (PolicyID::from_string(name), ResourceConstraint::any());
-    /// #     Template::new(id, None, Annotations::new(), Effect::Permit, principal, ActionConstraint::any(), all, None)
-    /// # }
-    /// # #[allow(unused)]
-    /// # fn permit(name: &str) -> StaticPolicy {
-    /// #     StaticPolicy::try_from(template(name, PrincipalConstraint::any())).unwrap()
-    /// # }
     /// let of = |principal| {
     ///     let id = PolicyID::from_string("p");
     ///     let (action, resource) = (ActionConstraint::any(), ResourceConstraint::any());
@@ -217,23 +149,6 @@ impl StaticPolicy {
     ///
     /// ```
     /// # use cedar_store::{ast::*, entities::*};
-    /// # #[allow(unused)]
-    /// # fn uid(text: &str) -> EntityUID { EntityUID::from_normalized_str(text).unwrap() }
-    /// # #[allow(unused)]
-    /// # fn entity_with(own: &str, parents: &[&str]) -> Entity {
-    /// #     let mut entity = Entity::with_uid(uid(own));
-    /// #     parents.iter().for_each(|parent| entity.add_parent(uid(parent)));
-    /// #     entity
-    /// # }
-    /// # #[allow(unused)]
-    /// # fn template(name: &str, principal: PrincipalConstraint) -> Template {
-    /// #     let (id, all) = (PolicyID::from_string(name), ResourceConstraint::any());
-    /// #     Template::new(id, None, Annotations::new(), Effect::Permit, principal, ActionConstraint::any(), all, None)
-    /// # }
-    /// # #[allow(unused)]
-    /// # fn permit(name: &str) -> StaticPolicy {
-    /// #     StaticPolicy::try_from(template(name, PrincipalConstraint::any())).unwrap()
-    /// # }
     /// let of = |principal| {
     ///     let id = PolicyID::from_string("p");
     ///     let (action, resource) = (ActionConstraint::any(), ResourceConstraint::any());
@@ -259,23 +174,6 @@ impl StaticPolicy {
     ///
     /// ```
     /// # use cedar_store::{ast::*, entities::*};
-    /// # #[allow(unused)]
-    /// # fn uid(text: &str) -> EntityUID { EntityUID::from_normalized_str(text).unwrap() }
-    /// # #[allow(unused)]
-    /// # fn entity_with(own: &str, parents: &[&str]) -> Entity {
-    /// #     let mut entity = Entity::with_uid(uid(own));
-    /// #     parents.iter().for_each(|parent| entity.add_parent(uid(parent)));
-    /// #     entity
-    /// # }
-    /// # #[allow(unused)]
-    /// # fn template(name: &str, principal: PrincipalConstraint) -> Template {
-    /// #     let (id, all) = (PolicyID::from_string(name), ResourceConstraint::any());
-    /// #     Template::new(id, None, Annotations::new(), Effect::Permit, principal, ActionConstraint::any(), all, None)
-    /// # }
-    /// # #[allow(unused)]
-    /// # fn permit(name: &str) -> StaticPolicy {
-    /// #     StaticPolicy::try_from(template(name, PrincipalConstraint::any())).unwrap()
-    /// # }
     /// let of = |principal| {
     ///     let id = PolicyID::from_string("p");
     ///     let (action, resource) = (ActionConstraint::any(), ResourceConstraint::any());
@@ -297,23 +195,6 @@ impl StaticPolicy {
     ///
     /// ```
     /// # use cedar_store::{ast::*, entities::*};
-    /// # #[allow(unused)]
-    /// # fn uid(text: &str) -> EntityUID { EntityUID::from_normalized_str(text).unwrap() }
-    /// # #[allow(unused)]
-    /// # fn entity_with(own: &str, parents: &[&str]) -> Entity {
-    /// #     let mut entity = Entity::with_uid(uid(own));
-    /// #     parents.iter().for_each(|parent| entity.add_parent(uid(parent)));
-    /// #     entity
-    /// # }
-    /// # #[allow(unused)]
-    /// # fn template(name: &str, principal: PrincipalConstraint) -> Template {
-    /// #     let (id, all) = (PolicyID::from_string(name), ResourceConstraint::any());
-    /// #     Template::new(id, None, Annotations::new(), Effect::Permit, principal, ActionConstraint::any(), all, None)
-    /// # }
-    /// # #[allow(unused)]
-    /// # fn permit(name: &str) -> StaticPolicy {
-    /// #     StaticPolicy::try_from(template(name, PrincipalConstraint::any())).unwrap()
-    /// # }
     /// let of = |principal| {
     ///     let id = PolicyID::from_string("p");
     ///     let (action, resource) = (ActionConstraint::any(), ResourceConstraint::any());
@@ -335,20 +216,10 @@ impl StaticPolicy {
     ///
     /// ```
     /// # use cedar_store::{ast::*, entities::*};
-    /// # #[allow(unused)]
-    /// # fn uid(text: &str) -> EntityUID { EntityUID::from_normalized_str(text).unwrap() }
-    /// # #[allow(unused)]
-    /// # fn entity_with(own: &str, parents: &[&str]) -> Entity {
-    /// #     let mut entity = Entity::with_uid(uid(own));
-    /// #     parents.iter().for_each(|parent| entity.add_parent(uid(parent)));
-    /// #     entity
-    /// # }
-    /// # #[allow(unused)]
     /// # fn template(name: &str, principal: PrincipalConstraint) -> Template {
     /// #     let (id, all) = (PolicyID::from_string(name), ResourceConstraint::any());
     /// #     Template::new(id, None, Annotations::new(), Effect::Permit, principal, ActionConstraint::any(), all, None)
     /// # }
-    /// # #[allow(unused)]
     /// # fn permit(name: &str) -> StaticPolicy {
     /// #     StaticPolicy::try_from(template(name, PrincipalConstraint::any())).unwrap()
     /// # }
@@ -367,20 +238,10 @@ impl StaticPolicy {
     ///
     /// ```
     /// # use cedar_store::{ast::*, entities::*};
-    /// # #[allow(unused)]
-    /// # fn uid(text: &str) -> EntityUID { EntityUID::from_normalized_str(text).unwrap() }
-    /// # #[allow(unused)]
-    /// # fn entity_with(own: &str, parents: &[&str]) -> Entity {
-    /// #     let mut entity = Entity::with_uid(uid(own));
-    /// #     parents.iter().for_each(|parent| entity.add_parent(uid(parent)));
-    /// #     entity
-    /// # }
-    /// # #[allow(unused)]
     /// # fn template(name: &str, principal: PrincipalConstraint) -> Template {
     /// #     let (id, all) = (PolicyID::from_string(name), ResourceConstraint::any());
     /// #     Template::new(id, None, Annotations::new(), Effect::Permit, principal, ActionConstraint::any(), all, None)
     /// # }
-    /// # #[allow(unused)]
     /// # fn permit(name: &str) -> StaticPolicy {
     /// #     StaticPolicy::try_from(template(name, PrincipalConstraint::any())).unwrap()
     /// # }
@@ -399,20 +260,10 @@ impl StaticPolicy {
     ///
     /// ```
     /// # use cedar_store::{ast::*, entities::*};
-    /// # #[allow(unused)]
-    /// # fn uid(text: &str) -> EntityUID { EntityUID::from_normalized_str(text).unwrap() }
-    /// # #[allow(unused)]
-    /// # fn entity_with(own: &str, parents: &[&str]) -> Entity {
-    /// #     let mut entity = Entity::with_uid(uid(own));
-    /// #     parents.iter().for_each(|parent| entity.add_parent(uid(parent)));
-    /// #     entity
-    /// # }
-    /// # #[allow(unused)]
     /// # fn template(name: &str, principal: PrincipalConstraint) -> Template {
     /// #     let (id, all) = (PolicyID::from_string(name), ResourceConstraint::any());
     /// #     Template::new(id, None, Annotations::new(), Effect::Permit, principal, ActionConstraint::any(), all, None)
     /// # }
-    /// # #[allow(unused)]
     /// # fn permit(name: &str) -> StaticPolicy {
     /// #     StaticPolicy::try_from(template(name, PrincipalConstraint::any())).unwrap()
     /// # }
@@ -431,20 +282,10 @@ impl StaticPolicy {
     ///
     /// ```
     /// # use cedar_store::{ast::*, entities::*};
-    /// # #[allow(unused)]
-    /// # fn uid(text: &str) -> EntityUID { EntityUID::from_normalized_str(text).unwrap() }
-    /// # #[allow(unused)]
-    /// # fn entity_with(own: &str, parents: &[&str]) -> Entity {
-    /// #     let mut entity = Entity::with_uid(uid(own));
-    /// #     parents.iter().for_each(|parent| entity.add_parent(uid(parent)));
-    /// #     entity
-    /// # }
-    /// # #[allow(unused)]
     /// # fn template(name: &str, principal: PrincipalConstraint) -> Template {
     /// #     let (id, all) = (PolicyID::from_string(name), ResourceConstraint::any());
     /// #     Template::new(id, None, Annotations::new(), Effect::Permit, principal, ActionConstraint::any(), all, None)
     /// # }
-    /// # #[allow(unused)]
     /// # fn permit(name: &str) -> StaticPolicy {
     /// #     StaticPolicy::try_from(template(name, PrincipalConstraint::any())).unwrap()
     /// # }
@@ -463,20 +304,10 @@ impl StaticPolicy {
     ///
     /// ```
     /// # use cedar_store::{ast::*, entities::*};
-    /// # #[allow(unused)]
-    /// # fn uid(text: &str) -> EntityUID { EntityUID::from_normalized_str(text).unwrap() }
-    /// # #[allow(unused)]
-    /// # fn entity_with(own: &str, parents: &[&str]) -> Entity {
-    /// #     let mut entity = Entity::with_uid(uid(own));
-    /// #     parents.iter().for_each(|parent| entity.add_parent(uid(parent)));
-    /// #     entity
-    /// # }
-    /// # #[allow(unused)]
     /// # fn template(name: &str, principal: PrincipalConstraint) -> Template {
     /// #     let (id, all) = (PolicyID::from_string(name), ResourceConstraint::any());
     /// #     Template::new(id, None, Annotations::new(), Effect::Permit, principal, ActionConstraint::any(), all, None)
     /// # }
-    /// # #[allow(unused)]
     /// # fn permit(name: &str) -> StaticPolicy {
     /// #     StaticPolicy::try_from(template(name, PrincipalConstraint::any())).unwrap()
     /// # }
@@ -495,20 +326,10 @@ impl StaticPolicy {
     ///
     /// ```
     /// # use cedar_store::{ast::*, entities::*};
-    /// # #[allow(unused)]
-    /// # fn uid(text: &str) -> EntityUID { EntityUID::from_normalized_str(text).unwrap() }
-    /// # #[allow(unused)]
-    /// # fn entity_with(own: &str, parents: &[&str]) -> Entity {
-    /// #     let mut entity = Entity::with_uid(uid(own));
-    /// #     parents.iter().for_each(|parent| entity.add_parent(uid(parent)));
-    /// #     entity
-    /// # }
-    /// # #[allow(unused)]
     /// # fn template(name: &str, principal: PrincipalConstraint) -> Template {
     /// #     let (id, all) = (PolicyID::from_string(name), ResourceConstraint::any());
     /// #     Template::new(id, None, Annotations::new(), Effect::Permit, principal, ActionConstraint::any(), all, None)
     /// # }
-    /// # #[allow(unused)]
     /// # fn permit(name: &str) -> StaticPolicy {
     /// #     StaticPolicy::try_from(template(name, PrincipalConstraint::any())).unwrap()
     /// # }
@@ -527,20 +348,10 @@ impl StaticPolicy {
     ///
     /// ```
     /// # use cedar_store::{ast::*, entities::*};
-    /// # #[allow(unused)]
-    /// # fn uid(text: &str) -> EntityUID { EntityUID::from_normalized_str(text).unwrap() }
-    /// # #[allow(unused)]
-    /// # fn entity_with(own: &str, parents: &[&str]) -> Entity {
-    /// #     let mut entity = Entity::with_uid(uid(own));
-    /// #     parents.iter().for_each(|parent| entity.add_parent(uid(parent)));
-    /// #     entity
-    /// # }
-    /// # #[allow(unused)]
     /// # fn template(name: &str, principal: PrincipalConstraint) -> Template {
     /// #     let (id, all) = (PolicyID::from_string(name), ResourceConstraint::any());
     /// #     Template::new(id, None, Annotations::new(), Effect::Permit, principal, ActionConstraint::any(), all, None)
     /// # }
-    /// # #[allow(unused)]
     /// # fn permit(name: &str) -> StaticPolicy {
     /// #     StaticPolicy::try_from(template(name, PrincipalConstraint::any())).unwrap()
     /// # }
@@ -559,20 +370,10 @@ impl StaticPolicy {
     ///
     /// ```
     /// # use cedar_store::{ast::*, entities::*};
-    /// # #[allow(unused)]
-    /// # fn uid(text: &str) -> EntityUID { EntityUID::from_normalized_str(text).unwrap() }
-    /// # #[allow(unused)]
-    /// # fn entity_with(own: &str, parents: &[&str]) -> Entity {
-    /// #     let mut entity = Entity::with_uid(uid(own));
-    /// #     parents.iter().for_each(|parent| entity.add_parent(uid(parent)));
-    /// #     entity
-    /// # }
-    /// # #[allow(unused)]
     /// # fn template(name: &str, principal: PrincipalConstraint) -> Template {
     /// #     let (id, all) = (PolicyID::from_string(name), ResourceConstraint::any());
     /// #     Template::new(id, None, Annotations::new(), Effect::Permit, principal, ActionConstraint::any(), all, None)
     /// # }
-    /// # #[allow(unused)]
     /// # fn permit(name: &str) -> StaticPolicy {
     /// #     StaticPolicy::try_from(template(name, PrincipalConstraint::any())).unwrap()
     /// # }

@@ -42,22 +42,9 @@ impl Template {
     ///
     /// ```
     /// # use cedar_store::{ast::*, entities::*};
-    /// # #[allow(unused)]
-    /// # fn uid(text: &str) -> EntityUID { EntityUID::from_normalized_str(text).unwrap() }
-    /// # #[allow(unused)]
-    /// # fn entity_with(own: &str, parents: &[&str]) -> Entity {
-    /// #     let mut entity = Entity::with_uid(uid(own));
-    /// #     parents.iter().for_each(|parent| entity.add_parent(uid(parent)));
-    /// #     entity
-    /// # }
-    /// # #[allow(unused)]
     /// # fn template(name: &str, principal: PrincipalConstraint) -> Template {
     /// #     let (id, all) = (PolicyID::from_string(name), ResourceConstraint::any());
     /// #     Template::new(id, None, Annotations::new(), Effect::Permit, principal, ActionConstraint::any(), all, None)
-    /// # }
-    /// # #[allow(unused)]
-    /// # fn permit(name: &str) -> StaticPolicy {
-    /// #     StaticPolicy::try_from(template(name, PrincipalConstraint::any())).unwrap()
     /// # }
     /// let template = Template::new(
     ///     PolicyID::from_string("t"),
@@ -108,22 +95,9 @@ impl Template {
     ///
     /// ```
     /// # use cedar_store::{ast::*, entities::*};
-    /// # #[allow(unused)]
-    /// # fn uid(text: &str) -> EntityUID { EntityUID::from_normalized_str(text).unwrap() }
-    /// # #[allow(unused)]
-    /// # fn entity_with(own: &str, parents: &[&str]) -> Entity {
-    /// #     let mut entity = Entity::with_uid(uid(own));
-    /// #     parents.iter().for_each(|parent| entity.add_parent(uid(parent)));
-    /// #     entity
-    /// # }
-    /// # #[allow(unused)]
     /// # fn template(name: &str, principal: PrincipalConstraint) -> Template {
     /// #     let (id, all) = (PolicyID::from_string(name), ResourceConstraint::any());
     /// #     Template::new(id, None, Annotations::new(), Effect::Permit, principal, ActionConstraint::any(), all, None)
-    /// # }
-    /// # #[allow(unused)]
-    /// # fn permit(name: &str) -> StaticPolicy {
-    /// #     StaticPolicy::try_from(template(name, PrincipalConstraint::any())).unwrap()
     /// # }
     /// # use std::sync::Arc;
     /// let template = Template::new_shared(
@@ -175,22 +149,9 @@ impl Template {
     ///
     /// ```
     /// # use cedar_store::{ast::*, entities::*};
-    /// # #[allow(unused)]
-    /// # fn uid(text: &str) -> EntityUID { EntityUID::from_normalized_str(text).unwrap() }
-    /// # #[allow(unused)]
-    /// # fn entity_with(own: &str, parents: &[&str]) -> Entity {
-    /// #     let mut entity = Entity::with_uid(uid(own));
-    /// #     parents.iter().for_each(|parent| entity.add_parent(uid(parent)));
-    /// #     entity
-    /// # }
-    /// # #[allow(unused)]
     /// # fn template(name: &str, principal: PrincipalConstraint) -> Template {
     /// #     let (id, all) = (PolicyID::from_string(name), ResourceConstraint::any());
     /// #     Template::new(id, None, Annotations::new(), Effect::Permit, principal, ActionConstraint::any(), all, None)
-    /// # }
-    /// # #[allow(unused)]
-    /// # fn permit(name: &str) -> StaticPolicy {
-    /// #     StaticPolicy::try_from(template(name, PrincipalConstraint::any())).unwrap()
     /// # }
     /// let template = Template::new(
     ///     PolicyID::from_string("t"),
@@ -223,22 +184,9 @@ impl Template {
     ///
     /// ```
     /// # use cedar_store::{ast::*, entities::*};
-    /// # #[allow(unused)]
-    /// # fn uid(text: &str) -> EntityUID { EntityUID::from_normalized_str(text).unwrap() }
-    /// # #[allow(unused)]
-    /// # fn entity_with(own: &str, parents: &[&str]) -> Entity {
-    /// #     let mut entity = Entity::with_uid(uid(own));
-    /// #     parents.iter().for_each(|parent| entity.add_parent(uid(parent)));
-    /// #     entity
-    /// # }
-    /// # #[allow(unused)]
     /// # fn template(name: &str, principal: PrincipalConstraint) -> Template {
     /// #     let (id, all) = (PolicyID::from_string(name), ResourceConstraint::any());
     /// #     Template::new(id, None, Annotations::new(), Effect::Permit, principal, ActionConstraint::any(), all, None)
-    /// # }
-    /// # #[allow(unused)]
-    /// # fn permit(name: &str) -> StaticPolicy {
-    /// #     StaticPolicy::try_from(template(name, PrincipalConstraint::any())).unwrap()
     /// # }
     /// let template = Template::new(
     ///     PolicyID::from_string("t"),
@@ -264,22 +212,9 @@ impl Template {
     ///
     /// ```
     /// # use cedar_store::{ast::*, entities::*};
-    /// # #[allow(unused)]
-    /// # fn uid(text: &str) -> EntityUID { EntityUID::from_normalized_str(text).unwrap() }
-    /// # #[allow(unused)]
-    /// # fn entity_with(own: &str, parents: &[&str]) -> Entity {
-    /// #     let mut entity = Entity::with_uid(uid(own));
-    /// #     parents.iter().for_each(|parent| entity.add_parent(uid(parent)));
-    /// #     entity
-    /// # }
-    /// # #[allow(unused)]
     /// # fn template(name: &str, principal: PrincipalConstraint) -> Template {
     /// #     let (id, all) = (PolicyID::from_string(name), ResourceConstraint::any());
     /// #     Template::new(id, None, Annotations::new(), Effect::Permit, principal, ActionConstraint::any(), all, None)
-    /// # }
-    /// # #[allow(unused)]
-    /// # fn permit(name: &str) -> StaticPolicy {
-    /// #     StaticPolicy::try_from(template(name, PrincipalConstraint::any())).unwrap()
     /// # }
     /// let template = Template::new(
     ///     PolicyID::from_string("t"),
@@ -307,22 +242,9 @@ impl Template {
     ///
     /// ```
     /// # use cedar_store::{ast::*, entities::*};
-    /// # #[allow(unused)]
-    /// # fn uid(text: &str) -> EntityUID { EntityUID::from_normalized_str(text).unwrap() }
-    /// # #[allow(unused)]
-    /// # fn entity_with(own: &str, parents: &[&str]) -> Entity {
-    /// #     let mut entity = Entity::with_uid(uid(own));
-    /// #     parents.iter().for_each(|parent| entity.add_parent(uid(parent)));
-    /// #     entity
-    /// # }
-    /// # #[allow(unused)]
     /// # fn template(name: &str, principal: PrincipalConstraint) -> Template {
     /// #     let (id, all) = (PolicyID::from_string(name), ResourceConstraint::any());
     /// #     Template::new(id, None, Annotations::new(), Effect::Permit, principal, ActionConstraint::any(), all, None)
-    /// # }
-    /// # #[allow(unused)]
-    /// # fn permit(name: &str) -> StaticPolicy {
-    /// #     StaticPolicy::try_from(template(name, PrincipalConstraint::any())).unwrap()
     /// # }
     /// let template = Template::new(
     ///     PolicyID::from_string("t"),
@@ -354,22 +276,9 @@ impl Template {
     ///
     /// ```
     /// # use cedar_store::{ast::*, entities::*};
-    /// # #[allow(unused)]
-    /// # fn uid(text: &str) -> EntityUID { EntityUID::from_normalized_str(text).unwrap() }
-    /// # #[allow(unused)]
-    /// # fn entity_with(own: &str, parents: &[&str]) -> Entity {
-    /// #     let mut entity = Entity::with_uid(uid(own));
-    /// #     parents.iter().for_each(|parent| entity.add_parent(uid(parent)));
-    /// #     entity
-    /// # }
-    /// # #[allow(unused)]
     /// # fn template(name: &str, principal: PrincipalConstraint) -> Template {
     /// #     let (id, all) = (PolicyID::from_string(name), ResourceConstraint::any());
     /// #     Template::new(id, None, Annotations::new(), Effect::Permit, principal, ActionConstraint::any(), all, None)
-    /// # }
-    /// # #[allow(unused)]
-    /// # fn permit(name: &str) -> StaticPolicy {
-    /// #     StaticPolicy::try_from(template(name, PrincipalConstraint::any())).unwrap()
     /// # }
     /// let template = Template::new(
     ///     PolicyID::from_string("t"),
@@ -400,22 +309,9 @@ impl Template {
     ///
     /// ```
     /// # use cedar_store::{ast::*, entities::*};
-    /// # #[allow(unused)]
-    /// # fn uid(text: &str) -> EntityUID { EntityUID::from_normalized_str(text).unwrap() }
-    /// # #[allow(unused)]
-    /// # fn entity_with(own: &str, parents: &[&str]) -> Entity {
-    /// #     let mut entity = Entity::with_uid(uid(own));
-    /// #     parents.iter().for_each(|parent| entity.add_parent(uid(parent)));
-    /// #     entity
-    /// # }
-    /// # #[allow(unused)]
     /// # fn template(name: &str, principal: PrincipalConstraint) -> Template {
     /// #     let (id, all) = (PolicyID::from_string(name), ResourceConstraint::any());
     /// #     Template::new(id, None, Annotations::new(), Effect::Permit, principal, ActionConstraint::any(), all, None)
-    /// # }
-    /// # #[allow(unused)]
-    /// # fn permit(name: &str) -> StaticPolicy {
-    /// #     StaticPolicy::try_from(template(name, PrincipalConstraint::any())).unwrap()
     /// # }
     /// let template = Template::new(
     ///     PolicyID::from_string("t"),
@@ -447,22 +343,9 @@ impl Template {
     ///
     /// ```
     /// # use cedar_store::{ast::*, entities::*};
-    /// # #[allow(unused)]
-    /// # fn uid(text: &str) -> EntityUID { EntityUID::from_normalized_str(text).unwrap() }
-    /// # #[allow(unused)]
-    /// # fn entity_with(own: &str, parents: &[&str]) -> Entity {
-    /// #     let mut entity = Entity::with_uid(uid(own));
-    /// #     parents.iter().for_each(|parent| entity.add_parent(uid(parent)));
-    /// #     entity
-    /// # }
-    /// # #[allow(unused)]
     /// # fn template(name: &str, principal: PrincipalConstraint) -> Template {
     /// #     let (id, all) = (PolicyID::from_string(name), ResourceConstraint::any());
     /// #     Template::new(id, None, Annotations::new(), Effect::Permit, principal, ActionConstraint::any(), all, None)
-    /// # }
-    /// # #[allow(unused)]
-    /// # fn permit(name: &str) -> StaticPolicy {
-    /// #     StaticPolicy::try_from(template(name, PrincipalConstraint::any())).unwrap()
     /// # }
     /// let template = Template::new(
     ///     PolicyID::from_string("t"),
@@ -490,22 +373,9 @@ impl Template {
     ///
     /// ```
     /// # use cedar_store::{ast::*, entities::*};
-    /// # #[allow(unused)]
-    /// # fn uid(text: &str) -> EntityUID { EntityUID::from_normalized_str(text).unwrap() }
-    /// # #[allow(unused)]
-    /// # fn entity_with(own: &str, parents: &[&str]) -> Entity {
-    /// #     let mut entity = Entity::with_uid(uid(own));
-    /// #     parents.iter().for_each(|parent| entity.add_parent(uid(parent)));
-    /// #     entity
-    /// # }
-    /// # #[allow(unused)]
     /// # fn template(name: &str, principal: PrincipalConstraint) -> Template {
     /// #     let (id, all) = (PolicyID::from_string(name), ResourceConstraint::any());
     /// #     Template::new(id, None, Annotations::new(), Effect::Permit, principal, ActionConstraint::any(), all, None)
-    /// # }
-    /// # #[allow(unused)]
-    /// # fn permit(name: &str) -> StaticPolicy {
-    /// #     StaticPolicy::try_from(template(name, PrincipalConstraint::any())).unwrap()
     /// # }
     /// let template = Template::new(
     ///     PolicyID::from_string("t"),
@@ -533,22 +403,9 @@ impl Template {
     ///
     /// ```
     /// # use cedar_store::{ast::*, entities::*};
-    /// # #[allow(unused)]
-    /// # fn uid(text: &str) -> EntityUID { EntityUID::from_normalized_str(text).unwrap() }
-    /// # #[allow(unused)]
-    /// # fn entity_with(own: &str, parents: &[&str]) -> Entity {
-    /// #     let mut entity = Entity::with_uid(uid(own));
-    /// #     parents.iter().for_each(|parent| entity.add_parent(uid(parent)));
-    /// #     entity
-    /// # }
-    /// # #[allow(unused)]
     /// # fn template(name: &str, principal: PrincipalConstraint) -> Template {
     /// #     let (id, all) = (PolicyID::from_string(name), ResourceConstraint::any());
     /// #     Template::new(id, None, Annotations::new(), Effect::Permit, principal, ActionConstraint::any(), all, None)
-    /// # }
-    /// # #[allow(unused)]
-    /// # fn permit(name: &str) -> StaticPolicy {
-    /// #     StaticPolicy::try_from(template(name, PrincipalConstraint::any())).unwrap()
     /// # }
     /// let template = Template::new(
     ///     PolicyID::from_string("t"),
@@ -576,22 +433,9 @@ impl Template {
     ///
     /// ```
     /// # use cedar_store::{ast::*, entities::*};
-    /// # #[allow(unused)]
-    /// # fn uid(text: &str) -> EntityUID { EntityUID::from_normalized_str(text).unwrap() }
-    /// # #[allow(unused)]
-    /// # fn entity_with(own: &str, parents: &[&str]) -> Entity {
-    /// #     let mut entity = Entity::with_uid(uid(own));
-    /// #     parents.iter().for_each(|parent| entity.add_parent(uid(parent)));
-    /// #     entity
-    /// # }
-    /// # #[allow(unused)]
     /// # fn template(name: &str, principal: PrincipalConstraint) -> Template {
     /// #     let (id, all) = (PolicyID::from_string(name), ResourceConstraint::any());
     /// #     Template::new(id, None, Annotations::new(), Effect::Permit, principal, ActionConstraint::any(), all, None)
-    /// # }
-    /// # #[allow(unused)]
-    /// # fn permit(name: &str) -> StaticPolicy {
-    /// #     StaticPolicy::try_from(template(name, PrincipalConstraint::any())).unwrap()
     /// # }
     /// # use std::sync::Arc;
     /// let template = Template::new_shared(
@@ -619,22 +463,9 @@ impl Template {
     ///
     /// ```
     /// # use cedar_store::{ast::*, entities::*};
-    /// # #[allow(unused)]
-    /// # fn uid(text: &str) -> EntityUID { EntityUID::from_normalized_str(text).unwrap() }
-    /// # #[allow(unused)]
-    /// # fn entity_with(own: &str, parents: &[&str]) -> Entity {
-    /// #     let mut entity = Entity::with_uid(uid(own));
-    /// #     parents.iter().for_each(|parent| entity.add_parent(uid(parent)));
-    /// #     entity
-    /// # }
-    /// # #[allow(unused)]
     /// # fn template(name: &str, principal: PrincipalConstraint) -> Template {
     /// #     let (id, all) = (PolicyID::from_string(name), ResourceConstraint::any());
     /// #     Template::new(id, None, Annotations::new(), Effect::Permit, principal, ActionConstraint::any(), all, None)
-    /// # }
-    /// # #[allow(unused)]
-    /// # fn permit(name: &str) -> StaticPolicy {
-    /// #     StaticPolicy::try_from(template(name, PrincipalConstraint::any())).unwrap()
     /// # }
     /// # use std::sync::Arc;
     /// let template = Template::new_shared(
@@ -662,22 +493,9 @@ impl Template {
     ///
     /// ```
     /// # use cedar_store::{ast::*, entities::*};
-    /// # #[allow(unused)]
-    /// # fn uid(text: &str) -> EntityUID { EntityUID::from_normalized_str(text).unwrap() }
-    /// # #[allow(unused)]
-    /// # fn entity_with(own: &str, parents: &[&str]) -> Entity {
-    /// #     let mut entity = Entity::with_uid(uid(own));
-    /// #     parents.iter().for_each(|parent| entity.add_parent(uid(parent)));
-    /// #     entity
-    /// # }
-    /// # #[allow(unused)]
     /// # fn template(name: &str, principal: PrincipalConstraint) -> Template {
     /// #     let (id, all) = (PolicyID::from_string(name), ResourceConstraint::any());
     /// #     Template::new(id, None, Annotations::new(), Effect::Permit, principal, ActionConstraint::any(), all, None)
-    /// # }
-    /// # #[allow(unused)]
-    /// # fn permit(name: &str) -> StaticPolicy {
-    /// #     StaticPolicy::try_from(template(name, PrincipalConstraint::any())).unwrap()
     /// # }
     /// # use std::sync::Arc;
     /// let template = Template::new_shared(
@@ -705,22 +523,9 @@ impl Template {
     ///
     /// ```
     /// # use cedar_store::{ast::*, entities::*};
-    /// # #[allow(unused)]
-    /// # fn uid(text: &str) -> EntityUID { EntityUID::from_normalized_str(text).unwrap() }
-    /// # #[allow(unused)]
-    /// # fn entity_with(own: &str, parents: &[&str]) -> Entity {
-    /// #     let mut entity = Entity::with_uid(uid(own));
-    /// #     parents.iter().for_each(|parent| entity.add_parent(uid(parent)));
-    /// #     entity
-    /// # }
-    /// # #[allow(unused)]
     /// # fn template(name: &str, principal: PrincipalConstraint) -> Template {
     /// #     let (id, all) = (PolicyID::from_string(name), ResourceConstraint::any());
     /// #     Template::new(id, None, Annotations::new(), Effect::Permit, principal, ActionConstraint::any(), all, None)
-    /// # }
-    /// # #[allow(unused)]
-    /// # fn permit(name: &str) -> StaticPolicy {
-    /// #     StaticPolicy::try_from(template(name, PrincipalConstraint::any())).unwrap()
     /// # }
     /// # use std::sync::Arc;
     /// let template = Template::new_shared(
@@ -748,22 +553,9 @@ impl Template {
     ///
     /// ```
     /// # use cedar_store::{ast::*, entities::*};
-    /// # #[allow(unused)]
-    /// # fn uid(text: &str) -> EntityUID { EntityUID::from_normalized_str(text).unwrap() }
-    /// # #[allow(unused)]
-    /// # fn entity_with(own: &str, parents: &[&str]) -> Entity {
-    /// #     let mut entity = Entity::with_uid(uid(own));
-    /// #     parents.iter().for_each(|parent| entity.add_parent(uid(parent)));
-    /// #     entity
-    /// # }
-    /// # #[allow(unused)]
     /// # fn template(name: &str, principal: PrincipalConstraint) -> Template {
     /// #     let (id, all) = (PolicyID::from_string(name), ResourceConstraint::any());
     /// #     Template::new(id, None, Annotations::new(), Effect::Permit, principal, ActionConstraint::any(), all, None)
-    /// # }
-    /// # #[allow(unused)]
-    /// # fn permit(name: &str) -> StaticPolicy {
-    /// #     StaticPolicy::try_from(template(name, PrincipalConstraint::any())).unwrap()
     /// # }
     /// # use std::sync::Arc;
     /// let template = Template::new_shared(
@@ -791,22 +583,9 @@ impl Template {
     ///
     /// ```
     /// # use cedar_store::{ast::*, entities::*};
-    /// # #[allow(unused)]
-    /// # fn uid(text: &str) -> EntityUID { EntityUID::from_normalized_str(text).unwrap() }
-    /// # #[allow(unused)]
-    /// # fn entity_with(own: &str, parents: &[&str]) -> Entity {
-    /// #     let mut entity = Entity::with_uid(uid(own));
-    /// #     parents.iter().for_each(|parent| entity.add_parent(uid(parent)));
-    /// #     entity
-    /// # }
-    /// # #[allow(unused)]
     /// # fn template(name: &str, principal: PrincipalConstraint) -> Template {
     /// #     let (id, all) = (PolicyID::from_string(name), ResourceConstraint::any());
     /// #     Template::new(id, None, Annotations::new(), Effect::Permit, principal, ActionConstraint::any(), all, None)
-    /// # }
-    /// # #[allow(unused)]
-    /// # fn permit(name: &str) -> StaticPolicy {
-    /// #     StaticPolicy::try_from(template(name, PrincipalConstraint::any())).unwrap()
     /// # }
     /// # use std::sync::Arc;
     /// let template = Template::new_shared(
@@ -836,22 +615,10 @@ impl Template {
     ///
     /// ```
     /// # use cedar_store::{ast::*, entities::*};
-    /// # #[allow(unused)]
     /// # fn uid(text: &str) -> EntityUID { EntityUID::from_normalized_str(text).unwrap() }
-    /// # #[allow(unused)]
-    /// # fn entity_with(own: &str, parents: &[&str]) -> Entity {
-    /// #     let mut entity = Entity::with_uid(uid(own));
-    /// #     parents.iter().for_each(|parent| entity.add_parent(uid(parent)));
-    /// #     entity
-    /// # }
-    /// # #[allow(unused)]
     /// # fn template(name: &str, principal: PrincipalConstraint) -> Template {
     /// #     let (id, all) = (PolicyID::from_string(name), ResourceConstraint::any());
     /// #     Template::new(id, None, Annotations::new(), Effect::Permit, principal, ActionConstraint::any(), all, None)
-    /// # }
-    /// # #[allow(unused)]
-    /// # fn permit(name: &str) -> StaticPolicy {
-    /// #     StaticPolicy::try_from(template(name, PrincipalConstraint::any())).unwrap()
     /// # }
     /// # use std::sync::Arc;
     /// let template = Arc::new(template("t", PrincipalConstraint::is_eq_slot()));
@@ -875,22 +642,10 @@ impl Template {
     ///
     /// ```
     /// # use cedar_store::{ast::*, entities::*};
-    /// # #[allow(unused)]
     /// # fn uid(text: &str) -> EntityUID { EntityUID::from_normalized_str(text).unwrap() }
-    /// # #[allow(unused)]
-    /// # fn entity_with(own: &str, parents: &[&str]) -> Entity {
-    /// #     let mut entity = Entity::with_uid(uid(own));
-    /// #     parents.iter().for_each(|parent| entity.add_parent(uid(parent)));
-    /// #     entity
-    /// # }
-    /// # #[allow(unused)]
     /// # fn template(name: &str, principal: PrincipalConstraint) -> Template {
     /// #     let (id, all) = (PolicyID::from_string(name), ResourceConstraint::any());
     /// #     Template::new(id, None, Annotations::new(), Effect::Permit, principal, ActionConstraint::any(), all, None)
-    /// # }
-    /// # #[allow(unused)]
-    /// # fn permit(name: &str) -> StaticPolicy {
-    /// #     StaticPolicy::try_from(template(name, PrincipalConstraint::any())).unwrap()
     /// # }
     /// # use std::sync::Arc;
     /// let template = Arc::new(template("t", PrincipalConstraint::is_eq_slot()));
@@ -925,22 +680,10 @@ impl Template {
     ///
     /// ```
     /// # use cedar_store::{ast::*, entities::*};
-    /// # #[allow(unused)]
     /// # fn uid(text: &str) -> EntityUID { EntityUID::from_normalized_str(text).unwrap() }
-    /// # #[allow(unused)]
-    /// # fn entity_with(own: &str, parents: &[&str]) -> Entity {
-    /// #     let mut entity = Entity::with_uid(uid(own));
-    /// #     parents.iter().for_each(|parent| entity.add_parent(uid(parent)));
-    /// #     entity
-    /// # }
-    /// # #[allow(unused)]
     /// # fn template(name: &str, principal: PrincipalConstraint) -> Template {
     /// #     let (id, all) = (PolicyID::from_string(name), ResourceConstraint::any());
     /// #     Template::new(id, None, Annotations::new(), Effect::Permit, principal, ActionConstraint::any(), all, None)
-    /// # }
-    /// # #[allow(unused)]
-    /// # fn permit(name: &str) -> StaticPolicy {
-    /// #     StaticPolicy::try_from(template(name, PrincipalConstraint::any())).unwrap()
     /// # }
     /// # use std::sync::Arc;
     /// let template = Arc::new(template("t", PrincipalConstraint::is_eq_slot()));
@@ -970,22 +713,10 @@ impl Template {
     ///
     /// ```
     /// # use cedar_store::{ast::*, entities::*};
-    /// # #[allow(unused)]
     /// # fn uid(text: &str) -> EntityUID { EntityUID::from_normalized_str(text).unwrap() }
-    /// # #[allow(unused)]
-    /// # fn entity_with(own: &str, parents: &[&str]) -> Entity {
-    /// #     let mut entity = Entity::with_uid(uid(own));
-    /// #     parents.iter().for_each(|parent| entity.add_parent(uid(parent)));
-    /// #     entity
-    /// # }
-    /// # #[allow(unused)]
     /// # fn template(name: &str, principal: PrincipalConstraint) -> Template {
     /// #     let (id, all) = (PolicyID::from_string(name), ResourceConstraint::any());
     /// #     Template::new(id, None, Annotations::new(), Effect::Permit, principal, ActionConstraint::any(), all, None)
-    /// # }
-    /// # #[allow(unused)]
-    /// # fn permit(name: &str) -> StaticPolicy {
-    /// #     StaticPolicy::try_from(template(name, PrincipalConstraint::any())).unwrap()
     /// # }
     /// # use std::sync::Arc;
     /// let template = Arc::new(template("t", PrincipalConstraint::is_eq_slot()));
@@ -1031,20 +762,10 @@ impl Template {
     ///
     /// ```
     /// # use cedar_store::{ast::*, entities::*};
-    /// # #[allow(unused)]
-    /// # fn uid(text: &str) -> EntityUID { EntityUID::from_normalized_str(text).unwrap() }
-    /// # #[allow(unused)]
-    /// # fn entity_with(own: &str, parents: &[&str]) -> Entity {
-    /// #     let mut entity = Entity::with_uid(uid(own));
-    /// #     parents.iter().for_each(|parent| entity.add_parent(uid(parent)));
-    /// #     entity
-    /// # }
-    /// # #[allow(unused)]
     /// # fn template(name: &str, principal: PrincipalConstraint) -> Template {
     /// #     let (id, all) = (PolicyID::from_string(name), ResourceConstraint::any());
     /// #     Template::new(id, None, Annotations::new(), Effect::Permit, principal, ActionConstraint::any(), all, None)
     /// # }
-    /// # #[allow(unused)]
     /// # fn permit(name: &str) -> StaticPolicy {
     /// #     StaticPolicy::try_from(template(name, PrincipalConstraint::any())).unwrap()
     /// # }
@@ -1064,20 +785,10 @@ impl Template {
     ///
     /// ```
     /// # use cedar_store::{ast::*, entities::*};
-    /// # #[allow(unused)]
-    /// # fn uid(text: &str) -> EntityUID { EntityUID::from_normalized_str(text).unwrap() }
-    /// # #[allow(unused)]
-    /// # fn entity_with(own: &str, parents: &[&str]) -> Entity {
-    /// #     let mut entity = Entity::with_uid(uid(own));
-    /// #     parents.iter().for_each(|parent| entity.add_parent(uid(parent)));
-    /// #     entity
-    /// # }
-    /// # #[allow(unused)]
     /// # fn template(name: &str, principal: PrincipalConstraint) -> Template {
     /// #     let (id, all) = (PolicyID::from_string(name), ResourceConstraint::any());
     /// #     Template::new(id, None, Annotations::new(), Effect::Permit, principal, ActionConstraint::any(), all, None)
     /// # }
-    /// # #[allow(unused)]
     /// # fn permit(name: &str) -> StaticPolicy {
     /// #     StaticPolicy::try_from(template(name, PrincipalConstraint::any())).unwrap()
     /// # }
@@ -1121,22 +832,9 @@ impl Template {
     ///
     /// ```
     /// # use cedar_store::{ast::*, entities::*};
-    /// # #[allow(unused)]
-    /// # fn uid(text: &str) -> EntityUID { EntityUID::from_normalized_str(text).unwrap() }
-    /// # #[allow(unused)]
-    /// # fn entity_with(own: &str, parents: &[&str]) -> Entity {
-    /// #     let mut entity = Entity::with_uid(uid(own));
-    /// #     parents.iter().for_each(|parent| entity.add_parent(uid(parent)));
-    /// #     entity
-    /// # }
-    /// # #[allow(unused)]
     /// # fn template(name: &str, principal: PrincipalConstraint) -> Template {
     /// #     let (id, all) = (PolicyID::from_string(name), ResourceConstraint::any());
     /// #     Template::new(id, None, Annotations::new(), Effect::Permit, principal, ActionConstraint::any(), all, None)
-    /// # }
-    /// # #[allow(unused)]
-    /// # fn permit(name: &str) -> StaticPolicy {
-    /// #     StaticPolicy::try_from(template(name, PrincipalConstraint::any())).unwrap()
     /// # }
     /// assert!(template("t", PrincipalConstraint::is_eq_slot()).try_validate().is_ok());
     /// let slotted = Template::new(

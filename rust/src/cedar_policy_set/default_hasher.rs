@@ -12,20 +12,10 @@ impl PolicySet {
     ///
     /// ```
     /// # use cedar_store::{ast::*, entities::*};
-    /// # #[allow(unused)]
-    /// # fn uid(text: &str) -> EntityUID { EntityUID::from_normalized_str(text).unwrap() }
-    /// # #[allow(unused)]
-    /// # fn entity_with(own: &str, parents: &[&str]) -> Entity {
-    /// #     let mut entity = Entity::with_uid(uid(own));
-    /// #     parents.iter().for_each(|parent| entity.add_parent(uid(parent)));
-    /// #     entity
-    /// # }
-    /// # #[allow(unused)]
     /// # fn template(name: &str, principal: PrincipalConstraint) -> Template {
     /// #     let (id, all) = (PolicyID::from_string(name), ResourceConstraint::any());
     /// #     Template::new(id, None, Annotations::new(), Effect::Permit, principal, ActionConstraint::any(), all, None)
     /// # }
-    /// # #[allow(unused)]
     /// # fn permit(name: &str) -> StaticPolicy {
     /// #     StaticPolicy::try_from(template(name, PrincipalConstraint::any())).unwrap()
     /// # }
@@ -56,22 +46,10 @@ impl PolicySet {
     ///
     /// ```
     /// # use cedar_store::{ast::*, entities::*};
-    /// # #[allow(unused)]
     /// # fn uid(text: &str) -> EntityUID { EntityUID::from_normalized_str(text).unwrap() }
-    /// # #[allow(unused)]
-    /// # fn entity_with(own: &str, parents: &[&str]) -> Entity {
-    /// #     let mut entity = Entity::with_uid(uid(own));
-    /// #     parents.iter().for_each(|parent| entity.add_parent(uid(parent)));
-    /// #     entity
-    /// # }
-    /// # #[allow(unused)]
     /// # fn template(name: &str, principal: PrincipalConstraint) -> Template {
     /// #     let (id, all) = (PolicyID::from_string(name), ResourceConstraint::any());
     /// #     Template::new(id, None, Annotations::new(), Effect::Permit, principal, ActionConstraint::any(), all, None)
-    /// # }
-    /// # #[allow(unused)]
-    /// # fn permit(name: &str) -> StaticPolicy {
-    /// #     StaticPolicy::try_from(template(name, PrincipalConstraint::any())).unwrap()
     /// # }
     /// # use std::sync::Arc;
     /// let bound = SlotEnv::from([(SlotId::principal(), uid(r#"User::"alice""#))]);
@@ -104,20 +82,10 @@ impl PolicySet {
     ///
     /// ```
     /// # use cedar_store::{ast::*, entities::*};
-    /// # #[allow(unused)]
-    /// # fn uid(text: &str) -> EntityUID { EntityUID::from_normalized_str(text).unwrap() }
-    /// # #[allow(unused)]
-    /// # fn entity_with(own: &str, parents: &[&str]) -> Entity {
-    /// #     let mut entity = Entity::with_uid(uid(own));
-    /// #     parents.iter().for_each(|parent| entity.add_parent(uid(parent)));
-    /// #     entity
-    /// # }
-    /// # #[allow(unused)]
     /// # fn template(name: &str, principal: PrincipalConstraint) -> Template {
     /// #     let (id, all) = (PolicyID::from_string(name), ResourceConstraint::any());
     /// #     Template::new(id, None, Annotations::new(), Effect::Permit, principal, ActionConstraint::any(), all, None)
     /// # }
-    /// # #[allow(unused)]
     /// # fn permit(name: &str) -> StaticPolicy {
     /// #     StaticPolicy::try_from(template(name, PrincipalConstraint::any())).unwrap()
     /// # }

@@ -38,23 +38,7 @@ impl PrincipalOrResourceConstraint {
     ///
     /// ```
     /// # use cedar_store::{ast::*, entities::*};
-    /// # #[allow(unused)]
     /// # fn uid(text: &str) -> EntityUID { EntityUID::from_normalized_str(text).unwrap() }
-    /// # #[allow(unused)]
-    /// # fn entity_with(own: &str, parents: &[&str]) -> Entity {
-    /// #     let mut entity = Entity::with_uid(uid(own));
-    /// #     parents.iter().for_each(|parent| entity.add_parent(uid(parent)));
-    /// #     entity
-    /// # }
-    /// # #[allow(unused)]
-    /// # fn template(name: &str, principal: PrincipalConstraint) -> Template {
-    /// #     let (id, all) = (PolicyID::from_string(name), ResourceConstraint::any());
-    /// #     Template::new(id, None, Annotations::new(), Effect::Permit, principal, ActionConstraint::any(), all, None)
-    /// # }
-    /// # #[allow(unused)]
-    /// # fn permit(name: &str) -> StaticPolicy {
-    /// #     StaticPolicy::try_from(template(name, PrincipalConstraint::any())).unwrap()
-    /// # }
     /// # use std::sync::Arc;
     /// let staff = Arc::new(uid(r#"Group::"staff""#));
     /// let shown = |constraint: PrincipalOrResourceConstraint| constraint.display(PrincipalOrResource::Principal);
@@ -72,23 +56,7 @@ impl PrincipalOrResourceConstraint {
     ///
     /// ```
     /// # use cedar_store::{ast::*, entities::*};
-    /// # #[allow(unused)]
     /// # fn uid(text: &str) -> EntityUID { EntityUID::from_normalized_str(text).unwrap() }
-    /// # #[allow(unused)]
-    /// # fn entity_with(own: &str, parents: &[&str]) -> Entity {
-    /// #     let mut entity = Entity::with_uid(uid(own));
-    /// #     parents.iter().for_each(|parent| entity.add_parent(uid(parent)));
-    /// #     entity
-    /// # }
-    /// # #[allow(unused)]
-    /// # fn template(name: &str, principal: PrincipalConstraint) -> Template {
-    /// #     let (id, all) = (PolicyID::from_string(name), ResourceConstraint::any());
-    /// #     Template::new(id, None, Annotations::new(), Effect::Permit, principal, ActionConstraint::any(), all, None)
-    /// # }
-    /// # #[allow(unused)]
-    /// # fn permit(name: &str) -> StaticPolicy {
-    /// #     StaticPolicy::try_from(template(name, PrincipalConstraint::any())).unwrap()
-    /// # }
     /// # use std::sync::Arc;
     /// let staff = Arc::new(uid(r#"Group::"staff""#));
     /// let shown = |constraint: PrincipalOrResourceConstraint| constraint.display(PrincipalOrResource::Principal);
@@ -106,23 +74,7 @@ impl PrincipalOrResourceConstraint {
     ///
     /// ```
     /// # use cedar_store::{ast::*, entities::*};
-    /// # #[allow(unused)]
     /// # fn uid(text: &str) -> EntityUID { EntityUID::from_normalized_str(text).unwrap() }
-    /// # #[allow(unused)]
-    /// # fn entity_with(own: &str, parents: &[&str]) -> Entity {
-    /// #     let mut entity = Entity::with_uid(uid(own));
-    /// #     parents.iter().for_each(|parent| entity.add_parent(uid(parent)));
-    /// #     entity
-    /// # }
-    /// # #[allow(unused)]
-    /// # fn template(name: &str, principal: PrincipalConstraint) -> Template {
-    /// #     let (id, all) = (PolicyID::from_string(name), ResourceConstraint::any());
-    /// #     Template::new(id, None, Annotations::new(), Effect::Permit, principal, ActionConstraint::any(), all, None)
-    /// # }
-    /// # #[allow(unused)]
-    /// # fn permit(name: &str) -> StaticPolicy {
-    /// #     StaticPolicy::try_from(template(name, PrincipalConstraint::any())).unwrap()
-    /// # }
     /// # use std::sync::Arc;
     /// let staff = Arc::new(uid(r#"Group::"staff""#));
     /// let shown = |constraint: PrincipalOrResourceConstraint| constraint.display(PrincipalOrResource::Principal);
@@ -140,23 +92,7 @@ impl PrincipalOrResourceConstraint {
     ///
     /// ```
     /// # use cedar_store::{ast::*, entities::*};
-    /// # #[allow(unused)]
     /// # fn uid(text: &str) -> EntityUID { EntityUID::from_normalized_str(text).unwrap() }
-    /// # #[allow(unused)]
-    /// # fn entity_with(own: &str, parents: &[&str]) -> Entity {
-    /// #     let mut entity = Entity::with_uid(uid(own));
-    /// #     parents.iter().for_each(|parent| entity.add_parent(uid(parent)));
-    /// #     entity
-    /// # }
-    /// # #[allow(unused)]
-    /// # fn template(name: &str, principal: PrincipalConstraint) -> Template {
-    /// #     let (id, all) = (PolicyID::from_string(name), ResourceConstraint::any());
-    /// #     Template::new(id, None, Annotations::new(), Effect::Permit, principal, ActionConstraint::any(), all, None)
-    /// # }
-    /// # #[allow(unused)]
-    /// # fn permit(name: &str) -> StaticPolicy {
-    /// #     StaticPolicy::try_from(template(name, PrincipalConstraint::any())).unwrap()
-    /// # }
     /// # use std::sync::Arc;
     /// let staff = Arc::new(uid(r#"Group::"staff""#));
     /// let shown = |constraint: PrincipalOrResourceConstraint| constraint.display(PrincipalOrResource::Principal);
@@ -174,23 +110,7 @@ impl PrincipalOrResourceConstraint {
     ///
     /// ```
     /// # use cedar_store::{ast::*, entities::*};
-    /// # #[allow(unused)]
     /// # fn uid(text: &str) -> EntityUID { EntityUID::from_normalized_str(text).unwrap() }
-    /// # #[allow(unused)]
-    /// # fn entity_with(own: &str, parents: &[&str]) -> Entity {
-    /// #     let mut entity = Entity::with_uid(uid(own));
-    /// #     parents.iter().for_each(|parent| entity.add_parent(uid(parent)));
-    /// #     entity
-    /// # }
-    /// # #[allow(unused)]
-    /// # fn template(name: &str, principal: PrincipalConstraint) -> Template {
-    /// #     let (id, all) = (PolicyID::from_string(name), ResourceConstraint::any());
-    /// #     Template::new(id, None, Annotations::new(), Effect::Permit, principal, ActionConstraint::any(), all, None)
-    /// # }
-    /// # #[allow(unused)]
-    /// # fn permit(name: &str) -> StaticPolicy {
-    /// #     StaticPolicy::try_from(template(name, PrincipalConstraint::any())).unwrap()
-    /// # }
     /// # use std::sync::Arc;
     /// let staff = Arc::new(uid(r#"Group::"staff""#));
     /// let shown = |constraint: PrincipalOrResourceConstraint| constraint.display(PrincipalOrResource::Principal);
@@ -208,23 +128,7 @@ impl PrincipalOrResourceConstraint {
     ///
     /// ```
     /// # use cedar_store::{ast::*, entities::*};
-    /// # #[allow(unused)]
     /// # fn uid(text: &str) -> EntityUID { EntityUID::from_normalized_str(text).unwrap() }
-    /// # #[allow(unused)]
-    /// # fn entity_with(own: &str, parents: &[&str]) -> Entity {
-    /// #     let mut entity = Entity::with_uid(uid(own));
-    /// #     parents.iter().for_each(|parent| entity.add_parent(uid(parent)));
-    /// #     entity
-    /// # }
-    /// # #[allow(unused)]
-    /// # fn template(name: &str, principal: PrincipalConstraint) -> Template {
-    /// #     let (id, all) = (PolicyID::from_string(name), ResourceConstraint::any());
-    /// #     Template::new(id, None, Annotations::new(), Effect::Permit, principal, ActionConstraint::any(), all, None)
-    /// # }
-    /// # #[allow(unused)]
-    /// # fn permit(name: &str) -> StaticPolicy {
-    /// #     StaticPolicy::try_from(template(name, PrincipalConstraint::any())).unwrap()
-    /// # }
     /// # use std::sync::Arc;
     /// let (user, staff) = (Arc::new(EntityType::from_normalized_str("User")?), Arc::new(uid(r#"Group::"staff""#)));
     /// let typed = PrincipalOrResourceConstraint::is_entity_type(Arc::clone(&user));
@@ -245,23 +149,7 @@ impl PrincipalOrResourceConstraint {
     ///
     /// ```
     /// # use cedar_store::{ast::*, entities::*};
-    /// # #[allow(unused)]
     /// # fn uid(text: &str) -> EntityUID { EntityUID::from_normalized_str(text).unwrap() }
-    /// # #[allow(unused)]
-    /// # fn entity_with(own: &str, parents: &[&str]) -> Entity {
-    /// #     let mut entity = Entity::with_uid(uid(own));
-    /// #     parents.iter().for_each(|parent| entity.add_parent(uid(parent)));
-    /// #     entity
-    /// # }
-    /// # #[allow(unused)]
-    /// # fn template(name: &str, principal: PrincipalConstraint) -> Template {
-    /// #     let (id, all) = (PolicyID::from_string(name), ResourceConstraint::any());
-    /// #     Template::new(id, None, Annotations::new(), Effect::Permit, principal, ActionConstraint::any(), all, None)
-    /// # }
-    /// # #[allow(unused)]
-    /// # fn permit(name: &str) -> StaticPolicy {
-    /// #     StaticPolicy::try_from(template(name, PrincipalConstraint::any())).unwrap()
-    /// # }
     /// # use std::sync::Arc;
     /// let (user, staff) = (Arc::new(EntityType::from_normalized_str("User")?), Arc::new(uid(r#"Group::"staff""#)));
     /// let typed = PrincipalOrResourceConstraint::is_entity_type(Arc::clone(&user));
@@ -282,23 +170,7 @@ impl PrincipalOrResourceConstraint {
     ///
     /// ```
     /// # use cedar_store::{ast::*, entities::*};
-    /// # #[allow(unused)]
     /// # fn uid(text: &str) -> EntityUID { EntityUID::from_normalized_str(text).unwrap() }
-    /// # #[allow(unused)]
-    /// # fn entity_with(own: &str, parents: &[&str]) -> Entity {
-    /// #     let mut entity = Entity::with_uid(uid(own));
-    /// #     parents.iter().for_each(|parent| entity.add_parent(uid(parent)));
-    /// #     entity
-    /// # }
-    /// # #[allow(unused)]
-    /// # fn template(name: &str, principal: PrincipalConstraint) -> Template {
-    /// #     let (id, all) = (PolicyID::from_string(name), ResourceConstraint::any());
-    /// #     Template::new(id, None, Annotations::new(), Effect::Permit, principal, ActionConstraint::any(), all, None)
-    /// # }
-    /// # #[allow(unused)]
-    /// # fn permit(name: &str) -> StaticPolicy {
-    /// #     StaticPolicy::try_from(template(name, PrincipalConstraint::any())).unwrap()
-    /// # }
     /// # use std::sync::Arc;
     /// let (user, staff) = (Arc::new(EntityType::from_normalized_str("User")?), Arc::new(uid(r#"Group::"staff""#)));
     /// let typed = PrincipalOrResourceConstraint::is_entity_type(Arc::clone(&user));
@@ -324,23 +196,7 @@ impl PrincipalOrResourceConstraint {
     ///
     /// ```
     /// # use cedar_store::{ast::*, entities::*};
-    /// # #[allow(unused)]
     /// # fn uid(text: &str) -> EntityUID { EntityUID::from_normalized_str(text).unwrap() }
-    /// # #[allow(unused)]
-    /// # fn entity_with(own: &str, parents: &[&str]) -> Entity {
-    /// #     let mut entity = Entity::with_uid(uid(own));
-    /// #     parents.iter().for_each(|parent| entity.add_parent(uid(parent)));
-    /// #     entity
-    /// # }
-    /// # #[allow(unused)]
-    /// # fn template(name: &str, principal: PrincipalConstraint) -> Template {
-    /// #     let (id, all) = (PolicyID::from_string(name), ResourceConstraint::any());
-    /// #     Template::new(id, None, Annotations::new(), Effect::Permit, principal, ActionConstraint::any(), all, None)
-    /// # }
-    /// # #[allow(unused)]
-    /// # fn permit(name: &str) -> StaticPolicy {
-    /// #     StaticPolicy::try_from(template(name, PrincipalConstraint::any())).unwrap()
-    /// # }
     /// # use std::sync::Arc;
     /// let (user, staff) = (Arc::new(EntityType::from_normalized_str("User")?), Arc::new(uid(r#"Group::"staff""#)));
     /// let typed = PrincipalOrResourceConstraint::is_entity_type(Arc::clone(&user));
@@ -368,23 +224,7 @@ impl PrincipalOrResourceConstraint {
     ///
     /// ```
     /// # use cedar_store::{ast::*, entities::*};
-    /// # #[allow(unused)]
     /// # fn uid(text: &str) -> EntityUID { EntityUID::from_normalized_str(text).unwrap() }
-    /// # #[allow(unused)]
-    /// # fn entity_with(own: &str, parents: &[&str]) -> Entity {
-    /// #     let mut entity = Entity::with_uid(uid(own));
-    /// #     parents.iter().for_each(|parent| entity.add_parent(uid(parent)));
-    /// #     entity
-    /// # }
-    /// # #[allow(unused)]
-    /// # fn template(name: &str, principal: PrincipalConstraint) -> Template {
-    /// #     let (id, all) = (PolicyID::from_string(name), ResourceConstraint::any());
-    /// #     Template::new(id, None, Annotations::new(), Effect::Permit, principal, ActionConstraint::any(), all, None)
-    /// # }
-    /// # #[allow(unused)]
-    /// # fn permit(name: &str) -> StaticPolicy {
-    /// #     StaticPolicy::try_from(template(name, PrincipalConstraint::any())).unwrap()
-    /// # }
     /// # use std::sync::Arc;
     /// let staff = Arc::new(uid(r#"Group::"staff""#));
     /// let shown = |constraint: PrincipalOrResourceConstraint| constraint.display(PrincipalOrResource::Principal);
@@ -402,23 +242,7 @@ impl PrincipalOrResourceConstraint {
     ///
     /// ```
     /// # use cedar_store::{ast::*, entities::*};
-    /// # #[allow(unused)]
     /// # fn uid(text: &str) -> EntityUID { EntityUID::from_normalized_str(text).unwrap() }
-    /// # #[allow(unused)]
-    /// # fn entity_with(own: &str, parents: &[&str]) -> Entity {
-    /// #     let mut entity = Entity::with_uid(uid(own));
-    /// #     parents.iter().for_each(|parent| entity.add_parent(uid(parent)));
-    /// #     entity
-    /// # }
-    /// # #[allow(unused)]
-    /// # fn template(name: &str, principal: PrincipalConstraint) -> Template {
-    /// #     let (id, all) = (PolicyID::from_string(name), ResourceConstraint::any());
-    /// #     Template::new(id, None, Annotations::new(), Effect::Permit, principal, ActionConstraint::any(), all, None)
-    /// # }
-    /// # #[allow(unused)]
-    /// # fn permit(name: &str) -> StaticPolicy {
-    /// #     StaticPolicy::try_from(template(name, PrincipalConstraint::any())).unwrap()
-    /// # }
     /// # use std::sync::Arc;
     /// let (user, staff) = (Arc::new(EntityType::from_normalized_str("User")?), Arc::new(uid(r#"Group::"staff""#)));
     /// let typed = PrincipalOrResourceConstraint::is_entity_type(Arc::clone(&user));
@@ -449,23 +273,7 @@ impl PrincipalOrResourceConstraint {
     ///
     /// ```
     /// # use cedar_store::{ast::*, entities::*};
-    /// # #[allow(unused)]
     /// # fn uid(text: &str) -> EntityUID { EntityUID::from_normalized_str(text).unwrap() }
-    /// # #[allow(unused)]
-    /// # fn entity_with(own: &str, parents: &[&str]) -> Entity {
-    /// #     let mut entity = Entity::with_uid(uid(own));
-    /// #     parents.iter().for_each(|parent| entity.add_parent(uid(parent)));
-    /// #     entity
-    /// # }
-    /// # #[allow(unused)]
-    /// # fn template(name: &str, principal: PrincipalConstraint) -> Template {
-    /// #     let (id, all) = (PolicyID::from_string(name), ResourceConstraint::any());
-    /// #     Template::new(id, None, Annotations::new(), Effect::Permit, principal, ActionConstraint::any(), all, None)
-    /// # }
-    /// # #[allow(unused)]
-    /// # fn permit(name: &str) -> StaticPolicy {
-    /// #     StaticPolicy::try_from(template(name, PrincipalConstraint::any())).unwrap()
-    /// # }
     /// # use std::sync::Arc;
     /// let (user, staff) = (Arc::new(EntityType::from_normalized_str("User")?), Arc::new(uid(r#"Group::"staff""#)));
     /// let typed = PrincipalOrResourceConstraint::is_entity_type(Arc::clone(&user));

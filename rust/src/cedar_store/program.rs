@@ -138,23 +138,6 @@ fn run_by<S: BuildHasher + Clone, R: Read, W: Write>(
 ///
 /// ```
 /// # use cedar_store::{ast::*, entities::*};
-/// # #[allow(unused)]
-/// # fn uid(text: &str) -> EntityUID { EntityUID::from_normalized_str(text).unwrap() }
-/// # #[allow(unused)]
-/// # fn entity_with(own: &str, parents: &[&str]) -> Entity {
-/// #     let mut entity = Entity::with_uid(uid(own));
-/// #     parents.iter().for_each(|parent| entity.add_parent(uid(parent)));
-/// #     entity
-/// # }
-/// # #[allow(unused)]
-/// # fn template(name: &str, principal: PrincipalConstraint) -> Template {
-/// #     let (id, all) = (PolicyID::from_string(name), ResourceConstraint::any());
-/// #     Template::new(id, None, Annotations::new(), Effect::Permit, principal, ActionConstraint::any(), all, None)
-/// # }
-/// # #[allow(unused)]
-/// # fn permit(name: &str) -> StaticPolicy {
-/// #     StaticPolicy::try_from(template(name, PrincipalConstraint::any())).unwrap()
-/// # }
 /// use cedar_store::program::{run, run_and_leave, run_and_leave_with, run_with};
 /// let lines = b"ent\tA::\"a\"\tA::\"b\"\nbuild\nanc\tA::\"a\"\n";
 /// let key = cedar_store::KeyedState::with_keys(1, 2);
@@ -181,23 +164,6 @@ pub fn run<R: Read, W: Write>(reader: &mut R, writer: &mut W) -> Result<u8, RunE
 ///
 /// ```
 /// # use cedar_store::{ast::*, entities::*};
-/// # #[allow(unused)]
-/// # fn uid(text: &str) -> EntityUID { EntityUID::from_normalized_str(text).unwrap() }
-/// # #[allow(unused)]
-/// # fn entity_with(own: &str, parents: &[&str]) -> Entity {
-/// #     let mut entity = Entity::with_uid(uid(own));
-/// #     parents.iter().for_each(|parent| entity.add_parent(uid(parent)));
-/// #     entity
-/// # }
-/// # #[allow(unused)]
-/// # fn template(name: &str, principal: PrincipalConstraint) -> Template {
-/// #     let (id, all) = (PolicyID::from_string(name), ResourceConstraint::any());
-/// #     Template::new(id, None, Annotations::new(), Effect::Permit, principal, ActionConstraint::any(), all, None)
-/// # }
-/// # #[allow(unused)]
-/// # fn permit(name: &str) -> StaticPolicy {
-/// #     StaticPolicy::try_from(template(name, PrincipalConstraint::any())).unwrap()
-/// # }
 /// use cedar_store::program::{run, run_and_leave, run_and_leave_with, run_with};
 /// let lines = b"ent\tA::\"a\"\tA::\"b\"\nbuild\nanc\tA::\"a\"\n";
 /// let key = cedar_store::KeyedState::with_keys(1, 2);
@@ -234,23 +200,6 @@ pub fn run_with<S: BuildHasher + Clone, R: Read, W: Write>(
 ///
 /// ```
 /// # use cedar_store::{ast::*, entities::*};
-/// # #[allow(unused)]
-/// # fn uid(text: &str) -> EntityUID { EntityUID::from_normalized_str(text).unwrap() }
-/// # #[allow(unused)]
-/// # fn entity_with(own: &str, parents: &[&str]) -> Entity {
-/// #     let mut entity = Entity::with_uid(uid(own));
-/// #     parents.iter().for_each(|parent| entity.add_parent(uid(parent)));
-/// #     entity
-/// # }
-/// # #[allow(unused)]
-/// # fn template(name: &str, principal: PrincipalConstraint) -> Template {
-/// #     let (id, all) = (PolicyID::from_string(name), ResourceConstraint::any());
-/// #     Template::new(id, None, Annotations::new(), Effect::Permit, principal, ActionConstraint::any(), all, None)
-/// # }
-/// # #[allow(unused)]
-/// # fn permit(name: &str) -> StaticPolicy {
-/// #     StaticPolicy::try_from(template(name, PrincipalConstraint::any())).unwrap()
-/// # }
 /// use cedar_store::program::{run, run_and_leave, run_and_leave_with, run_with};
 /// let lines = b"ent\tA::\"a\"\tA::\"b\"\nbuild\nanc\tA::\"a\"\n";
 /// let key = cedar_store::KeyedState::with_keys(1, 2);
@@ -277,23 +226,6 @@ pub fn run_and_leave<R: Read, W: Write>(reader: &mut R, writer: &mut W) -> Resul
 ///
 /// ```
 /// # use cedar_store::{ast::*, entities::*};
-/// # #[allow(unused)]
-/// # fn uid(text: &str) -> EntityUID { EntityUID::from_normalized_str(text).unwrap() }
-/// # #[allow(unused)]
-/// # fn entity_with(own: &str, parents: &[&str]) -> Entity {
-/// #     let mut entity = Entity::with_uid(uid(own));
-/// #     parents.iter().for_each(|parent| entity.add_parent(uid(parent)));
-/// #     entity
-/// # }
-/// # #[allow(unused)]
-/// # fn template(name: &str, principal: PrincipalConstraint) -> Template {
-/// #     let (id, all) = (PolicyID::from_string(name), ResourceConstraint::any());
-/// #     Template::new(id, None, Annotations::new(), Effect::Permit, principal, ActionConstraint::any(), all, None)
-/// # }
-/// # #[allow(unused)]
-/// # fn permit(name: &str) -> StaticPolicy {
-/// #     StaticPolicy::try_from(template(name, PrincipalConstraint::any())).unwrap()
-/// # }
 /// use cedar_store::program::{run, run_and_leave, run_and_leave_with, run_with};
 /// let lines = b"ent\tA::\"a\"\tA::\"b\"\nbuild\nanc\tA::\"a\"\n";
 /// let key = cedar_store::KeyedState::with_keys(1, 2);

@@ -31,23 +31,6 @@ pub struct Session<S: BuildHasher = KeyedState> {
 ///
 /// ```
 /// # use cedar_store::{ast::*, entities::*};
-/// # #[allow(unused)]
-/// # fn uid(text: &str) -> EntityUID { EntityUID::from_normalized_str(text).unwrap() }
-/// # #[allow(unused)]
-/// # fn entity_with(own: &str, parents: &[&str]) -> Entity {
-/// #     let mut entity = Entity::with_uid(uid(own));
-/// #     parents.iter().for_each(|parent| entity.add_parent(uid(parent)));
-/// #     entity
-/// # }
-/// # #[allow(unused)]
-/// # fn template(name: &str, principal: PrincipalConstraint) -> Template {
-/// #     let (id, all) = (PolicyID::from_string(name), ResourceConstraint::any());
-/// #     Template::new(id, None, Annotations::new(), Effect::Permit, principal, ActionConstraint::any(), all, None)
-/// # }
-/// # #[allow(unused)]
-/// # fn permit(name: &str) -> StaticPolicy {
-/// #     StaticPolicy::try_from(template(name, PrincipalConstraint::any())).unwrap()
-/// # }
 /// let mut out = Vec::new();
 /// cedar_store::program::push_not_command(&mut out, 3);
 /// assert_eq!(out, b"line 3: not a command\n");
@@ -76,23 +59,6 @@ impl Session {
     ///
     /// ```
     /// # use cedar_store::{ast::*, entities::*};
-    /// # #[allow(unused)]
-    /// # fn uid(text: &str) -> EntityUID { EntityUID::from_normalized_str(text).unwrap() }
-    /// # #[allow(unused)]
-    /// # fn entity_with(own: &str, parents: &[&str]) -> Entity {
-    /// #     let mut entity = Entity::with_uid(uid(own));
-    /// #     parents.iter().for_each(|parent| entity.add_parent(uid(parent)));
-    /// #     entity
-    /// # }
-    /// # #[allow(unused)]
-    /// # fn template(name: &str, principal: PrincipalConstraint) -> Template {
-    /// #     let (id, all) = (PolicyID::from_string(name), ResourceConstraint::any());
-    /// #     Template::new(id, None, Annotations::new(), Effect::Permit, principal, ActionConstraint::any(), all, None)
-    /// # }
-    /// # #[allow(unused)]
-    /// # fn permit(name: &str) -> StaticPolicy {
-    /// #     StaticPolicy::try_from(template(name, PrincipalConstraint::any())).unwrap()
-    /// # }
     /// use cedar_store::program::Session;
     /// let mut session = Session::new();
     /// let mut out = Vec::new();
@@ -112,23 +78,6 @@ impl<S: BuildHasher + Clone> Session<S> {
     ///
     /// ```
     /// # use cedar_store::{ast::*, entities::*};
-    /// # #[allow(unused)]
-    /// # fn uid(text: &str) -> EntityUID { EntityUID::from_normalized_str(text).unwrap() }
-    /// # #[allow(unused)]
-    /// # fn entity_with(own: &str, parents: &[&str]) -> Entity {
-    /// #     let mut entity = Entity::with_uid(uid(own));
-    /// #     parents.iter().for_each(|parent| entity.add_parent(uid(parent)));
-    /// #     entity
-    /// # }
-    /// # #[allow(unused)]
-    /// # fn template(name: &str, principal: PrincipalConstraint) -> Template {
-    /// #     let (id, all) = (PolicyID::from_string(name), ResourceConstraint::any());
-    /// #     Template::new(id, None, Annotations::new(), Effect::Permit, principal, ActionConstraint::any(), all, None)
-    /// # }
-    /// # #[allow(unused)]
-    /// # fn permit(name: &str) -> StaticPolicy {
-    /// #     StaticPolicy::try_from(template(name, PrincipalConstraint::any())).unwrap()
-    /// # }
     /// use cedar_store::program::Session;
     /// let mut session = Session::new();
     /// let mut out = Vec::new();
@@ -212,23 +161,6 @@ impl<S: BuildHasher + Clone> Session<S> {
     ///
     /// ```
     /// # use cedar_store::{ast::*, entities::*};
-    /// # #[allow(unused)]
-    /// # fn uid(text: &str) -> EntityUID { EntityUID::from_normalized_str(text).unwrap() }
-    /// # #[allow(unused)]
-    /// # fn entity_with(own: &str, parents: &[&str]) -> Entity {
-    /// #     let mut entity = Entity::with_uid(uid(own));
-    /// #     parents.iter().for_each(|parent| entity.add_parent(uid(parent)));
-    /// #     entity
-    /// # }
-    /// # #[allow(unused)]
-    /// # fn template(name: &str, principal: PrincipalConstraint) -> Template {
-    /// #     let (id, all) = (PolicyID::from_string(name), ResourceConstraint::any());
-    /// #     Template::new(id, None, Annotations::new(), Effect::Permit, principal, ActionConstraint::any(), all, None)
-    /// # }
-    /// # #[allow(unused)]
-    /// # fn permit(name: &str) -> StaticPolicy {
-    /// #     StaticPolicy::try_from(template(name, PrincipalConstraint::any())).unwrap()
-    /// # }
     /// use cedar_store::program::Session;
     /// let mut session = Session::new();
     /// let mut out = Vec::new();
