@@ -5,12 +5,12 @@ use cedar_store::ast::{Entity, EntityUID, PolicyID, SlotEnv, SlotId};
 use std::collections::HashMap;
 use std::sync::Arc;
 
-/// Returns the number of rounds of a random test: `all`, or a twentieth of it if `CEDAR_QUICK_TESTS` is set.
+/// Returns the number of rounds of a random test: a twentieth of `all`, or all if `CEDAR_LONG_TESTS` is set.
 pub fn rounds(all: u64) -> u64 {
-    if std::env::var_os("CEDAR_QUICK_TESTS").is_some() {
-        all / 20
-    } else {
+    if std::env::var_os("CEDAR_LONG_TESTS").is_some() {
         all
+    } else {
+        all / 20
     }
 }
 
