@@ -139,7 +139,10 @@ ITERATORS = {
         'AllTemplates': (INNER, True, 'Clone, Debug'),
         'Templates': ('(0, self.inner.size_hint().1)', False, 'Clone, Debug'),
         'StaticPolicies': ('(0, self.inner.size_hint().1)', False, 'Clone, Debug'),
-        'LinkedIds': (INNER, True, 'Clone, Debug'),
+        'SharedBodies': (INNER, True, 'Clone, Debug'),
+        'LinkedIds': (
+            'let count = usize::from(self.first.is_some()) + self.rest.len(); (count, Some(count))', True,
+            'Clone, Debug'),
     },
     ('cedar_scope', 'iters'): {
         'ConstraintTypeNames': (

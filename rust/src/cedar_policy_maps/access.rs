@@ -4,27 +4,21 @@
 
 use crate::cedar_ids::policy_id::PolicyID;
 use crate::cedar_policy::{Policy, Template};
-use crate::cedar_policy_maps::iters::LinkedIds;
+use crate::cedar_policy_maps::iters::{LinkedIds, SharedBodies};
 use crate::cedar_policy_maps::lists::{has_no_slots, is_link};
 use crate::cedar_policy_maps::maps::{
     insert_reserved, list_policy, reserve_with_body, room_for_body, room_for_list, unlist,
 };
 use crate::cedar_policy_maps::policy_maps::PolicyMaps;
 use crate::cedar_policy_maps::policy_or_template::PolicyOrTemplate;
-use crate::ordered_map::OrderedSet;
+use crate::linked_map::LinkedSet;
 use std::hash::BuildHasher;
-use std::slice;
 use std::sync::Arc;
 
 impl<S: BuildHasher + Clone> PolicyMaps<S> {
-    /// Returns the shared bodies, in order. Does not allocate.
-    pub fn shared_bodies(&self) -> &[Arc<Template>] {
-        self.templates.values()
-    }
-
-    /// Returns the policies, in order. Does not allocate.
-    pub fn all_policies(&self) -> &[Policy] {
-        self.links.values()
+    /// Iterates over the shared bodies, in insertion order. Does not allocate.
+    pub fn shared_bodies(&self) -> SharedBodies<'_> {
+        SharedBodies::of(self.templates.values())
     }
 
     /// Returns the shared body with this id, if there is one. Does not allocate.
@@ -42,9 +36,16 @@ impl<S: BuildHasher + Clone> PolicyMaps<S> {
         self.links.get(id)
     }
 
-    /// Returns the index of the policy with this id, if there is one. Does not allocate.
-    pub fn place_of_policy(&self, id: &PolicyID) -> Option<usize> {
-        self.links.get_index_of(id)
+    /// Returns the shared body with this id, if there is one. Tries the place `next` first, and sets it to the place after
+    /// the body. Lookups in the order of the bodies do not hash. Does not allocate.
+    pub fn body_near(&self, id: &PolicyID, next: &mut usize) -> Option<&Arc<Template>> {
+        self.templates.get_near(id, next).map(|(_, template)| template)
+    }
+
+    /// Returns the policy with this id and its place, if there is one. Tries the place `next` first, and sets it to the
+    /// place after the policy. Lookups in the order of the policies do not hash. Does not allocate.
+    pub fn policy_near(&self, id: &PolicyID, next: &mut usize) -> Option<(usize, &Policy)> {
+        self.links.get_near(id, next)
     }
 
     /// Returns whether a body has this id. Does not allocate.
@@ -58,29 +59,23 @@ impl<S: BuildHasher + Clone> PolicyMaps<S> {
     }
 
     // Returns the ids of the links of the template with this id, if there is one.
-    fn links_of(&self, id: &PolicyID) -> Option<&OrderedSet<PolicyID, S>> {
+    fn links_of(&self, id: &PolicyID) -> Option<&LinkedSet<PolicyID, S>> {
         self.template_to_links_map.get(id)
-    }
-
-    // Returns the ids of the policies that use the body with this id, if there is one. A static policy is the only
-    // policy of its body.
-    fn ids_on(&self, id: &PolicyID) -> Option<&[PolicyID]> {
-        match self.policy_at(id) {
-            None => self.links_of(id).map(|ids| ids.as_slice()),
-            Some(policy) => {
-                if is_link(policy) {
-                    None
-                } else {
-                    Some(slice::from_ref(policy.id()))
-                }
-            }
-        }
     }
 
     /// Returns the ids of the policies that use the body with this id, if there is one. For a template these are its
     /// links, and for a static policy it is the policy itself. Does not allocate.
     pub fn linked_ids(&self, id: &PolicyID) -> Option<LinkedIds<'_>> {
-        self.ids_on(id).map(LinkedIds::of)
+        match self.policy_at(id) {
+            None => self.links_of(id).map(|ids| LinkedIds::of(ids.iter())),
+            Some(policy) => {
+                if is_link(policy) {
+                    None
+                } else {
+                    Some(LinkedIds::of_one(policy.id()))
+                }
+            }
+        }
     }
 
     /// Returns the policy or template with this id, if there is one. Does not allocate.
@@ -128,7 +123,7 @@ impl<S: BuildHasher + Clone> PolicyMaps<S> {
     /// Allocates two entries and two copies of the id.
     pub fn insert_template(&mut self, template: Arc<Template>) {
         let (id, listed) = room_for_body(&mut self.templates, &mut self.template_to_links_map, &template);
-        let ids = OrderedSet::with_hasher(self.templates.hasher().clone());
+        let ids = LinkedSet::with_hasher(self.templates.hasher().clone());
         insert_reserved(&mut self.templates, id, template);
         insert_reserved(&mut self.template_to_links_map, listed, ids);
     }
@@ -186,13 +181,15 @@ impl<S: BuildHasher + Clone> PolicyMaps<S> {
 
     /// Returns the last policy. The caller must ensure that there is a policy. Does not allocate.
     pub fn last(&self) -> &Policy {
-        let policies = self.all_policies();
-        &policies[policies.len() - 1]
+        match self.links.last() {
+            None => unreachable!(),
+            Some((_, policy)) => policy,
+        }
     }
 }
 
 // Returns whether there are ids.
-fn has_ids<S: BuildHasher + Clone>(ids: Option<&OrderedSet<PolicyID, S>>) -> bool {
+fn has_ids<S: BuildHasher + Clone>(ids: Option<&LinkedSet<PolicyID, S>>) -> bool {
     match ids {
         None => false,
         Some(ids) => !ids.is_empty(),

@@ -6,7 +6,8 @@ use crate::cedar_ids::policy_id::PolicyID;
 use crate::cedar_policy::{Policy, Template, share_template};
 use crate::cedar_policy_maps::maps::{EnteringLists, bodies_by_id, ids_by_template, policies_by_id};
 use crate::cedar_policy_maps::policy_maps::PolicyMaps;
-use crate::ordered_map::{OrderedMap, OrderedSet};
+use crate::linked_map::{LinkedMap, LinkedSet};
+use crate::ordered_map::OrderedMap;
 use std::hash::BuildHasher;
 use std::sync::Arc;
 
@@ -33,8 +34,8 @@ impl<T> SharedAndNew<T> {
 struct Entering<S: BuildHasher> {
     templates: OrderedMap<PolicyID, Arc<Template>, S>,
     links: OrderedMap<PolicyID, Policy, S>,
-    listed: OrderedMap<PolicyID, OrderedSet<PolicyID, S>, S>,
-    grown: OrderedMap<PolicyID, OrderedSet<PolicyID, S>, S>,
+    listed: OrderedMap<PolicyID, LinkedSet<PolicyID, S>, S>,
+    grown: OrderedMap<PolicyID, LinkedSet<PolicyID, S>, S>,
 }
 
 impl<S: BuildHasher + Clone> PolicyMaps<S> {
@@ -57,7 +58,7 @@ impl<S: BuildHasher + Clone> PolicyMaps<S> {
         self.push_new(entering, stand, alike);
     }
 
-    /// Replaces the templates of the policies at some indices by shared ones, each if the two are equal. The content of
+    /// Replaces the templates of the policies at some places by shared ones, each if the two are equal. The content of
     /// the maps does not change. Does not allocate.
     pub fn share_templates(&mut self, templates: Vec<(usize, Arc<Template>)>) {
         share_all(&mut self.links, templates);
@@ -101,9 +102,9 @@ fn new_entries<S: BuildHasher + Clone>(hasher: S, bodies: Vec<Arc<Template>>, po
 
 // Reserves space in the three maps, and in the lists that grow.
 fn make_room<S: BuildHasher + Clone>(
-    templates: &mut OrderedMap<PolicyID, Arc<Template>, S>,
-    links: &mut OrderedMap<PolicyID, Policy, S>,
-    map: &mut OrderedMap<PolicyID, OrderedSet<PolicyID, S>, S>,
+    templates: &mut LinkedMap<PolicyID, Arc<Template>, S>,
+    links: &mut LinkedMap<PolicyID, Policy, S>,
+    map: &mut LinkedMap<PolicyID, LinkedSet<PolicyID, S>, S>,
     entering: &Entering<S>,
 ) {
     templates.reserve(entering.templates.len());
@@ -114,16 +115,15 @@ fn make_room<S: BuildHasher + Clone>(
 
 // Appends entries with new keys. The space must be reserved.
 pub(crate) fn push_all<V, S: BuildHasher + Clone>(
-    map: &mut OrderedMap<PolicyID, V, S>,
+    map: &mut LinkedMap<PolicyID, V, S>,
     entries: OrderedMap<PolicyID, V, S>,
 ) {
-    let mut entries = entries;
-    map.append(&mut entries);
+    map.extend_new(entries);
 }
 
 // Reserves space in the list under a key, if there is one.
 fn room_in_list<S: BuildHasher + Clone>(
-    map: &mut OrderedMap<PolicyID, OrderedSet<PolicyID, S>, S>,
+    map: &mut LinkedMap<PolicyID, LinkedSet<PolicyID, S>, S>,
     body: &PolicyID,
     count: usize,
 ) {
@@ -133,14 +133,14 @@ fn room_in_list<S: BuildHasher + Clone>(
 }
 
 // Reserves space in a set.
-fn room_in_set<S: BuildHasher + Clone>(ids: &mut OrderedSet<PolicyID, S>, count: usize) {
+fn room_in_set<S: BuildHasher + Clone>(ids: &mut LinkedSet<PolicyID, S>, count: usize) {
     ids.reserve(count);
 }
 
 // Reserves space in lists for the ids to append to each.
 pub(crate) fn room_in_lists<S: BuildHasher + Clone>(
-    map: &mut OrderedMap<PolicyID, OrderedSet<PolicyID, S>, S>,
-    grown: &OrderedMap<PolicyID, OrderedSet<PolicyID, S>, S>,
+    map: &mut LinkedMap<PolicyID, LinkedSet<PolicyID, S>, S>,
+    grown: &OrderedMap<PolicyID, LinkedSet<PolicyID, S>, S>,
 ) {
     for (body, ids) in grown {
         room_in_list(map, body, ids.len());
@@ -148,16 +148,16 @@ pub(crate) fn room_in_lists<S: BuildHasher + Clone>(
 }
 
 // Appends ids to a set. The space must be reserved.
-fn append_ids<S: BuildHasher + Clone>(ids: &mut OrderedSet<PolicyID, S>, more: OrderedSet<PolicyID, S>) {
+fn append_ids<S: BuildHasher + Clone>(ids: &mut LinkedSet<PolicyID, S>, more: LinkedSet<PolicyID, S>) {
     let mut more = more;
     ids.append(&mut more);
 }
 
 // Appends ids to the list under a key, if there is one. The space must be reserved.
 fn grow_list<S: BuildHasher + Clone>(
-    map: &mut OrderedMap<PolicyID, OrderedSet<PolicyID, S>, S>,
+    map: &mut LinkedMap<PolicyID, LinkedSet<PolicyID, S>, S>,
     body: &PolicyID,
-    more: OrderedSet<PolicyID, S>,
+    more: LinkedSet<PolicyID, S>,
 ) {
     if let Some(ids) = map.get_mut(body) {
         append_ids(ids, more);
@@ -166,8 +166,8 @@ fn grow_list<S: BuildHasher + Clone>(
 
 // Appends ids to lists. The space must be reserved.
 pub(crate) fn grow_lists<S: BuildHasher + Clone>(
-    map: &mut OrderedMap<PolicyID, OrderedSet<PolicyID, S>, S>,
-    grown: OrderedMap<PolicyID, OrderedSet<PolicyID, S>, S>,
+    map: &mut LinkedMap<PolicyID, LinkedSet<PolicyID, S>, S>,
+    grown: OrderedMap<PolicyID, LinkedSet<PolicyID, S>, S>,
 ) {
     for (body, more) in grown {
         grow_list(map, &body, more);
@@ -176,7 +176,7 @@ pub(crate) fn grow_lists<S: BuildHasher + Clone>(
 
 // Replaces existing bodies by equal ones with the same ids.
 fn replace_equal_bodies<S: BuildHasher + Clone>(
-    templates: &mut OrderedMap<PolicyID, Arc<Template>, S>,
+    templates: &mut LinkedMap<PolicyID, Arc<Template>, S>,
     bodies: Vec<Arc<Template>>,
 ) {
     for template in bodies {
@@ -186,7 +186,7 @@ fn replace_equal_bodies<S: BuildHasher + Clone>(
 
 // Replaces the body with the same id, if it is equal.
 fn replace_equal_body<S: BuildHasher + Clone>(
-    templates: &mut OrderedMap<PolicyID, Arc<Template>, S>,
+    templates: &mut LinkedMap<PolicyID, Arc<Template>, S>,
     template: Arc<Template>,
 ) {
     if let Some(stands) = templates.get_mut(template.id()) {
@@ -209,9 +209,9 @@ fn is_body(template: &Template, other: &Template) -> bool {
     template == other
 }
 
-// Replaces the templates of the policies at some indices, each if the two are equal.
+// Replaces the templates of the policies at some places, each if the two are equal.
 fn share_all<S: BuildHasher + Clone>(
-    links: &mut OrderedMap<PolicyID, Policy, S>,
+    links: &mut LinkedMap<PolicyID, Policy, S>,
     templates: Vec<(usize, Arc<Template>)>,
 ) {
     for (place, template) in templates {
@@ -219,26 +219,22 @@ fn share_all<S: BuildHasher + Clone>(
     }
 }
 
-// Replaces the template of the policy at an index, if the two are equal.
-fn share_at<S: BuildHasher + Clone>(
-    links: &mut OrderedMap<PolicyID, Policy, S>,
-    place: usize,
-    template: Arc<Template>,
-) {
-    if let Some(policy) = links.get_index_mut(place) {
+// Replaces the template of the policy at a place, if the two are equal.
+fn share_at<S: BuildHasher + Clone>(links: &mut LinkedMap<PolicyID, Policy, S>, place: usize, template: Arc<Template>) {
+    if let Some(policy) = links.get_at_mut(place) {
         share_template(policy, template);
     }
 }
 
 // Replaces existing policies by equal ones with the same ids.
-fn replace_equal_policies<S: BuildHasher + Clone>(links: &mut OrderedMap<PolicyID, Policy, S>, policies: Vec<Policy>) {
+fn replace_equal_policies<S: BuildHasher + Clone>(links: &mut LinkedMap<PolicyID, Policy, S>, policies: Vec<Policy>) {
     for policy in policies {
         replace_equal_policy(links, policy);
     }
 }
 
 // Replaces the policy with the same id, if it is equal.
-fn replace_equal_policy<S: BuildHasher + Clone>(links: &mut OrderedMap<PolicyID, Policy, S>, policy: Policy) {
+fn replace_equal_policy<S: BuildHasher + Clone>(links: &mut LinkedMap<PolicyID, Policy, S>, policy: Policy) {
     if let Some(stands) = links.get_mut(policy.id()) {
         replace_policy(stands, policy);
     }

@@ -5,21 +5,20 @@
 use crate::cedar_ids::policy_id::PolicyID;
 use crate::cedar_policy::{Policy, Template};
 use crate::cedar_policy_maps::lists::{has_no_slots, is_link};
-use crate::ordered_map::OrderedMap;
+use crate::linked_map::{IntoValues, Keys, LinkedMap, Values};
 use std::hash::BuildHasher;
 use std::iter::FusedIterator;
 use std::sync::Arc;
-use std::{slice, vec};
 
 /// An iterator over the policies of a set, static policies and links, in insertion order.
 #[derive(Clone, Debug)]
 pub struct Policies<'a> {
-    inner: slice::Iter<'a, Policy>,
+    inner: Values<'a, PolicyID, Policy>,
 }
 
 impl<'a> Policies<'a> {
-    pub(crate) fn of(policies: &'a [Policy]) -> Self {
-        Self { inner: policies.iter() }
+    pub(crate) fn of(inner: Values<'a, PolicyID, Policy>) -> Self {
+        Self { inner }
     }
 }
 
@@ -42,11 +41,11 @@ impl FusedIterator for Policies<'_> {}
 /// An owning iterator over the policies of a set, in insertion order.
 #[derive(Clone, Debug)]
 pub struct IntoPolicies {
-    inner: vec::IntoIter<Policy>,
+    inner: IntoValues<PolicyID, Policy>,
 }
 
 impl IntoPolicies {
-    pub(crate) fn of<S: BuildHasher>(links: OrderedMap<PolicyID, Policy, S>) -> Self {
+    pub(crate) fn of<S: BuildHasher>(links: LinkedMap<PolicyID, Policy, S>) -> Self {
         Self {
             inner: links.into_values(),
         }
@@ -69,15 +68,43 @@ impl ExactSizeIterator for IntoPolicies {}
 
 impl FusedIterator for IntoPolicies {}
 
+/// An iterator over the shared bodies of a set, of static policies and of templates, in insertion order.
+#[derive(Clone, Debug)]
+pub struct SharedBodies<'a> {
+    inner: Values<'a, PolicyID, Arc<Template>>,
+}
+
+impl<'a> SharedBodies<'a> {
+    pub(crate) fn of(inner: Values<'a, PolicyID, Arc<Template>>) -> Self {
+        Self { inner }
+    }
+}
+
+impl<'a> Iterator for SharedBodies<'a> {
+    type Item = &'a Arc<Template>;
+
+    fn next(&mut self) -> Option<&'a Arc<Template>> {
+        self.inner.next()
+    }
+
+    fn size_hint(&self) -> (usize, Option<usize>) {
+        self.inner.size_hint()
+    }
+}
+
+impl ExactSizeIterator for SharedBodies<'_> {}
+
+impl FusedIterator for SharedBodies<'_> {}
+
 /// An iterator over the bodies of a set, of static policies and of templates, in insertion order.
 #[derive(Clone, Debug)]
 pub struct AllTemplates<'a> {
-    inner: slice::Iter<'a, Arc<Template>>,
+    inner: SharedBodies<'a>,
 }
 
 impl<'a> AllTemplates<'a> {
-    pub(crate) fn of(bodies: &'a [Arc<Template>]) -> Self {
-        Self { inner: bodies.iter() }
+    pub(crate) fn of(inner: SharedBodies<'a>) -> Self {
+        Self { inner }
     }
 }
 
@@ -104,7 +131,7 @@ pub struct Templates<'a> {
 }
 
 impl<'a> Templates<'a> {
-    pub(crate) fn of(bodies: &'a [Arc<Template>]) -> Self {
+    pub(crate) fn of(bodies: SharedBodies<'a>) -> Self {
         Self {
             inner: AllTemplates::of(bodies),
         }
@@ -146,10 +173,8 @@ pub struct StaticPolicies<'a> {
 }
 
 impl<'a> StaticPolicies<'a> {
-    pub(crate) fn of(policies: &'a [Policy]) -> Self {
-        Self {
-            inner: Policies::of(policies),
-        }
+    pub(crate) fn of(inner: Policies<'a>) -> Self {
+        Self { inner }
     }
 }
 
@@ -184,12 +209,23 @@ fn next_static<'a>(inner: &mut Policies<'a>) -> Option<&'a Policy> {
 /// An iterator over the ids of the policies that use a body, in insertion order.
 #[derive(Clone, Debug)]
 pub struct LinkedIds<'a> {
-    inner: slice::Iter<'a, PolicyID>,
+    // The id of a static policy. It comes before the other ids.
+    first: Option<&'a PolicyID>,
+    rest: Keys<'a, PolicyID, ()>,
 }
 
 impl<'a> LinkedIds<'a> {
-    pub(crate) fn of(ids: &'a [PolicyID]) -> Self {
-        Self { inner: ids.iter() }
+    // Iterates over the ids of the links of a template.
+    pub(crate) fn of(rest: Keys<'a, PolicyID, ()>) -> Self {
+        Self { first: None, rest }
+    }
+
+    // Iterates over the id of a static policy.
+    pub(crate) fn of_one(id: &'a PolicyID) -> Self {
+        Self {
+            first: Some(id),
+            rest: Keys::empty(),
+        }
     }
 }
 
@@ -197,11 +233,18 @@ impl<'a> Iterator for LinkedIds<'a> {
     type Item = &'a PolicyID;
 
     fn next(&mut self) -> Option<&'a PolicyID> {
-        self.inner.next()
+        match self.first {
+            None => self.rest.next(),
+            Some(id) => {
+                self.first = None;
+                Some(id)
+            }
+        }
     }
 
     fn size_hint(&self) -> (usize, Option<usize>) {
-        self.inner.size_hint()
+        let count = usize::from(self.first.is_some()) + self.rest.len();
+        (count, Some(count))
     }
 }
 

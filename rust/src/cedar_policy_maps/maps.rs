@@ -5,23 +5,19 @@
 use crate::cedar_ids::policy_id::PolicyID;
 use crate::cedar_policy::{Policy, Template};
 use crate::cedar_policy_maps::lists::{is_link, template_of};
-use crate::ordered_map::{OrderedMap, OrderedSet};
+use crate::linked_map::{LinkedMap, LinkedSet};
+use crate::ordered_map::OrderedMap;
 use std::hash::BuildHasher;
 use std::sync::Arc;
 
 // Appends a value with a new key. The space must be reserved.
-pub(crate) fn insert_reserved<V, S: BuildHasher + Clone>(
-    map: &mut OrderedMap<PolicyID, V, S>,
-    key: PolicyID,
-    value: V,
-) {
-    map.insert(key, value);
+pub(crate) fn insert_reserved<V, S: BuildHasher + Clone>(map: &mut LinkedMap<PolicyID, V, S>, key: PolicyID, value: V) {
+    map.push(key, value);
 }
 
 // Appends a value with a new key.
 fn insert_new<V, S: BuildHasher + Clone>(map: &mut OrderedMap<PolicyID, V, S>, key: PolicyID, value: V) {
-    map.reserve(1);
-    insert_reserved(map, key, value);
+    map.insert(key, value);
 }
 
 // The keys and the shared body for appending a policy and its body.
@@ -36,8 +32,8 @@ pub(crate) struct Joining {
 
 // Reserves space for one more body and its list, and returns two copies of its id.
 pub(crate) fn room_for_body<S: BuildHasher + Clone>(
-    templates: &mut OrderedMap<PolicyID, Arc<Template>, S>,
-    map: &mut OrderedMap<PolicyID, OrderedSet<PolicyID, S>, S>,
+    templates: &mut LinkedMap<PolicyID, Arc<Template>, S>,
+    map: &mut LinkedMap<PolicyID, LinkedSet<PolicyID, S>, S>,
     template: &Template,
 ) -> (PolicyID, PolicyID) {
     templates.reserve(1);
@@ -49,8 +45,8 @@ pub(crate) fn room_for_body<S: BuildHasher + Clone>(
 
 // Reserves space for one more policy, appends its id to the list of its template, and returns a copy of the id.
 pub(crate) fn list_policy<S: BuildHasher + Clone>(
-    links: &mut OrderedMap<PolicyID, Policy, S>,
-    map: &mut OrderedMap<PolicyID, OrderedSet<PolicyID, S>, S>,
+    links: &mut LinkedMap<PolicyID, Policy, S>,
+    map: &mut LinkedMap<PolicyID, LinkedSet<PolicyID, S>, S>,
     policy: &Policy,
 ) -> PolicyID {
     links.reserve(1);
@@ -62,8 +58,8 @@ pub(crate) fn list_policy<S: BuildHasher + Clone>(
 
 // Reserves space for one more policy and its body, and returns their keys and the shared body.
 pub(crate) fn reserve_with_body<S: BuildHasher + Clone>(
-    templates: &mut OrderedMap<PolicyID, Arc<Template>, S>,
-    links: &mut OrderedMap<PolicyID, Policy, S>,
+    templates: &mut LinkedMap<PolicyID, Arc<Template>, S>,
+    links: &mut LinkedMap<PolicyID, Policy, S>,
     policy: &Policy,
 ) -> Joining {
     templates.reserve(1);
@@ -80,9 +76,9 @@ pub(crate) fn reserve_with_body<S: BuildHasher + Clone>(
 
 // Reserves space for one more list. Returns a copy of the id of a link's template, and the list of the link's id.
 pub(crate) fn room_for_list<S: BuildHasher + Clone>(
-    map: &mut OrderedMap<PolicyID, OrderedSet<PolicyID, S>, S>,
+    map: &mut LinkedMap<PolicyID, LinkedSet<PolicyID, S>, S>,
     policy: &Policy,
-) -> (PolicyID, OrderedSet<PolicyID, S>) {
+) -> (PolicyID, LinkedSet<PolicyID, S>) {
     map.reserve(1);
     let under = policy.template().id().clone();
     let ids = set_of(map.hasher().clone(), policy.id());
@@ -90,30 +86,30 @@ pub(crate) fn room_for_list<S: BuildHasher + Clone>(
 }
 
 // Returns the set of one id.
-fn set_of<S: BuildHasher + Clone>(hasher: S, id: &PolicyID) -> OrderedSet<PolicyID, S> {
-    let mut ids = OrderedSet::with_hasher(hasher);
+fn set_of<S: BuildHasher + Clone>(hasher: S, id: &PolicyID) -> LinkedSet<PolicyID, S> {
+    let mut ids = LinkedSet::with_hasher(hasher);
     insert_id_copy(&mut ids, id);
     ids
 }
 
 // Appends a copy of an id to a set, unless the set contains it.
-fn insert_id_copy<S: BuildHasher + Clone>(ids: &mut OrderedSet<PolicyID, S>, id: &PolicyID) {
+fn insert_id_copy<S: BuildHasher + Clone>(ids: &mut LinkedSet<PolicyID, S>, id: &PolicyID) {
     insert_id(ids, id.clone());
 }
 
 // Appends an id to a set, unless the set contains it.
-fn insert_id<S: BuildHasher + Clone>(ids: &mut OrderedSet<PolicyID, S>, id: PolicyID) {
+fn insert_id<S: BuildHasher + Clone>(ids: &mut LinkedSet<PolicyID, S>, id: PolicyID) {
     ids.insert(id);
 }
 
 // Removes an id from a set. The order of the other ids does not change.
-fn remove_id<S: BuildHasher + Clone>(ids: &mut OrderedSet<PolicyID, S>, id: &PolicyID) {
+fn remove_id<S: BuildHasher + Clone>(ids: &mut LinkedSet<PolicyID, S>, id: &PolicyID) {
     ids.shift_remove(id);
 }
 
 // Appends an id to the list of a template, if there is one.
 pub(crate) fn list_link<S: BuildHasher + Clone>(
-    map: &mut OrderedMap<PolicyID, OrderedSet<PolicyID, S>, S>,
+    map: &mut LinkedMap<PolicyID, LinkedSet<PolicyID, S>, S>,
     body: &PolicyID,
     id: PolicyID,
 ) {
@@ -124,7 +120,7 @@ pub(crate) fn list_link<S: BuildHasher + Clone>(
 
 // Removes an id from the list of a body, if there is one.
 fn unlist_id<S: BuildHasher + Clone>(
-    map: &mut OrderedMap<PolicyID, OrderedSet<PolicyID, S>, S>,
+    map: &mut LinkedMap<PolicyID, LinkedSet<PolicyID, S>, S>,
     body: &PolicyID,
     id: &PolicyID,
 ) {
@@ -135,7 +131,7 @@ fn unlist_id<S: BuildHasher + Clone>(
 
 // Removes the id of a removed policy, if there is one, from the list of its template.
 pub(crate) fn unlist<S: BuildHasher + Clone>(
-    map: &mut OrderedMap<PolicyID, OrderedSet<PolicyID, S>, S>,
+    map: &mut LinkedMap<PolicyID, LinkedSet<PolicyID, S>, S>,
     policy: &Option<Policy>,
     id: &PolicyID,
 ) {
@@ -196,9 +192,9 @@ fn insert_policy<S: BuildHasher + Clone>(links: &mut OrderedMap<PolicyID, Policy
 // The lists of ids to append.
 pub(crate) struct EnteringLists<S: BuildHasher> {
     // The ids of the links of each new template.
-    pub(crate) listed: OrderedMap<PolicyID, OrderedSet<PolicyID, S>, S>,
+    pub(crate) listed: OrderedMap<PolicyID, LinkedSet<PolicyID, S>, S>,
     // The ids of the new links of each existing template.
-    pub(crate) grown: OrderedMap<PolicyID, OrderedSet<PolicyID, S>, S>,
+    pub(crate) grown: OrderedMap<PolicyID, LinkedSet<PolicyID, S>, S>,
 }
 
 // Returns the ids of new links by the ids of their templates. A new body is a template if no new policy has its id.
@@ -216,7 +212,7 @@ pub(crate) fn ids_by_template<S: BuildHasher + Clone>(
 fn no_ids<S: BuildHasher + Clone>(
     bodies: &[Arc<Template>],
     known: &OrderedMap<PolicyID, Policy, S>,
-) -> OrderedMap<PolicyID, OrderedSet<PolicyID, S>, S> {
+) -> OrderedMap<PolicyID, LinkedSet<PolicyID, S>, S> {
     let mut map = OrderedMap::with_hasher(known.hasher().clone());
     for template in bodies {
         push_empty_list(&mut map, template, known);
@@ -226,22 +222,22 @@ fn no_ids<S: BuildHasher + Clone>(
 
 // Appends an empty list for a template, unless a policy has its id.
 fn push_empty_list<S: BuildHasher + Clone>(
-    map: &mut OrderedMap<PolicyID, OrderedSet<PolicyID, S>, S>,
+    map: &mut OrderedMap<PolicyID, LinkedSet<PolicyID, S>, S>,
     template: &Arc<Template>,
     known: &OrderedMap<PolicyID, Policy, S>,
 ) {
     if known.contains_key(template.id()) {
         return;
     }
-    let ids = OrderedSet::with_hasher(map.hasher().clone());
+    let ids = LinkedSet::with_hasher(map.hasher().clone());
     insert_new(map, template.id().clone(), ids);
 }
 
 // Appends each link's id to the list of its template: in the first map if the template has a list there, else in the
 // second.
 fn list_links<S: BuildHasher + Clone>(
-    listed: &mut OrderedMap<PolicyID, OrderedSet<PolicyID, S>, S>,
-    grown: &mut OrderedMap<PolicyID, OrderedSet<PolicyID, S>, S>,
+    listed: &mut OrderedMap<PolicyID, LinkedSet<PolicyID, S>, S>,
+    grown: &mut OrderedMap<PolicyID, LinkedSet<PolicyID, S>, S>,
     policies: &[Policy],
 ) {
     for policy in policies {
@@ -251,8 +247,8 @@ fn list_links<S: BuildHasher + Clone>(
 
 // Appends the id of a policy to a list in one of two maps, if it is a link.
 fn list_if_link<S: BuildHasher + Clone>(
-    listed: &mut OrderedMap<PolicyID, OrderedSet<PolicyID, S>, S>,
-    grown: &mut OrderedMap<PolicyID, OrderedSet<PolicyID, S>, S>,
+    listed: &mut OrderedMap<PolicyID, LinkedSet<PolicyID, S>, S>,
+    grown: &mut OrderedMap<PolicyID, LinkedSet<PolicyID, S>, S>,
     policy: &Policy,
 ) {
     if is_link(policy) {
@@ -263,8 +259,8 @@ fn list_if_link<S: BuildHasher + Clone>(
 // Appends a copy of an id to the list of a template: in the first map if the template has a list there, else in the
 // second.
 fn list_in_either<S: BuildHasher + Clone>(
-    listed: &mut OrderedMap<PolicyID, OrderedSet<PolicyID, S>, S>,
-    grown: &mut OrderedMap<PolicyID, OrderedSet<PolicyID, S>, S>,
+    listed: &mut OrderedMap<PolicyID, LinkedSet<PolicyID, S>, S>,
+    grown: &mut OrderedMap<PolicyID, LinkedSet<PolicyID, S>, S>,
     body: &PolicyID,
     id: &PolicyID,
 ) {
@@ -276,7 +272,7 @@ fn list_in_either<S: BuildHasher + Clone>(
 
 // Appends a copy of an id to the list of a template. Appends the list first if there is none.
 fn gather_id<S: BuildHasher + Clone>(
-    map: &mut OrderedMap<PolicyID, OrderedSet<PolicyID, S>, S>,
+    map: &mut OrderedMap<PolicyID, LinkedSet<PolicyID, S>, S>,
     body: &PolicyID,
     id: &PolicyID,
 ) {
@@ -288,7 +284,7 @@ fn gather_id<S: BuildHasher + Clone>(
 
 // Appends the list of one id with a new key. Both are copied.
 fn push_list<S: BuildHasher + Clone>(
-    map: &mut OrderedMap<PolicyID, OrderedSet<PolicyID, S>, S>,
+    map: &mut OrderedMap<PolicyID, LinkedSet<PolicyID, S>, S>,
     body: &PolicyID,
     id: &PolicyID,
 ) {
@@ -298,21 +294,21 @@ fn push_list<S: BuildHasher + Clone>(
 
 // Copies the map of bodies. The bodies are shared.
 pub(crate) fn copy_of_bodies<S: BuildHasher + Clone>(
-    templates: &OrderedMap<PolicyID, Arc<Template>, S>,
-) -> OrderedMap<PolicyID, Arc<Template>, S> {
+    templates: &LinkedMap<PolicyID, Arc<Template>, S>,
+) -> LinkedMap<PolicyID, Arc<Template>, S> {
     templates.clone()
 }
 
 // Copies the map of policies.
 pub(crate) fn copy_of_policies<S: BuildHasher + Clone>(
-    links: &OrderedMap<PolicyID, Policy, S>,
-) -> OrderedMap<PolicyID, Policy, S> {
+    links: &LinkedMap<PolicyID, Policy, S>,
+) -> LinkedMap<PolicyID, Policy, S> {
     links.clone()
 }
 
 // Copies the map of lists.
 pub(crate) fn copy_of_ids<S: BuildHasher + Clone>(
-    map: &OrderedMap<PolicyID, OrderedSet<PolicyID, S>, S>,
-) -> OrderedMap<PolicyID, OrderedSet<PolicyID, S>, S> {
+    map: &LinkedMap<PolicyID, LinkedSet<PolicyID, S>, S>,
+) -> LinkedMap<PolicyID, LinkedSet<PolicyID, S>, S> {
     map.clone()
 }

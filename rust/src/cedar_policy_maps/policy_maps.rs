@@ -4,9 +4,9 @@
 
 use crate::cedar_ids::policy_id::PolicyID;
 use crate::cedar_policy::{Policy, Template};
-use crate::cedar_policy_maps::iters::{AllTemplates, IntoPolicies, Policies, StaticPolicies, Templates};
+use crate::cedar_policy_maps::iters::{AllTemplates, IntoPolicies, Policies, SharedBodies, StaticPolicies, Templates};
 use crate::cedar_policy_maps::maps::{copy_of_bodies, copy_of_ids, copy_of_policies};
-use crate::ordered_map::{OrderedMap, OrderedSet};
+use crate::linked_map::{LinkedMap, LinkedSet};
 use std::fmt;
 use std::hash::BuildHasher;
 use std::sync::Arc;
@@ -14,22 +14,23 @@ use std::sync::Arc;
 /// The maps of a policy set. They contain the bodies of templates and static policies by id, the policies by id, and
 /// the ids of the links of each template. `S` builds the hashers for ids.
 ///
-/// `clone` copies the three maps and the policies. Lookups use hashing. A removal keeps the order of the other entries.
+/// `clone` copies the three maps and the policies. Lookups use hashing. A removal takes constant time and keeps the
+/// order of the other entries.
 pub struct PolicyMaps<S: BuildHasher> {
-    pub(crate) templates: OrderedMap<PolicyID, Arc<Template>, S>,
-    pub(crate) links: OrderedMap<PolicyID, Policy, S>,
+    pub(crate) templates: LinkedMap<PolicyID, Arc<Template>, S>,
+    pub(crate) links: LinkedMap<PolicyID, Policy, S>,
     // The ids of the links of each template. Bodies of static policies are not keys, because each has only its own
     // policy.
-    pub(crate) template_to_links_map: OrderedMap<PolicyID, OrderedSet<PolicyID, S>, S>,
+    pub(crate) template_to_links_map: LinkedMap<PolicyID, LinkedSet<PolicyID, S>, S>,
 }
 
 impl<S: BuildHasher + Clone> PolicyMaps<S> {
     /// Creates empty maps, with this builder of hashers. Does not allocate.
     pub fn with_hasher(hasher: S) -> Self {
         Self {
-            templates: OrderedMap::with_hasher(hasher.clone()),
-            links: OrderedMap::with_hasher(hasher.clone()),
-            template_to_links_map: OrderedMap::with_hasher(hasher),
+            templates: LinkedMap::with_hasher(hasher.clone()),
+            links: LinkedMap::with_hasher(hasher.clone()),
+            template_to_links_map: LinkedMap::with_hasher(hasher),
         }
     }
 
@@ -40,12 +41,12 @@ impl<S: BuildHasher + Clone> PolicyMaps<S> {
 
     /// Returns whether the set is empty. Does not allocate.
     pub fn is_empty(&self) -> bool {
-        are_empty(self.shared_bodies(), self.all_policies())
+        are_empty(self.shared_bodies(), self.policies())
     }
 
     /// Iterates over all policies, static policies and links, in insertion order. Does not allocate.
     pub fn policies(&self) -> Policies<'_> {
-        Policies::of(self.all_policies())
+        Policies::of(self.links.values())
     }
 
     /// Consumes the maps and iterates over all policies, static policies and links, in insertion order. Does not
@@ -67,13 +68,13 @@ impl<S: BuildHasher + Clone> PolicyMaps<S> {
 
     /// Iterates over the static policies, in insertion order. Does not allocate.
     pub fn static_policies(&self) -> StaticPolicies<'_> {
-        StaticPolicies::of(self.all_policies())
+        StaticPolicies::of(self.policies())
     }
 }
 
-// Returns whether both lists are empty.
-fn are_empty(bodies: &[Arc<Template>], policies: &[Policy]) -> bool {
-    bodies.is_empty() && policies.is_empty()
+// Returns whether both iterators have no items.
+fn are_empty(mut bodies: SharedBodies<'_>, mut policies: Policies<'_>) -> bool {
+    bodies.next().is_none() && policies.next().is_none()
 }
 
 impl<S: BuildHasher + Clone> Clone for PolicyMaps<S> {

@@ -5,10 +5,8 @@
 use crate::cedar_binding::same_bindings;
 use crate::cedar_ids::policy_id::PolicyID;
 use crate::cedar_policy::{Policy, Template};
-use crate::cedar_policy_maps::{PolicyMaps, SharedAndNew, is_link};
-use crate::cedar_policy_merge::cursor_lookup::{
-    Places, body_at, has_body, has_policy, new_body_at, place_of_policy, policy_at,
-};
+use crate::cedar_policy_maps::{PolicyMaps, SharedAndNew, is_link, iters};
+use crate::cedar_policy_merge::cursor_lookup::{Places, body_at, has_body, has_policy, new_body_at, policy_at};
 use crate::cedar_policy_merge::fresh::fresh_ids;
 use crate::cedar_policy_merge::places::are_placed_as;
 use crate::cedar_policy_set_errors::err::PolicySetError;
@@ -143,7 +141,7 @@ fn gather_policies<S: BuildHasher + Clone>(
     other: &PolicyMaps<S>,
 ) {
     let mut next = 0;
-    for policy in other.all_policies() {
+    for policy in other.policies() {
         gather_policy(ids, templates, here, policy, &mut next);
     }
 }
@@ -286,16 +284,16 @@ fn is_bound_in_target<S: BuildHasher + Clone>(
     }
 }
 
-// Returns the place of this set's policy with this id after renaming. This set uses no new id.
-fn position_of<S: BuildHasher + Clone>(
-    here: &PolicyMaps<S>,
+// Returns this set's policy with this id after renaming, and its place. This set uses no new id.
+fn policy_in_target<'a, S: BuildHasher + Clone>(
+    here: &'a PolicyMaps<S>,
     new: Option<&PolicyID>,
     id: &PolicyID,
     next: &mut usize,
-) -> Option<usize> {
+) -> Option<(usize, &'a Policy)> {
     match new {
         Some(_) => None,
-        None => place_of_policy(here, id, next),
+        None => here.policy_near(id, next),
     }
 }
 
@@ -332,7 +330,7 @@ fn parted_bodies<S: BuildHasher + Clone>(
 fn part_bodies<S: BuildHasher + Clone>(
     parted: &mut SharedAndNew<Arc<Template>>,
     here: &PolicyMaps<S>,
-    theirs: &[Arc<Template>],
+    theirs: iters::SharedBodies<'_>,
     renaming: &OrderedMap<PolicyID, PolicyID, S>,
 ) {
     let mut next = 0;
@@ -387,7 +385,7 @@ fn parted_policies<S: BuildHasher + Clone>(
         next: 0,
         joined: 0,
     };
-    let theirs = other.all_policies();
+    let theirs = other.policies();
     part_policies(&mut parted, here, theirs, renaming, joined);
     (parted.policies, parted.shares)
 }
@@ -396,7 +394,7 @@ fn parted_policies<S: BuildHasher + Clone>(
 fn part_policies<S: BuildHasher + Clone>(
     parted: &mut SharedAndNewPolicies,
     here: &PolicyMaps<S>,
-    theirs: &[Policy],
+    theirs: iters::Policies<'_>,
     renaming: &OrderedMap<PolicyID, PolicyID, S>,
     joined: &[Arc<Template>],
 ) {
@@ -415,8 +413,7 @@ fn part_policy<S: BuildHasher + Clone>(
     joined: &[Arc<Template>],
 ) {
     let new = new_of(renaming, policy.id());
-    if let Some(place) = position_of(here, new, policy.id(), &mut parted.next) {
-        let stands = &here.all_policies()[place];
+    if let Some((place, stands)) = policy_in_target(here, new, policy.id(), &mut parted.next) {
         push_shared(parted, place, stands, policy);
         return;
     }

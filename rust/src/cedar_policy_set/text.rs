@@ -17,7 +17,7 @@ impl<S: BuildHasher + Clone> fmt::Display for PolicySet<S> {
 }
 
 // Writes the bodies and the policies of a set.
-fn write_orders<S: BuildHasher + Copy>(maps: &PolicyMaps<S>, f: &mut fmt::Formatter<'_>) -> fmt::Result {
+fn write_orders<S: BuildHasher + Clone>(maps: &PolicyMaps<S>, f: &mut fmt::Formatter<'_>) -> fmt::Result {
     if maps.is_empty() {
         return f.write_str("<empty policyset>");
     }

@@ -13,7 +13,7 @@ use std::vec;
 const END: usize = usize::MAX;
 
 /// An entry of a map, with the places of the previous and of the next entry.
-#[derive(Clone)]
+#[derive(Clone, Debug)]
 struct Node<K, V> {
     key: K,
     value: V,
@@ -54,6 +54,7 @@ impl<K, V, S> LinkedMap<K, V, S> {
         Iter {
             nodes: &self.nodes,
             at: self.first,
+            remaining: self.nodes.len(),
         }
     }
 
@@ -238,9 +239,11 @@ impl<K: fmt::Debug, V: fmt::Debug, S> fmt::Debug for LinkedMap<K, V, S> {
 }
 
 /// An iterator over the entries of a map, in their order.
+#[derive(Clone, Debug)]
 pub struct Iter<'a, K, V> {
     nodes: &'a [Node<K, V>],
     at: usize,
+    remaining: usize,
 }
 
 impl<'a, K, V> Iterator for Iter<'a, K, V> {
@@ -249,11 +252,19 @@ impl<'a, K, V> Iterator for Iter<'a, K, V> {
     fn next(&mut self) -> Option<Self::Item> {
         let node = self.nodes.get(self.at)?;
         self.at = node.after;
+        self.remaining -= 1;
         Some((&node.key, &node.value))
+    }
+
+    fn size_hint(&self) -> (usize, Option<usize>) {
+        (self.remaining, Some(self.remaining))
     }
 }
 
+impl<K, V> ExactSizeIterator for Iter<'_, K, V> {}
+
 /// An iterator over the keys of a map, or over the values of a set.
+#[derive(Clone, Debug)]
 pub struct Keys<'a, K, V> {
     inner: Iter<'a, K, V>,
 }
@@ -261,7 +272,11 @@ pub struct Keys<'a, K, V> {
 impl<K, V> Keys<'_, K, V> {
     pub fn empty() -> Self {
         Keys {
-            inner: Iter { nodes: &[], at: END },
+            inner: Iter {
+                nodes: &[],
+                at: END,
+                remaining: 0,
+            },
         }
     }
 }
@@ -272,9 +287,16 @@ impl<'a, K, V> Iterator for Keys<'a, K, V> {
     fn next(&mut self) -> Option<&'a K> {
         self.inner.next().map(|(key, _)| key)
     }
+
+    fn size_hint(&self) -> (usize, Option<usize>) {
+        self.inner.size_hint()
+    }
 }
 
+impl<K, V> ExactSizeIterator for Keys<'_, K, V> {}
+
 /// An iterator over the values of a map.
+#[derive(Clone, Debug)]
 pub struct Values<'a, K, V> {
     inner: Iter<'a, K, V>,
 }
@@ -285,9 +307,16 @@ impl<'a, K, V> Iterator for Values<'a, K, V> {
     fn next(&mut self) -> Option<&'a V> {
         self.inner.next().map(|(_, value)| value)
     }
+
+    fn size_hint(&self) -> (usize, Option<usize>) {
+        self.inner.size_hint()
+    }
 }
 
+impl<K, V> ExactSizeIterator for Values<'_, K, V> {}
+
 /// An iterator over the values of a map, which it consumes.
+#[derive(Clone, Debug)]
 pub struct IntoValues<K, V> {
     inner: vec::IntoIter<Node<K, V>>,
 }
@@ -298,7 +327,13 @@ impl<K, V> Iterator for IntoValues<K, V> {
     fn next(&mut self) -> Option<V> {
         self.inner.next().map(|node| node.value)
     }
+
+    fn size_hint(&self) -> (usize, Option<usize>) {
+        self.inner.size_hint()
+    }
 }
+
+impl<K, V> ExactSizeIterator for IntoValues<K, V> {}
 
 /// A set in insertion order of its values.
 #[derive(Clone)]
