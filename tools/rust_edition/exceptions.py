@@ -96,7 +96,8 @@ GENERAL_PARAMETERS = {
 
 # Public functions of the layer with shared uids in their signatures, which are `pub(crate)` in the package.
 HIDDEN = {('Entity', name) for name in '''with_shared_parents with_parent_set is_descendant_of_shared shared_parents
-shared_ancestors add_shared_parent add_shared_ancestors remove_ancestors_of remove_parents_of'''.split()}
+shared_ancestors add_shared_parent add_shared_ancestors remove_ancestors_of remove_parents_of insert_ancestors_into
+add_ancestor_set'''.split()}
 
 # Files whose functions are marked `#[inline]`, because other crates call them often: hashing, and comparing uids.
 INLINED = {('cedar_keyed_hash', 'lib'), ('cedar_uid_sets', 'fronts')}

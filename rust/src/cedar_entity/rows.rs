@@ -21,13 +21,13 @@ impl Entity {
     /// # Complexity
     ///
     /// As in [`UidSet::extend_from`], for the indirect ancestors and for the parents.
-    pub fn insert_ancestors_into(&self, uids: &mut UidSet) {
+    pub(crate) fn insert_ancestors_into(&self, uids: &mut UidSet) {
         uids.extend_from(&self.indirect_ancestors);
         uids.extend_from(&self.parents);
     }
 
     /// Inserts the uids of a set as indirect ancestors, except uids that are parents. The parents do not change.
-    pub fn add_ancestor_set(&mut self, uids: UidSet) {
+    pub(crate) fn add_ancestor_set(&mut self, uids: UidSet) {
         let mut added = uids;
         added.difference(&self.parents);
         self.indirect_ancestors.extend_ascending(added.into_pointers());

@@ -3,10 +3,10 @@ pub(crate) mod closures;
 mod conversions;
 mod debug;
 mod dot;
+mod exprs;
 pub(crate) mod linked_map;
 #[cfg(test)]
 mod linked_map_tests;
-mod exprs;
 pub(crate) mod ordered_map;
 #[cfg(test)]
 mod ordered_map_tests;
