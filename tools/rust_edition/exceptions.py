@@ -99,8 +99,8 @@ HIDDEN = {('Entity', name) for name in '''with_shared_parents with_parent_set is
 shared_ancestors add_shared_parent add_shared_ancestors remove_ancestors_of remove_parents_of insert_ancestors_into
 add_ancestor_set'''.split()}
 
-# Files whose functions are marked `#[inline]`, because other crates call them often: hashing, and comparing uids.
-INLINED = {('cedar_keyed_hash', 'lib'), ('cedar_uid_sets', 'fronts')}
+# Files whose functions are marked `#[inline]`, because they are called often: for each hash, uid or line.
+INLINED = {('cedar_keyed_hash', 'lib'), ('cedar_uid_sets', 'fronts'), ('cedar_store', 'session')}
 
 # The crates of tests, and the crate of their helpers.
 TESTS = '''cedar_test_helpers cedar_ids_tests cedar_graph_tests cedar_terms_tests

@@ -35,12 +35,14 @@ pub struct Session<S: BuildHasher = KeyedState> {
 /// cedar_store::program::push_not_command(&mut out, 3);
 /// assert_eq!(out, b"line 3: not a command\n");
 /// ```
+#[inline]
 pub fn push_not_command(out: &mut Vec<u8>, number: usize) {
     let text = format!("line {number}: not a command");
     push_line(out, text.as_str());
 }
 
 // Checks whether the first field is `ent`.
+#[inline]
 fn begins_with_ent(fields: &[&str]) -> bool {
     let Some((word, _rest)) = fields.split_first() else {
         return false;
@@ -67,6 +69,7 @@ impl Session {
     /// assert!(!session.apply_line(b"frob", &mut out));
     /// assert!(Session::with_hasher(cedar_store::KeyedState::with_keys(1, 2)).apply_line(b"build", &mut out));
     /// ```
+    #[inline]
     pub fn new() -> Self {
         Self::with_hasher(KeyedState::default())
     }
@@ -86,6 +89,7 @@ impl<S: BuildHasher + Clone> Session<S> {
     /// assert!(!session.apply_line(b"frob", &mut out));
     /// assert!(Session::with_hasher(cedar_store::KeyedState::with_keys(1, 2)).apply_line(b"build", &mut out));
     /// ```
+    #[inline]
     pub fn with_hasher(hasher: S) -> Self {
         Self {
             entities: LineStore::with_hasher(hasher.clone()),
@@ -95,6 +99,7 @@ impl<S: BuildHasher + Clone> Session<S> {
     }
 
     // Runs the fields of a line if they are a command on the store, and returns whether they are.
+    #[inline]
     fn apply_to_store(&mut self, fields: &[&str], out: &mut Vec<u8>) -> bool {
         match read_entity_command(&mut self.known, fields) {
             None => false,
@@ -106,6 +111,7 @@ impl<S: BuildHasher + Clone> Session<S> {
     }
 
     // Runs the fields of a line if they are a command on policy sets, and returns whether they are.
+    #[inline]
     fn apply_to_sets(&mut self, fields: &[&str], out: &mut Vec<u8>) -> bool {
         self.sets.apply_fields(self.known.types(), fields, out)
     }
@@ -117,6 +123,7 @@ impl<S: BuildHasher + Clone> Session<S> {
     // read. Lines `ent` come first, since most lines declare entities. Lines on policy sets are checked next, because
     // they are cheaper than the other commands on the store. A command is passed directly from its reader to the store
     // or the sets.
+    #[inline]
     pub(crate) fn apply_fields_of<'a>(&mut self, fields: &mut Vec<&'a str>, line: &'a [u8], out: &mut Vec<u8>) -> bool {
         if line.is_empty() {
             return true;
@@ -169,6 +176,7 @@ impl<S: BuildHasher + Clone> Session<S> {
     /// assert!(!session.apply_line(b"frob", &mut out));
     /// assert!(Session::with_hasher(cedar_store::KeyedState::with_keys(1, 2)).apply_line(b"build", &mut out));
     /// ```
+    #[inline]
     pub fn apply_line(&mut self, line: &[u8], out: &mut Vec<u8>) -> bool {
         let mut fields = Vec::new();
         self.apply_fields_of(&mut fields, line, out)
