@@ -46,12 +46,12 @@ pub struct PolicyID {
 impl PolicyID {
     /// Creates an id from a text.
     pub fn from_string(text: impl AsRef<str>) -> PolicyID {
-        PolicyID::from_smolstr(text.as_ref())
+        PolicyID::from_smolstr(text.as_ref().to_owned())
     }
 
-    /// Creates an id from a text, which is not copied if it is passed by value.
-    pub fn from_smolstr(id: impl Into<String>) -> PolicyID {
-        PolicyID { text: id.into() }
+    /// Creates an id from a text, without copying it.
+    pub fn from_smolstr(id: String) -> PolicyID {
+        PolicyID { text: id }
     }
 
     /// Returns the text.
