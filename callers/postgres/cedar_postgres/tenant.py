@@ -18,7 +18,7 @@ _LONG_KEYS = re.compile(r"\\u0002[0-9a-f]{64}")
 
 # The memory for an entity without attributes, for attributes, for a policy, and for each byte of JSON, in bytes.
 # Attributes are a tree whose nodes have room for eleven.
-_ENTITY_BYTES, _ATTRIBUTES_BYTES, _POLICY_BYTES, _BYTES_OF_JSON = 450, 1400, 300, 3
+_ENTITY_BYTES, _ATTRIBUTES_BYTES, _POLICY_BYTES, _BYTES_OF_JSON = 600, 1500, 400, 3
 _NO_ATTRIBUTES = "{}, {}]"
 
 
