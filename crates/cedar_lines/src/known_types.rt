@@ -2,7 +2,7 @@
 //! shared.
 ghost use Rattle.std.specs.Prelude.{◌≡◌, ◌++◌, List, ℕ, IfOk, MatchOption, IfSome, IsTrue, codes};
 ghost use Rattle.std.specs.String.{string_bytes};
-ghost use Rattle.cedar_ids.specs.Escape.{is_extra_escape};
+ghost use Rattle.cedar_ids.specs.Escape.{escaped, is_ascii, is_extra_escape};
 ghost use Rattle.cedar_ids.specs.Name.{NameParts};
 ghost use Rattle.cedar_ids.specs.TextOf.{IsNameText, IsPrinted};
 ghost use Rattle.cedar_ids.specs.UidOf.{uid_parts};
@@ -12,11 +12,11 @@ ghost use Rattle.cedar_lines.specs.Reads.{ReadsAs};
 ghost use Rattle.cedar_lines.specs.laws.Halves.{IsMadeOf};
 
 use crate::eid_bytes::is_extra_escape_from;
+use crate::escapes::text_of_escapes;
 use crate::field::uid_field;
 use crate::room::text_in;
 use cedar_ids::entity::{Eid, EntityType, EntityUID};
 use cedar_ids::err::ParseErrors;
-use cedar_ids::escape::is_extra_escape;
 use std::alloc::{AllocError, Global};
 use std::marker::Model;
 
@@ -145,16 +145,12 @@ fn read_type(
     }
 }
 
-// Returns the text before the first `::"`, and the text between it and the last `"`, if the second needs no escape.
-fn unescaped_halves(text: &str) -> Option<(&str, &str)>
-    ensures split { IfSome result (λ r. text.now ≡ r.0.now ++ (codes "::\"" ++ (r.1.now ++ codes "\""))) }
-    ensures own_escape { IfSome result (λ r. IsTrue (is_extra_escape r.1.now)) }
+// Returns the text before the first `::"`, and the text between it and the last `"`.
+fn halves(text: &str) -> Option<(&str, &str)>
+    ensures { IfSome result (λ r. text.now ≡ r.0.now ++ (codes "::\"" ++ (r.1.now ++ codes "\""))) }
 {
     let (name, eid) = text.strip_suffix('"')?.split_once("::\"")?;
-    if is_extra_escape(eid.as_bytes()) {
-        return Some((name, eid));
-    }
-    None
+    Some((name, eid))
 }
 
 // Creates the uid of a type and an eid that needs no escape. Its text is the type, the mark, the eid and a quote.
@@ -162,6 +158,15 @@ fn uid_of_parts(ty: EntityType, eid: String) -> EntityUID
     requires { IsTrue (is_extra_escape (string_bytes eid)) }
     ensures { (name : List ℕ) → IsNameText (type_name ty) name →
         IsPrinted (uid_parts result) (name ++ (codes "::\"" ++ (string_bytes eid ++ codes "\""))) }
+{
+    EntityUID::from_components(ty, Eid::new(eid), None)
+}
+
+// Creates the uid of a type and an eid that was escaped. Its text is the type, the mark, the escaped eid and a quote.
+fn uid_of_escaped(ty: EntityType, eid: String) -> EntityUID
+    requires { IsTrue (is_ascii (string_bytes eid)) }
+    ensures { (name : List ℕ) → IsNameText (type_name ty) name →
+        IsPrinted (uid_parts result) (name ++ (codes "::\"" ++ (escaped (string_bytes eid) ++ codes "\""))) }
 {
     EntityUID::from_components(ty, Eid::new(eid), None)
 }
@@ -202,40 +207,73 @@ fn known_halves<'a, 'b>(known: &'a [KnownType], text: &'b str) -> Option<(&'a Kn
     None
 }
 
-// Creates the uid of this type and an eid that needs no escape. Reads and caches the type. Returns nothing if the first
-// text is not a type.
+// Returns the cached type and the escaped eid of the text of a uid, if the type is cached.
+fn known_parts<'a, 'b>(known: &'a [KnownType], text: &'b str) -> Option<(&'a KnownType, &'b str)>
+    ensures { IfSome result (λ r. IsMadeOf r.0.now r.1.now text.now) }
+{
+    let unclosed = text.strip_suffix('"')?;
+    for one in known {
+        if let Some(escaped) = unclosed.strip_prefix(one.marked.as_str()) {
+            return Some((one, escaped));
+        }
+    }
+    None
+}
+
+// Reads a uid whose type is cached and whose eid has escapes. Decodes only the eid. Returns nothing for other texts and
+// for rare escapes.
+fn uid_with_escapes(
+    alloc: Global,
+    known: &[KnownType],
+    text: &str,
+) -> Result<Option<EntityUID>, AllocError>
+    ensures { IfOk result (λ o. IfSome o (λ u. IsPrinted (uid_parts u) text.now)) }
+{
+    let Some((one, eid)) = known_parts(known, text) else {
+        return Ok(None);
+    };
+    let Some(eid) = text_of_escapes(alloc, eid)? else {
+        return Ok(None);
+    };
+    let ty = type_of(one)?;
+    Ok(Some(uid_of_escaped(ty, eid)))
+}
+
+// Creates the uid of this type and this escaped eid. Reads and caches the type. Returns nothing if the first text is not
+// a type, or for rare escapes.
 fn uid_of_halves(
     alloc: Global,
     known: &mut KnownTypes,
     name: &str,
     eid: &str,
 ) -> Result<Option<EntityUID>, AllocError>
-    requires { IsTrue (is_extra_escape eid.now) }
     ensures { IfOk result (λ o. IfSome o (λ u. IsPrinted (uid_parts u) (name.now
         ++ (codes "::\"" ++ (eid.now ++ codes "\""))))) }
 {
+    let Some(eid) = text_of_escapes(alloc, eid)? else {
+        return Ok(None);
+    };
     let Some(ty) = read_type(alloc, known, name)? else {
         return Ok(None);
     };
-    let eid = String::from_str(alloc, eid)?;
-    Ok(Some(uid_of_parts(ty, eid)))
+    Ok(Some(uid_of_escaped(ty, eid)))
 }
 
-// Reads a uid whose eid needs no escape, and caches its type.
-fn uid_without_escape(
+// Reads a uid and caches its type. Returns nothing for rare escapes and for texts that are not the text of a uid.
+fn uid_of_new_type(
     alloc: Global,
     known: &mut KnownTypes,
     text: &str,
 ) -> Result<Option<EntityUID>, AllocError>
     ensures { IfOk result (λ o. IfSome o (λ u. IsPrinted (uid_parts u) text.now)) }
 {
-    match unescaped_halves(text) {
+    match halves(text) {
         None => Ok(None),
         Some((name, eid)) => uid_of_halves(alloc, known, name, eid),
     }
 }
 
-// Reads a uid whose type is not cached.
+// Reads a uid whose type is not cached, or whose eid needs escapes.
 #[inline(never)]
 fn read_uid(
     alloc: Global,
@@ -244,7 +282,10 @@ fn read_uid(
 ) -> Result<Option<EntityUID>, AllocError>
     ensures { IfOk result (ReadsAs (λ (u : EntityUID). IsPrinted (uid_parts u) text.now) (λ u. u)) }
 {
-    if let Some(uid) = uid_without_escape(alloc, known, text)? {
+    if let Some(uid) = uid_with_escapes(alloc, &known.types, text)? {
+        return Ok(Some(uid));
+    }
+    if let Some(uid) = uid_of_new_type(alloc, known, text)? {
         return Ok(Some(uid));
     }
     uid_field(alloc, text)
@@ -253,8 +294,8 @@ fn read_uid(
 /// Reads a field as a uid with an ASCII eid. Returns nothing if the field is not the text of such a uid. The result is
 /// the same as [`uid_field`]'s.
 ///
-/// If the eid has no escape, the type is cached in `known` and shared with other uids of the type. The uid then has no
-/// location. Any other uid is read without the cache.
+/// If each escape of the eid has one letter after its backslash, the type is cached in `known` and shared with other uids
+/// of the type, and the uid has no location. A uid with other escapes, such as `\u{1}`, is read without the cache.
 ///
 /// # Errors
 ///

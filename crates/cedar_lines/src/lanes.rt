@@ -1,5 +1,6 @@
 // Checks of the bytes of a line and masks of its tabs, sixteen bytes at a time. Most lines have 16 to 64 bytes. One
-// step costs about six instructions, and wider vectors would not fit into such lines.
+// step costs about six instructions, and wider vectors would not fit into such lines. A line of 8 to 15 bytes takes two
+// steps of eight bytes.
 ghost use Rattle.std.specs.Prelude.{◌≡◌, ◌≢◌, ℕ, ◌+◌, ◌<◌, ◌≤◌, IfSome, IsTrue, length};
 ghost use Rattle.std.specs.Int.{bit_at};
 ghost use Rattle.cedar_lines.specs.Lines.{HasLineBytesIn};
@@ -44,6 +45,29 @@ fn tabs_at(line: &[u8], at: usize) -> u64
 {
     u8x16::from_slice(&line[at..])
         .simd_eq(u8x16::splat(b'\t'))
+        .to_bitmask()
+}
+
+// Returns whether each of the 8 bytes from a place on is a tab or printable ASCII.
+#[inline(always)]
+fn has_eight_line_bytes(line: &[u8], at: usize) -> bool
+    requires { at + 8 ≤ length line.now }
+    ensures { IsTrue result → HasLineBytesIn line.now at (at + 8) }
+{
+    let v = u8x8::from_slice(&line[at..]);
+    // Bytes below a blank become larger than all others.
+    let from_blank = v - u8x8::splat(b' ');
+    (from_blank.simd_gt(u8x8::splat(94)) & v.simd_ne(u8x8::splat(b'\t'))).to_bitmask() == 0
+}
+
+// Returns a mask of the tabs among the 8 bytes from a place on.
+#[inline(always)]
+fn tabs_of_eight(line: &[u8], at: usize) -> u64
+    requires { at + 8 ≤ length line.now }
+    ensures { MarksTabs line.now at (at + 8) result }
+{
+    u8x8::from_slice(&line[at..])
+        .simd_eq(u8x8::splat(b'\t'))
         .to_bitmask()
 }
 
@@ -101,6 +125,22 @@ pub(crate) fn tabs_of_line(line: &[u8]) -> Option<u64>
     }
     if has_line_bytes_at(line, last) {
         return Some(tabs | (tabs_at(line, last) << last));
+    }
+    None
+}
+
+// Returns a mask of the tabs of a line, if each byte is a tab or printable ASCII. The line has 8 to 16 bytes. Its first
+// eight and its last eight bytes may overlap.
+#[inline(always)]
+pub(crate) fn tabs_of_short_line(line: &[u8]) -> Option<u64>
+    requires long { 8 ≤ length line.now }
+    requires few { length line.now ≤ 16 }
+    ensures line_bytes { IfSome result (λ _tabs. HasLineBytesIn line.now 0 (length line.now)) }
+    ensures tabs { IfSome result (λ tabs. MarksTabs line.now 0 (length line.now) tabs) }
+{
+    let last = line.len() - 8;
+    if has_eight_line_bytes(line, 0) && has_eight_line_bytes(line, last) {
+        return Some(tabs_of_eight(line, 0) | (tabs_of_eight(line, last) << last));
     }
     None
 }

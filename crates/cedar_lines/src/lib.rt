@@ -7,6 +7,7 @@
 #![tactic(auto)]
 
 mod eid_bytes;
+mod escapes;
 pub mod field;
 pub mod known_types;
 mod lanes;

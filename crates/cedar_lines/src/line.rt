@@ -5,7 +5,9 @@ ghost use Rattle.std.specs.Str.{IsAscii};
 ghost use Rattle.cedar_lines.specs.Lines.{is_line_byte};
 ghost use Rattle.cedar_lines.specs.laws.Fields.{HasNoTabIn, MarksTabs, block_end};
 
-use crate::lanes::{has_line_bytes, lowest_bit, tabs_in, tabs_of_line, without_bit};
+use crate::lanes::{
+    has_line_bytes, lowest_bit, tabs_in, tabs_of_line, tabs_of_short_line, without_bit,
+};
 use std::alloc::AllocError;
 
 // Appends the fields that end at the tabs of a block, and returns the start of the field after them. The block has up
@@ -97,14 +99,20 @@ fn has_only_line_bytes(line: &[u8]) -> bool
     is_readable
 }
 
-// Returns a mask of the tabs of a line of 16 to 64 bytes, if it has only tabs and printable ASCII characters.
+// Returns a mask of the tabs of a line of 8 to 64 bytes, if it has only tabs and printable ASCII characters.
 #[inline(always)]
 fn tabs_of_some(line: &[u8]) -> Option<u64>
     ensures few { IfSome result (λ _tabs. length line.now ≤ 64) }
     ensures readable { IfSome result (λ _tabs. list_all is_line_byte line.now ≡ true) }
     ensures tabs { IfSome result (λ tabs. MarksTabs line.now 0 (length line.now) tabs) }
 {
-    if 16 <= line.len() && line.len() <= 64 {
+    if line.len() < 16 {
+        if 8 <= line.len() {
+            return tabs_of_short_line(line);
+        }
+        return None;
+    }
+    if line.len() <= 64 {
         return tabs_of_line(line);
     }
     None

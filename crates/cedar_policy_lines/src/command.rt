@@ -103,10 +103,13 @@ fn no_id(alloc: Global) -> PolicyID {
     PolicyID::from_smolstr(String::new(alloc))
 }
 
-// Sets an id to this text, and reuses its buffer.
+// Sets an id to this text, and reuses its buffer. Many links after one another name the same template.
 fn set_id(alloc: Global, id: &mut PolicyID, text: &str) -> Result<(), AllocError>
     ensures { OnOk result (id.new ≡ text.now) }
 {
+    if id.as_ref() == text {
+        return Ok(());
+    }
     let mut before = mem::replace(id, no_id(alloc)).into_smolstr();
     *id = PolicyID::from_smolstr(text_in(alloc, &mut before, text)?);
     Ok(())

@@ -5,6 +5,6 @@ use Rattle.cedar_lines.proofs.known_types.uid_of_halves.Goals as goal
 
 pub returns : goal.returns
 returns c =
-    subst (λ e. IsPrinted (uid_parts c.uid_of_parts.result) (c.args.name.now ++ (codes "::\"" ++ (e ++ codes "\""))))
-    c.in_ok-eid.ensures.ok
-    (c.uid_of_parts.ensures c.args.name.now (rw c.in-Some.is at c.in_ok-ty.ensures))
+    subst (λ e. IsPrinted (uid_parts c.uid_of_escaped.result) (c.args.name.now ++ (codes "::\"" ++ (e ++ codes "\""))))
+    (rw c.in-Some.is at c.in_ok-eid.ensures.escaped)
+    (c.uid_of_escaped.ensures c.args.name.now (rw c.in-Some-2.is at c.in_ok-ty.ensures))

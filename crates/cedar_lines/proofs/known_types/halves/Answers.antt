@@ -1,10 +1,10 @@
 use Rattle.std.proofs.Common.{◌≡◌, ◌∙◌, ◌++◌, ◌∷◌, [], ap, sym, lit<, take, Some, append_assoc}
 use Rattle.std.proofs.lemmas.List.{take-append-drop}
 use Rattle.std.proofs.lemmas.Str.Pattern.{strip_suffix_char}
-use Rattle.cedar_lines.proofs.known_types.unescaped_halves.Goals as goal
+use Rattle.cedar_lines.proofs.known_types.halves.Goals as goal
 
-pub returns-then-is_extra_escape-clause-split : goal.returns-then-is_extra_escape-clause-split
-returns-then-is_extra_escape-clause-split c =
+pub returns : goal.returns
+returns c =
     let front = c.in_ok-strip_suffix.field-0.now in
     let whole : c.args.text.now ≡ front ++ 34 ∷ [] =
     strip_suffix_char 34 c.args.text.now (Some c.in_ok-strip_suffix.field-0) c.in_ok-strip_suffix.ensures.cases
