@@ -276,6 +276,30 @@ fn removed(alloc: Global, number: usize, row: Row<'_>) -> CallOutcome {
     }
 }
 
+// Removes keys from a map near their places, one after another. No removal allocates.
+fn removed_near(alloc: Global, number: usize, row: Row<'_>) -> CallOutcome {
+    let (keys, gone) = row.given.split_once(' ').unwrap_or((row.given, ""));
+    match map_of(alloc, keys) {
+        Some(map) => {
+            let mut map = map;
+            refuse(alloc, number);
+            let mut were_there = true;
+            for key in gone.as_bytes() {
+                let mut next = usize::MAX;
+                let place = match map.get_near(key, &mut next) {
+                    Some((place, _)) => place,
+                    None => usize::MAX,
+                };
+                were_there = were_there && map.shift_remove_near(key, place) == Some(*key);
+                were_there = were_there && map.shift_remove_near(key, place).is_none();
+            }
+            let outcome = left(alloc, map, Ok(()), (keys, row.want));
+            if were_there { outcome } else { unmade() }
+        }
+        None => unmade(),
+    }
+}
+
 // Consumes the values of a map.
 fn consumed(alloc: Global, number: usize, row: Row<'_>) -> CallOutcome {
     let (keys, gone) = row.given.split_once(' ').unwrap_or((row.given, ""));
@@ -319,6 +343,8 @@ const CALLS: &str = "
     - LinkedMap::shift_remove | abcde e | abcd
     - LinkedMap::shift_remove | abcde bd | ace
     - LinkedMap::shift_remove | abcde db | ace
+    - LinkedMap::shift_remove_near | abcde a | bcde
+    - LinkedMap::shift_remove_near | abcde eb | acd
     - LinkedMap::into_values | abcde b | acde
     - LinkedMap::into_values | abcde ea | bcd
 ";
@@ -392,6 +418,7 @@ impl Calls for OnMaps {
             "LinkedSet::clone" => copied_set(alloc, number, row),
             "LinkedSet::from_index_set" => converted_set(alloc, number, row),
             "LinkedMap::shift_remove" | "removed" => removed(alloc, number, row),
+            "LinkedMap::shift_remove_near" => removed_near(alloc, number, row),
             "LinkedMap::into_values" | "consumed" => consumed(alloc, number, row),
             _ => unmade(),
         }

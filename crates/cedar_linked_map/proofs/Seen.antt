@@ -167,6 +167,16 @@ module _ {K V : Type 0} where
   key_passes t ns i r at h = ap t (sym (get_or_from_slice_get (keys_of ns) i r.0 r.0 (key_there ns i r h)))
       ∙ (position-Some t (keys_of ns) i r.0 at).1
 
+-- The key and the node at a place are those of the entry there.
+pub node_there : {K V : Type 0} (ns : List (K × Node V)) (i : ℕ) (k : K) (n : Node V) (r : K × V)
+    → slice_get ns i ≡ Some (k, n) → slice_get (cells ns) i ≡ Some r → (k ≡ r.0) × (n.value ≡ r.1)
+node_there [] i k n r h g = absurd (none-some r g)
+node_there (e ∷ ns) zero k n r h g =
+    let same : e ≡ (k, n) = cc in
+    let there : (e.0, e.1.value) ≡ r = cc in
+    (ap (λ p. p.0) (sym same) ∙ ap (λ p. p.0) there, ap (λ p. p.1.value) (sym same) ∙ ap (λ p. p.1) there)
+node_there (e ∷ ns) (suc i) k n r h g = node_there ns i k n r h g
+
 pub none_from : {X : Type 0} (o : Option X) → is_some o ≡ false → o ≡ None
 none_from None h = refl
 none_from (Some x) h = absurd (true≢false h)

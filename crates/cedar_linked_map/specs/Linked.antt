@@ -36,7 +36,7 @@ IsPlaceOrEnd n u = (u < n) ⊎ (u ≡ end)
 abbrev pub picked : {X : Type 0} → List X → List ℕ → List X
 picked es o = filter_map (slice_get es) o
 
--- At most `n` items, from a place on. `A` has the place after each place.
+-- The items at a place `u`, at the place after it, and so on: at most `n` items. `A` maps each place to the next one.
 abbrev pub walk : {X : Type 0} → ℕ → List X → (ℕ → ℕ) → ℕ → List X
 walk zero es A u = []
 walk (suc n) es A u = option_map_or (λ e. e ∷ walk n es A (A u)) (slice_get es u) []

@@ -155,6 +155,9 @@ impl<K: Eq + Hash, V, S: BuildHasher> LinkedMap<K, V, S> {
     /// Returns the value with this key and its place in the table, if there is one. First compares the key at the place
     /// `next`, so that a lookup in the order of the map does not hash. If the key is found, `next` becomes the place of
     /// the next entry. Does not allocate.
+    ///
+    /// The value is proved. The two places only save time: no contract states them, and after a wrong one the next
+    /// lookup hashes.
     pub fn get_near(&self, key: &K, next: &mut usize) -> Option<(usize, &V)>
         ensures value { option_map (λ p. p.1.now) result ≡ get K.eq self.now key.now }
     {
@@ -317,6 +320,7 @@ impl<K: Eq + Hash, V, S: BuildHasher> LinkedMap<K, V, S> {
         ensures entries { OnOk result (self.new.entries ≡ insert_all K.eq self.old.entries other.old.entries) }
         ensures emptied { OnOk result (IsEmpty other.new) }
         ensures err { OnErr result (IsUnchanged self.old self.new) }
+        ensures err_other { OnErr result (IsUnchanged other.old other.new) }
         ensures succeeds { index_map_len other.old ≤ spare self.old → IsOk result }
         ensures hasher { hasher_of self.new ≡ hasher_of self.old }
     {
@@ -350,6 +354,33 @@ impl<K: Eq + Hash, V, S: BuildHasher> LinkedMap<K, V, S> {
                 Some(value)
             }
         }
+    }
+
+    /// Removes the entry with this key, and returns its value, as [`LinkedMap::shift_remove`] does. First compares the key
+    /// at this place, so that a removal after a lookup with [`LinkedMap::get_near`] does not hash. Does not allocate.
+    ///
+    /// The result is proved. The place only saves time: after a wrong one the removal hashes.
+    ///
+    /// # Complexity
+    ///
+    /// O(1).
+    pub fn shift_remove_near(&mut self, key: &K, place: usize) -> Option<V>
+    where
+        K: Drop,
+        ensures value { result ≡ get K.eq self.old key.now }
+        ensures entries { self.new.entries ≡ shift_remove_entry (K.eq key.now) self.old.entries }
+        ensures unchanged { IfNone result (IsUnchanged self.old self.new) }
+        ensures room { KeepsRoom self.old self.new }
+    {
+        // No effect at run time: for the proof, this call states that the length is small.
+        let _len = self.chain.nodes.len();
+        if let Some((near, _)) = self.chain.nodes.get_index(place) {
+            if near == key {
+                let (_, value) = self.chain.take_at(place);
+                return Some(value);
+            }
+        }
+        self.shift_remove(key)
     }
 
     /// Removes the first entry, and returns it. Does not allocate.

@@ -1,5 +1,5 @@
 //! The set.
-ghost use Rattle.std.specs.Prelude.{◌≡◌, ◌+◌, ◌<◌, ◌≤◌, ◌^◌, ◌↔◌, [], not, IsTrue, IsOk, IfOk, OnOk, OnErr};
+ghost use Rattle.std.specs.Prelude.{◌≡◌, ◌+◌, ◌<◌, ◌≤◌, ◌^◌, ◌↔◌, ◌++◌, ◌∷◌, [], false, not, IsTrue, IsOk, IfOk, OnOk, OnErr};
 ghost use Rattle.std.specs.Map.{keys_of};
 ghost use Rattle.indexmap.specs.IndexMap as maps;
 ghost use Rattle.indexmap.specs.IndexSet.{insert_all, insert_key, remove_key, index_set_len, spare, hasher_of};
@@ -102,6 +102,19 @@ impl<T: Eq + Hash, S: BuildHasher> LinkedSet<T, S> {
         }
     }
 
+    /// Appends a value that the set does not contain. The space must be reserved. Does not allocate.
+    pub fn push(&mut self, value: T)
+    where
+        T: Drop,
+        requires room { 0 < spare self.old }
+        requires absent { contains T.eq self.old value ≡ false }
+        ensures keys { self.new.keys ≡ self.old.keys ++ value ∷ [] }
+        ensures spare { spare self.old ≤ spare self.new + 1 }
+        ensures hasher { hasher_of self.new ≡ hasher_of self.old }
+    {
+        self.map.push(value, ());
+    }
+
     /// Removes the value that is equal to `value`, and returns whether there was one. The order of the other values
     /// does not change. Does not allocate.
     ///
@@ -131,6 +144,7 @@ impl<T: Eq + Hash, S: BuildHasher> LinkedSet<T, S> {
         T: Drop,
         ensures keys { OnOk result (self.new.keys ≡ insert_all T.eq self.old.keys other.old.keys) }
         ensures err { OnErr result (IsUnchanged self.old self.new) }
+        ensures err_other { OnErr result (IsUnchanged other.old other.new) }
         ensures succeeds { index_set_len other.old ≤ spare self.old → IsOk result }
     {
         self.map.append(&mut other.map)
