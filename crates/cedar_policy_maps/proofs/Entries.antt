@@ -1,6 +1,6 @@
 -- Appending entries and changing lists.
 use Rattle.std.specs.Prelude.{◌≡◌, ℕ, ◌+◌, ◌<◌, suc, length, List, [], ◌∷◌, ◌++◌, Bool, true, false, not, ◌||◌, ◌&&◌}
-use Rattle.std.specs.Prelude.{Option, Some, None, refl, map, is_some}
+use Rattle.std.specs.Prelude.{Option, Some, None, IfSome, refl, map, is_some}
 use Rattle.std.proofs.Common.{cond, sym, ap, ◌∙◌, subst, take, drop, get_or, Bor}
 use Rattle.std.specs.List.{filter, find, list_any, AllByRecursion, AllZip, IsDistinct}
 use Rattle.std.specs.Map.{keys_of, values_of, lookup, set_value, remove_entry}
@@ -18,7 +18,7 @@ use Rattle.cedar_body.specs.Bodies.{BodyParts}
 use Rattle.cedar_policy.specs.Policies.{PolicyParts, policy_id}
 use Rattle.cedar_policy_maps.specs.PolicySets.{SetParts, AreOnce, bound_at, is_bound, is_body_at}
 use Rattle.cedar_policy_maps.specs.PolicySets.{is_policy_at, template_bound}
-use Rattle.cedar_policy_maps.specs.Lists.{ids_in}
+use Rattle.cedar_policy_maps.specs.Lists.{ids_in, is_on}
 use Rattle.cedar_policy_maps.specs.Maps.{Maps, shared_of, lists_of, set_in, ids_by_body, templates_in, DoAgree}
 use Rattle.cedar_policy_maps.specs.Views.{bodies_of}
 use Rattle.cedar_policy_maps.specs.laws.SetLaws.{no_body_at, no_policy_at, template_among}
@@ -27,7 +27,8 @@ use Rattle.cedar_policy_maps.specs.laws.GatherLaws.{with_gathered, gathered, gat
 use Rattle.cedar_policy_maps.specs.laws.GatherLaws.{elsewhere_in}
 use Rattle.cedar_policy_maps.specs.laws.BulkInsertSteps.{listed_keys}
 use Rattle.cedar_policy_maps.specs.laws.Walks.{parted, bodies_more, policies_more}
-use Rattle.cedar_policy_maps.specs.laws.MapLaws.{listed_at, all_listed}
+use Rattle.cedar_policy_maps.specs.laws.MapLaws.{listed_at, all_listed, link_ids}
+use Rattle.cedar_policy_maps.specs.laws.TemplateLaws.{template_found}
 use Rattle.cedar_policy_maps.specs.laws.OnceLaws.{is_at, before_at, find-unless, any-filter_none, any-map}
 
 unchanged_at : (v : Bool) (e : List ℕ × List (List ℕ)) (es gs : List (List ℕ × List (List ℕ))) → gs ≡ es
@@ -337,12 +338,78 @@ module _ {S : Type 0} where
       ∙ ap (option_map (λ t. ids_in t.id (set_in m).policies))
       (no_template_at i (set_in m).bodies (set_in m).policies (no_body_at (set_in m) i n)))
 
+  list_free : (o : Option (IndexSet (List ℕ) S)) (u : Option BodyParts) (i : List ℕ) (ps : List PolicyParts)
+      → option_map ids o ≡ option_map (λ t. ids_in t.id ps) u → list_any (is_policy_at i) ps ≡ false
+      → IfSome o (λ s. list_any (same_text i) s.keys ≡ false)
+  list_free None u i ps h n = tt
+  list_free (Some s) None i ps h n = absurd (cc)
+  list_free (Some s) (Some t) i ps h n =
+      let same : s.keys ≡ ids_in t.id ps = cc in
+      ap (list_any (same_text i)) same
+      ∙ any-map policy_id (same_text i) (filter (is_on t.id) ps)
+      ∙ any-filter_none (is_on t.id) (is_policy_at i) ps n
+
+  pub not_in : (o : Option (IndexSet (List ℕ) S)) (s : IndexSet (List ℕ) S) (i : List ℕ) → Some s ≡ o
+      → IfSome o (λ t. list_any (same_text i) t.keys ≡ false) → list_any (same_text i) s.keys ≡ false
+  not_in None s i e h = absurd (cc)
+  not_in (Some t) s i e h =
+      let same : t ≡ s = cc in
+      subst (λ (t : IndexSet (List ℕ) S). list_any (same_text i) t.keys ≡ false) same h
+
+  -- An unused id is in no list.
+  pub id_unlisted : (m : Maps) (es : List (List ℕ × IndexSet (List ℕ) S)) (k i : List ℕ) → DoAgree m
+      → m.listed ≡ lists_of es → is_bound (set_in m) i ≡ false
+      → IfSome (lookup (same_text k) es) (λ s. list_any (same_text i) s.keys ≡ false)
+  id_unlisted m es k i h q n =
+      let templates = templates_in (set_in m).policies (set_in m).bodies in
+      list_free (lookup (same_text k) es) (find (is_body_at k) templates) i (set_in m).policies
+      (sym (lookup-map_values ids (same_text k) es) ∙ ap (lookup (same_text k)) (sym q ∙ h.all_listed)
+      ∙ listed_at k templates (set_in m).policies)
+      (no_policy_at (set_in m) i n)
+
+  -- The id of a policy is not a key of the lists.
+  pub policy_unkeyed : (m : Maps) (es : List (List ℕ × IndexSet (List ℕ) S)) (i : List ℕ) → DoAgree m
+      → m.listed ≡ lists_of es → list_any (is_policy_at i) (set_in m).policies ≡ true → lookup (same_text i) es ≡ None
+  policy_unkeyed m es i h q n =
+      none_unread ids (same_text i) es
+      (ap (lookup (same_text i)) (sym q ∙ h.all_listed)
+      ∙ listed_at i (templates_in (set_in m).policies (set_in m).bodies) (set_in m).policies
+      ∙ ap (option_map (λ t. ids_in t.id (set_in m).policies))
+      (template_found i (set_in m).bodies (set_in m).policies
+      ∙ ap (λ v. cond v None (find (is_body_at i) (set_in m).bodies)) n))
+
 pub absent_body : (m : Maps) (es : List (List ℕ × Rc BodyParts Global)) (i : List ℕ) → DoAgree m
     → m.bodies ≡ shared_of es → is_bound (set_in m) i ≡ false → lookup (same_text i) es ≡ None
 absent_body m es i h q n =
     none_unread body (same_text i) es
     (ap (lookup (same_text i)) (sym q) ∙ lookup_is body_id (same_text i) m.bodies h.bodies_by_id
     ∙ find-unless (is_body_at i) (set_in m).bodies (no_body_at (set_in m) i n))
+
+absent_at : {V : Type 0} (v : Bool) (e : List ℕ × V) (o : Option V) (es gs : List (List ℕ × V))
+    → cond v (Some e.1) o ≡ None → (o ≡ None → gs ≡ es) → cond v es (e ∷ gs) ≡ e ∷ es
+absent_at true e o es gs h ih = absurd (cc)
+absent_at false e o es gs h ih = ap (λ xs. e ∷ xs) (ih h)
+
+-- Removing an absent key changes nothing.
+pub removed_absent : {V : Type 0} (t : List ℕ → Bool) (es : List (List ℕ × V)) → lookup t es ≡ None
+    → remove_entry t es ≡ es
+removed_absent t [] h = refl
+removed_absent t (e ∷ es) h =
+    absent_at (t e.0) e (lookup t es) es (remove_entry t es) h (removed_absent t es)
+
+option_none : {V W : Type 0} (f : V → W) (o : Option V) → None ≡ option_map f o → o ≡ None
+option_none f None h = refl
+option_none f (Some v) h = absurd (cc)
+
+-- The id of a link is not a key of the bodies.
+pub link_unkeyed : (m : Maps) (es : List (List ℕ × Rc BodyParts Global)) (i : List ℕ) (p : PolicyParts) → DoAgree m
+    → m.bodies ≡ shared_of es → find (is_policy_at i) (set_in m).policies ≡ Some p → is_some p.link ≡ true
+    → lookup (same_text i) es ≡ None
+link_unkeyed m es i p h q f s =
+    none_read body (lookup (same_text i) es)
+    (body_read m es i h q
+    ∙ option_none (λ (t : BodyParts). ids_in t.id (set_in m).policies) (find (is_body_at i) (set_in m).bodies)
+    (link_ids (set_in m) i p h.policy_set f s))
 
 pub absent_policy : (m : Maps) (i : List ℕ) → DoAgree m → is_bound (set_in m) i ≡ false
     → lookup (same_text i) m.policies ≡ None

@@ -14,7 +14,8 @@ ghost use Rattle.cedar_policy_maps.specs.laws.MapLaws.{has_ids};
 use crate::iters::{LinkedIds, SharedBodies};
 use crate::lists::{has_no_slots, is_link};
 use crate::maps::{
-    insert_reserved, list_policy, reserve_with_body, room_for_body, room_for_list, unlist,
+    insert_reserved, list_policy, remove_body, reserve_with_body, room_for_body, room_for_list,
+    unlist,
 };
 use crate::policy_maps::PolicyMaps;
 use crate::policy_or_template::PolicyOrTemplate;
@@ -74,7 +75,8 @@ impl<S: BuildHasher + Copy> PolicyMaps<S> {
     }
 
     /// Returns the shared body with this id, if there is one. Tries the place `next` first, and sets it to the place after
-    /// the body. Lookups in the order of the bodies do not hash. Does not allocate.
+    /// the body. Lookups in the order of the bodies do not hash. No contract states `next`, which only saves time. Does
+    /// not allocate.
     pub fn body_near(&self, id: &PolicyID, next: &mut usize) -> Option<&Rc<Template>>
         ensures { option_map (λ t. t.now.value) result ≡ find (is_body_at id.now) self.now.bodies }
     {
@@ -85,7 +87,8 @@ impl<S: BuildHasher + Copy> PolicyMaps<S> {
     }
 
     /// Returns the policy with this id and its place, if there is one. Tries the place `next` first, and sets it to the
-    /// place after the policy. Lookups in the order of the policies do not hash. Does not allocate.
+    /// place after the policy. Lookups in the order of the policies do not hash. No contract states the places, which only
+    /// save time. Does not allocate.
     pub fn policy_near(&self, id: &PolicyID, next: &mut usize) -> Option<(usize, &Policy)>
         ensures { option_map (λ p. p.1.now) result ≡ find (is_policy_at id.now) self.now.policies }
     {
@@ -146,6 +149,22 @@ impl<S: BuildHasher + Copy> PolicyMaps<S> {
                 Some(template) => Some(PolicyOrTemplate::Template(template)),
                 None => None,
             },
+        }
+    }
+
+    /// Returns the policy or template with this id, as [`PolicyMaps::found`] does. If it is a policy, sets `place` to its
+    /// place, from which [`PolicyMaps::take_near`] removes it. No contract states the place, which only saves time. Does
+    /// not allocate.
+    pub fn found_near(&self, id: &PolicyID, place: &mut usize) -> Option<PolicyOrTemplate<'_>>
+        ensures { option_map found_binding result ≡ bound_at self.now id.now }
+    {
+        let mut next = usize::MAX;
+        match self.policy_near(id, &mut next) {
+            Some((at, policy)) => {
+                *place = at;
+                Some(PolicyOrTemplate::Policy(policy))
+            }
+            None => self.found(id),
         }
     }
 
@@ -299,9 +318,29 @@ impl<S: BuildHasher + Copy> PolicyMaps<S> {
         ensures policy { result.1 ≡ find (is_policy_at id.now) self.old.policies }
         ensures taken { self.new ≡ without_id self.old id.now }
     {
-        let template = self.templates.shift_remove(id);
-        let policy = self.links.shift_remove(id);
-        drop(self.template_to_links_map.shift_remove(id));
+        self.take_near(id, usize::MAX)
+    }
+
+    /// Removes the entries with this id, as [`PolicyMaps::take`] does. Tries this place of the policy first, so that a
+    /// removal after [`PolicyMaps::found_near`] does not look the id up again. The caller must ensure that no template with
+    /// this id has links. Does not allocate.
+    pub fn take_near(
+        &mut self,
+        id: &PolicyID,
+        place: usize,
+    ) -> (Option<Rc<Template>>, Option<Policy>)
+        requires { has_links self.old id.now ≡ false }
+        ensures body { option_map (λ t. t.value) result.0 ≡ find (is_body_at id.now) self.old.bodies }
+        ensures policy { result.1 ≡ find (is_policy_at id.now) self.old.policies }
+        ensures taken { self.new ≡ without_id self.old id.now }
+    {
+        let policy = self.links.shift_remove_near(id, place);
+        let template = remove_body(
+            &mut self.templates,
+            &mut self.template_to_links_map,
+            &policy,
+            id,
+        );
         unlist(&mut self.template_to_links_map, &policy, id);
         (template, policy)
     }

@@ -1,5 +1,5 @@
 //! Operations on one map: appending entries, changing lists of ids, and creating maps from lists.
-ghost use Rattle.std.specs.Prelude.{◌≡◌, ◌<◌, ◌≤◌, length, ◌++◌, ◌∷◌, [], None, not, is_some, OnOk, OnErr, IfOk};
+ghost use Rattle.std.specs.Prelude.{◌≡◌, ◌<◌, ◌≤◌, length, ◌++◌, ◌∷◌, [], None, not, is_some, true, false, OnOk, OnErr, IfOk, IfSome};
 ghost use Rattle.std.specs.List.{filter, list_any};
 ghost use Rattle.std.specs.Map.{keys_of, values_of};
 ghost use Rattle.cedar_ids.specs.Texts.{same_text};
@@ -12,8 +12,8 @@ ghost use Rattle.cedar_policy_maps.specs.laws.GatherLaws.{gathered, gathered_unl
 ghost use Rattle.cedar_policy_maps.specs.laws.GatherLaws.{links_in, elsewhere_in};
 ghost use Rattle.cedar_policy_maps.specs.laws.ListedLaws.{with_listed, without_listed, IsKeyed};
 ghost use Rattle.cedar_policy_maps.specs.laws.MapLaws.{unlisted, all_listed};
-ghost use Rattle.indexmap.specs.IndexMap.{get, spare};
-ghost use Rattle.indexmap.specs.IndexSet.{insert_key, remove_key};
+ghost use Rattle.indexmap.specs.IndexMap.{get, shift_remove_entry, spare};
+ghost use Rattle.indexmap.specs.IndexSet.{contains, insert_key, remove_key};
 
 use crate::lists::{is_link, template_of};
 use cedar_ids::policy_id::PolicyID;
@@ -79,12 +79,15 @@ pub(crate) fn room_for_body<S: BuildHasher + Copy>(
     Ok((id, listed))
 }
 
-// Reserves space for one more policy, appends its id to the list of its template, and returns a copy of the id.
+// Reserves space for one more policy, appends its id to the list of its template, and returns a copy of the id. The list
+// must not contain the id.
 pub(crate) fn list_policy<S: BuildHasher + Copy>(
     links: &mut LinkedMap<PolicyID, Policy, S>,
     map: &mut LinkedMap<PolicyID, LinkedSet<PolicyID, S>, S>,
     policy: &Policy,
 ) -> Result<PolicyID, AllocError>
+    requires { IfSome (get same_text map.old policy.now.template.id)
+        (λ s. contains same_text s (policy_id policy.now) ≡ false) }
     ensures policies { links.new.entries ≡ links.old.entries }
     ensures room { OnOk result (0 < spare links.new) }
     ensures id { IfOk result (λ i. i ≡ policy_id policy.now) }
@@ -174,6 +177,20 @@ fn insert_id<S: BuildHasher + Copy>(
     Ok(())
 }
 
+// Appends an id to a set that does not contain it.
+fn push_new_id<S: BuildHasher + Copy>(
+    ids: &mut LinkedSet<PolicyID, S>,
+    id: PolicyID,
+) -> Result<(), AllocError>
+    requires { contains same_text ids.old id ≡ false }
+    ensures ok { OnOk result (ids.new.keys ≡ insert_key same_text ids.old.keys id) }
+    ensures err { OnErr result (ids.new.keys ≡ ids.old.keys) }
+{
+    ids.reserve(1)?;
+    ids.push(id);
+    Ok(())
+}
+
 // Removes an id from a set. The order of the other ids does not change.
 fn remove_id<S: BuildHasher + Copy>(ids: &mut LinkedSet<PolicyID, S>, id: &PolicyID)
     ensures { ids.new.keys ≡ remove_key (same_text id.now) ids.old.keys }
@@ -181,18 +198,19 @@ fn remove_id<S: BuildHasher + Copy>(ids: &mut LinkedSet<PolicyID, S>, id: &Polic
     ids.shift_remove(id);
 }
 
-// Appends an id to the list of a template, if there is one.
+// Appends an id to the list of a template, if there is one. The list must not contain the id.
 pub(crate) fn list_link<S: BuildHasher + Copy>(
     map: &mut LinkedMap<PolicyID, LinkedSet<PolicyID, S>, S>,
     body: &PolicyID,
     id: PolicyID,
 ) -> Result<(), AllocError>
+    requires { IfSome (get same_text map.old body.now) (λ s. contains same_text s id ≡ false) }
     ensures ok { OnOk result (lists_of map.new.entries ≡ with_listed body.now id (lists_of map.old.entries)) }
     ensures err { OnErr result (lists_of map.new.entries ≡ lists_of map.old.entries) }
 {
     match map.get_mut(body) {
         None => Ok(()),
-        Some(ids) => insert_id(ids, id),
+        Some(ids) => push_new_id(ids, id),
     }
 }
 
@@ -208,6 +226,47 @@ fn unlist_id<S: BuildHasher + Copy>(
         None => (),
         Some(ids) => remove_id(ids, id),
     }
+}
+
+// Removes the body with this id and its list, and returns the body. `policy` is the policy with the id, if there is one:
+// then the id has no list, and if the policy is a link, it has no body.
+#[tactic(auto, using(crate::proofs::Entries::removed_absent))]
+pub(crate) fn remove_body<S: BuildHasher + Copy>(
+    templates: &mut LinkedMap<PolicyID, Rc<Template>, S>,
+    map: &mut LinkedMap<PolicyID, LinkedSet<PolicyID, S>, S>,
+    policy: &Option<Policy>,
+    id: &PolicyID,
+) -> Option<Rc<Template>>
+    requires list { IfSome policy.now (λ p. get same_text map.old id.now ≡ None) }
+    requires link { IfSome policy.now (λ p. is_some p.link ≡ true → get same_text templates.old id.now ≡ None) }
+    ensures value { result ≡ get same_text templates.old id.now }
+    ensures bodies { templates.new.entries ≡ shift_remove_entry (same_text id.now) templates.old.entries }
+    ensures lists { map.new.entries ≡ shift_remove_entry (same_text id.now) map.old.entries }
+{
+    match policy {
+        None => {
+            drop(map.shift_remove(id));
+            templates.shift_remove(id)
+        }
+        Some(policy) => remove_static_body(templates, policy, id),
+    }
+}
+
+// Removes the body with the id of this policy, and returns the body. A link has none.
+#[tactic(auto, using(crate::proofs::Entries::removed_absent))]
+fn remove_static_body<S: BuildHasher + Copy>(
+    bodies: &mut LinkedMap<PolicyID, Rc<Template>, S>,
+    policy: &Policy,
+    id: &PolicyID,
+) -> Option<Rc<Template>>
+    requires { is_some policy.now.link ≡ true → get same_text bodies.old id.now ≡ None }
+    ensures value { result ≡ get same_text bodies.old id.now }
+    ensures bodies { bodies.new.entries ≡ shift_remove_entry (same_text id.now) bodies.old.entries }
+{
+    if is_link(policy) {
+        return None;
+    }
+    bodies.shift_remove(id)
 }
 
 // Removes the id of a removed policy, if there is one, from the list of its template.

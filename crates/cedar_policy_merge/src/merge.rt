@@ -563,7 +563,8 @@ struct SharedAndNewPolicies {
     joined: usize,
 }
 
-// Splits the policies of the other set, under their new ids.
+// Renames the policies of the other set, and splits them: policies that this set has too, and policies that are new to
+// it.
 fn parted_policies<S: BuildHasher + Copy>(
     alloc: Global,
     here: &PolicyMaps<S>,

@@ -39,7 +39,8 @@ impl<S: BuildHasher + Copy> PolicySet<S> {
     {
         // No effect at run time: this call shows the prover that the maps satisfy the invariant of a policy set.
         let _policy_set = self.maps.is_empty();
-        match self.maps.found(id) {
+        let mut place = usize::MAX;
+        match self.maps.found_near(id, &mut place) {
             None => return Err(PolicySetUnlinkError::UnlinkingError(id.clone()?)),
             Some(PolicyOrTemplate::Template(_template)) => {
                 return Err(PolicySetUnlinkError::NotLinkError(id.clone()?));
@@ -50,7 +51,7 @@ impl<S: BuildHasher + Copy> PolicySet<S> {
                 }
             }
         }
-        let (body, policy) = self.maps.take(id);
+        let (body, policy) = self.maps.take_near(id, place);
         drop(body);
         match policy {
             Some(policy) => Ok(policy),
@@ -84,7 +85,8 @@ impl<S: BuildHasher + Copy> PolicySet<S> {
     {
         // No effect at run time: this call shows the prover that the maps satisfy the invariant of a policy set.
         let _policy_set = self.maps.is_empty();
-        match self.maps.found(id) {
+        let mut place = usize::MAX;
+        match self.maps.found_near(id, &mut place) {
             None => return Err(PolicySetPolicyRemovalError::RemovePolicyNoLinkError(id.clone()?)),
             Some(PolicyOrTemplate::Template(_template)) => {
                 return Err(PolicySetPolicyRemovalError::RemovePolicyNoLinkError(id.clone()?));
@@ -97,7 +99,7 @@ impl<S: BuildHasher + Copy> PolicySet<S> {
                 }
             }
         }
-        let (body, policy) = self.maps.take(id);
+        let (body, policy) = self.maps.take_near(id, place);
         drop(body);
         match policy {
             Some(policy) => Ok(policy),

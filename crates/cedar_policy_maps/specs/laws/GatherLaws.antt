@@ -365,7 +365,7 @@ listed_from ts qs (p ∷ ps) h g =
     ap (λ ls. all_listed ls ps) one ∙ listed_from ts (qs ++ p ∷ []) ps h (subst (AreOnce policy_id) (sym more) g)
     ∙ ap (ids_by_body ts) more
 
--- Listing each link of new templates gives the lists of their links.
+-- Appending the id of each link to the empty lists of the new templates gives the lists of their links.
 pub links_listed : (ts : List BodyParts) (ps : List PolicyParts) → AreOnce body_id ts → AreOnce policy_id ps
     → all_listed (ids_by_body (templates_in ps ts) []) (links_in ps) ≡ ids_by_body (templates_in ps ts) ps
 links_listed ts ps h g =

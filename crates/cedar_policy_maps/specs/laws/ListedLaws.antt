@@ -150,7 +150,7 @@ module _ {T P : Type 0} (tid : T → List ℕ) (pid on : P → List ℕ) where
   body_listed ts ps t n = map-append (λ t. (tid t, ids_on (tid t) ps)) ts (t ∷ [])
       ∙ ap (λ ks. under_each ts ps ++ (tid t, ks) ∷ []) (none_on (tid t) ps n)
 
-  -- Adding a body together with an element that uses it appends the list of that element.
+  -- Adding a body, and an element that uses it, appends one list: the id of the body, with the id of that element.
   pub both_listed : (ts : List T) (ps : List P) (t : T) (p : P) → on p ≡ tid t → list_any (is_at tid (tid t)) ts ≡ false
       → list_any (λ p. same_text (tid t) (on p)) ps ≡ false →
       under_each (ts ++ t ∷ []) (ps ++ p ∷ []) ≡ under_each ts ps ++ (tid t, pid p ∷ []) ∷ []

@@ -31,7 +31,7 @@ one_of_two : (v : Bool) (n f b : ℕ) → f + b ≡ n → (f + (if v then 0 else
 one_of_two true n f b h = omega arith
 one_of_two false n f b h = omega arith
 
--- Each number below `n` has a free id or a used one.
+-- Each number below `n` has either a free id or a used one, so the counts of both add up to `n`.
 both_below : (bound : List ℕ → Bool) (n : ℕ) → free_below bound n + bound_below bound n ≡ n
 unfolding free_below bound_below
 both_below bound zero = refl

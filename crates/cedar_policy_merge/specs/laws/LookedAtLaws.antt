@@ -158,7 +158,8 @@ pub no_body_looked : (h o : SetParts) (i : List ℕ) → None ≡ find (is_body_
     → false ≡ (has_body h i && not (is_same_at h o i))
 no_body_looked h o i f = λ j. (sym (found_any (is_body_at i) h.bodies ∙ ap is_some (sym f)) j) && not (is_same_at h o i)
 
--- If only the other set has a body, the group `Links` collects the id exactly if this set has a policy with it.
+-- If only the other set has a body with an id, the group `Links` collects the id exactly if this set has a policy with
+-- that id.
 pub link_here : (h o : SetParts) (i : List ℕ) (t : BodyParts) → IsPolicySet h → IsPolicySet o
     → None ≡ find (is_body_at i) h.bodies → find (is_body_at i) o.bodies ≡ Some t
     → has_policy h i ≡ (looked_at Links h o i && not (is_same_at h o i))

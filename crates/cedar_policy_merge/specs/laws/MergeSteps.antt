@@ -102,7 +102,7 @@ own_id : (o : Option (List ℕ)) (p : PolicyParts) → o ≡ p.link → renamed 
 own_id None p e = λ j. record { template = p.template; link = e j; env = p.env }
 own_id (Some l) p e = λ j. record { template = p.template; link = e j; env = p.env }
 
--- A policy does not change under its own id.
+-- Giving a policy the id that it has does not change it.
 pub same_id_kept : (p : PolicyParts) → with_policy_id (policy_id p) p ≡ p
 same_id_kept p = own_id p.link p refl
 
