@@ -46,7 +46,7 @@ pub member_push : (done : List EntityUID) (k q : EntityUID)
 member_push done k q = list_any-append (same_uid q) done (k ∷ [])
     ∙ ap (λ b. is_member same_uid done q || b) (or_off (same_uid q k) ∙ sym (same_uid_equiv.symm k q))
 
--- The members of the first i + 1 uids of a list.
+-- A member of the first i + 1 uids of a list is a member of the first i, or it is the uid at i.
 pub member_more : (xs : List EntityUID) (i : ℕ) (x q : EntityUID) → i < length xs → x ≡ get_or xs i x
     → is_member same_uid (take (i + 1) xs) q ≡ (is_member same_uid (take i xs) q || same_uid x q)
 member_more xs i x q within is =

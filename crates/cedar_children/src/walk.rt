@@ -136,7 +136,8 @@ pub(crate) fn walk<S: BuildHasher + Clone>(
             Some(uid) => see_children(&mut seen, &mut todo, sets, &uid)?,
         }
     }
-    // Each round visits another uid of the set, and no set has this many uids. So the queue is empty here.
+    // This line is never reached: each round visits another uid of the set, and a set has fewer uids than there were
+    // rounds. For the proof, this call states that it has fewer.
     let _fewer = seen.len();
     Ok(seen)
 }

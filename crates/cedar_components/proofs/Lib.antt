@@ -1,3 +1,4 @@
+pub mod AscendingLists
 pub mod ComponentSteps
 pub mod Fills
 pub mod Gathering

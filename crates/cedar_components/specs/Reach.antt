@@ -28,6 +28,21 @@ HasPath E a b = (z : ℕ) × E a z × Leads E z b
 abbrev pub IsWithin : List ℕ → ℕ → ℕ → ℕ → Type 0
 IsWithin xs i j y = (k : ℕ) × (i ≤ k) × (k < j) × (slice_index xs k ≡ y)
 
+-- Whether each number is at its place in the order.
+pub record ArePlaces (order places : List ℕ) : Type 0 where
+  pub within : (y : ℕ) → y < length places → slice_index places y < length order
+  pub stands : (y : ℕ) → y < length places → slice_index order (slice_index places y) ≡ y
+
+-- Whether each number below `n` has its place in the order. Example: in the order 2, 0, 1 the places are 1, 2, 0.
+pub record IsRanking (n : ℕ) (order places : List ℕ) : Type 0 where
+  pub len : length places ≡ n
+  pub standing : ArePlaces order places
+
+-- Whether the numbers of each list are in the order of their places.
+abbrev pub AreInOrder : List ℕ → List ℕ → List ℕ → Type 0
+AreInOrder places start lists = (q k m : ℕ) → q + 1 < length start → slice_index start q ≤ k → k < m
+    → m < slice_index start (q + 1) → slice_index places (slice_index lists k) < slice_index places (slice_index lists m)
+
 -- Whether the three lists describe what each number below `n` reaches. `component` has the index of a component for
 -- each number. The numbers that component `q` reaches are in `lists`, from index `start[q]` to before `start[q + 1]`.
 -- Example: in the graph 0 → 1 → 0, `component` can be 0, 0, `start` 0, 2 and `lists` 0, 1.

@@ -22,10 +22,10 @@
 //! The searches use explicit stacks, so none of them recurses.
 #![tactic(auto)]
 
-ghost use Rattle.std.specs.Prelude.{◌≡◌, ℕ, IfOk, length};
+ghost use Rattle.std.specs.Prelude.{◌≡◌, ℕ, IfOk, length, true};
 ghost use Rattle.std.specs.List.{range_with_len};
 ghost use Rattle.std.specs.List.Sorted.{IsPermutation};
-ghost use Rattle.cedar_components.specs.Reach.{AreArcs, HasArc, IsReach};
+ghost use Rattle.cedar_components.specs.Reach.{AreArcs, AreInOrder, HasArc, IsRanking, IsReach};
 ghost use Rattle.cedar_components.specs.laws.Components.{AreComponents};
 ghost use Rattle.cedar_components.specs.laws.Search.{IsFinishOrder};
 
@@ -41,6 +41,7 @@ mod window_lists;
 use crate::component_lists::{Lists, make_lists};
 use crate::components::{Searched, make_components};
 use crate::links::{Arcs, make_links};
+use crate::list_order::{Order, ranks};
 use crate::search::finish_order;
 use crate::single::single_components;
 use std::alloc::{AllocError, Global};
@@ -56,6 +57,11 @@ pub struct Reached {
     pub start: Vec<usize>,
     /// All lists, one after another.
     pub lists: Vec<usize>,
+    /// The place of each number in the order of the lists.
+    pub places: Vec<usize>,
+    /// Whether each list is known to be in this order. [`reach`] puts each list in order and then returns `true`, which
+    /// no contract states.
+    pub ordered: bool,
 }
 
 // Returns the component of each number, from the order in which a search finished them.
@@ -89,8 +95,8 @@ fn components_of<'a>(
 }
 
 /// Returns the numbers that each number below `count` reaches over one or more arcs. The arc `k` leads from `from[k]`
-/// to `to[k]`. A number reaches itself only if it is on a cycle. Each list is in the order of `order`. No contract
-/// states this order of the lists.
+/// to `to[k]`. A number reaches itself only if it is on a cycle. Each list is in the order of `order` if the result says
+/// that it is `ordered`.
 ///
 /// The caller must ensure that `from` and `to` have equal lengths and contain only numbers below `count`. `order` must
 /// contain each number below `count` once.
@@ -125,8 +131,11 @@ pub fn reach(
 ) -> Result<Reached, AllocError>
     requires arcs { AreArcs from.now to.now count }
     requires order { IsPermutation (range_with_len 0 count) order.now }
-    ensures { IfOk result (λ r. IsReach (HasArc from.now to.now) count
+    ensures reach { IfOk result (λ r. IsReach (HasArc from.now to.now) count
         r.component.items r.start.items r.lists.items) }
+    ensures places { IfOk result (λ r. IsRanking count order.now r.places.items) }
+    ensures order { IfOk result (λ r. r.ordered ≡ true
+        → AreInOrder r.places.items r.start.items r.lists.items) }
 {
     let links = make_links(alloc, from, count)?;
     let forward = Arcs {
@@ -138,10 +147,21 @@ pub fn reach(
     let finished = finish_order(alloc, &forward, count)?;
     let last = finished.len();
     let component = components_of(alloc, from, to, &finished, count)?;
-    let Lists { start, lists } = make_lists(alloc, &forward, &component, order, last, count)?;
+    let places = ranks(alloc, order, count)?;
+    let ranked = Order {
+        numbers: order,
+        places: &places,
+    };
+    let Lists {
+        start,
+        lists,
+        ordered,
+    } = make_lists(alloc, &forward, &component, &ranked, last, count)?;
     Ok(Reached {
         component,
         start,
         lists,
+        places,
+        ordered,
     })
 }

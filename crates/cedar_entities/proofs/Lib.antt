@@ -1,5 +1,6 @@
 pub mod Adding
 pub mod Adds
+pub mod AffectedUids
 pub mod Alike
 pub mod Changing
 pub mod Edited

@@ -2,14 +2,16 @@
 ghost use Rattle.std.specs.Prelude.{◌≡◌, true, false, cond, map, Some, None, IfOk, IfErr, OnOk, OnErr, IsTrue, ◌↔◌};
 ghost use Rattle.std.specs.Option.{option_or, option_map, IfSome};
 ghost use Rattle.std.specs.FinMap as finmap;
+ghost use Rattle.std.specs.Set.{is_member};
 ghost use Rattle.cedar_ids.specs.UidOf.{same_uid};
 ghost use Rattle.cedar_ids.specs.declared.entity.EntityUID.{EntityUID};
 ghost use Rattle.cedar_entity.specs.View.{EntityView, IsDeepEqual, IsEquivalenceRelation};
 ghost use Rattle.cedar_entities.specs.Answers.{AreDeepEqual, Finds, ListsEntityMap};
 ghost use Rattle.cedar_entities.specs.Changes.{AddsEntities, AddsPlain, RemovesEntities, RemovesPlain};
 ghost use Rattle.cedar_entities.specs.Changes.{StripsPlain, UpsertsEntities, UpsertsPlain};
+ghost use Rattle.cedar_entity_maps.specs.Affected.{is_affected};
 ghost use Rattle.cedar_entity_maps.specs.Edits.{overwrite, uids_of};
-ghost use Rattle.cedar_entity_maps.specs.laws.Indexes.{HasChildren, IsIndexOf, parentage};
+ghost use Rattle.cedar_entity_maps.specs.laws.Indexes.{HasChildren, IsIndexOf, IsPlainHeld, parentage};
 ghost use Rattle.cedar_entity_maps.specs.laws.EntityMap.{entity_at, held_map, shared, UidsMatch};
 ghost use Rattle.cedar_entity_maps.specs.Plain.{StoreView, entities_in, IsPlainStore, IsKeyed, HaveNoIndirect, input_of};
 ghost use Rattle.cedar_entity_maps.specs.Plain.{no_entities};
@@ -27,7 +29,7 @@ use crate::lists::absent_uids;
 use crate::store_iters::{IntoIter, Iter};
 use crate::store_same::{have_deep_equals, have_keys_of};
 use crate::store_valid::check_each;
-use cedar_children::listed;
+use cedar_children::{Children, listed};
 use cedar_entity::entity::Entity;
 use cedar_entity::err::EntitiesError;
 use cedar_entity::node::SharedEntity;
@@ -303,6 +305,61 @@ impl<S: BuildHasher + Clone> Entities<S> {
         ensures { result ≡ self.now.partial }
     {
         self.partial
+    }
+
+    /// Returns whether the store is known to be plain: whether its ancestors are known to be exactly what the parents
+    /// imply. Does not allocate.
+    ///
+    /// # Differences from cedar-policy-core
+    ///
+    /// The original has no such function.
+    pub fn is_known_plain(&self) -> bool
+        ensures value { result ≡ self.now.known_plain }
+        ensures plain { IsTrue result → IsPlainHeld self.now.entities }
+    {
+        self.index.plain
+    }
+
+    /// Returns the index of the children of each uid, if the store has one. Does not allocate.
+    ///
+    /// # Differences from cedar-policy-core
+    ///
+    /// The original has no such function.
+    pub fn children(&self) -> Option<&Children<S>>
+        ensures { IfSome result (λ c. HasChildren (parentage (finmap.get self.now.entities)) c.now) }
+    {
+        self.index.children.as_ref()
+    }
+
+    /// Returns the uids of all entities that an edit of `uids` affects, in no specified order: the uids themselves, and
+    /// the uids of the entities that have one of them as an ancestor.
+    ///
+    /// # Errors
+    ///
+    /// Returns `Memory` if an allocation fails.
+    ///
+    /// # Complexity
+    ///
+    /// Costs as much as the search of an edit. If the store lists its children (see [`Entities`]), the call searches
+    /// down from the uids: it looks up each result once, and each again for each of its parents in the result.
+    /// Otherwise it scans all entities. The call does not list the children. Allocates in proportion to the result.
+    ///
+    /// # Differences from cedar-policy-core
+    ///
+    /// The original has no such function.
+    pub fn affected(
+        &self,
+        alloc: Global,
+        uids: Vec<SharedUid>,
+    ) -> Result<Vec<SharedUid>, EntitiesError>
+        ensures ok { IfOk result (λ v. (q : EntityUID) →
+            is_member same_uid v.items q ≡ is_affected self.now.entities uids.items q) }
+        ensures err { IfErr result (λ e. e ≡ Memory) }
+    {
+        let mut edited = HashSet::with_hasher(alloc, self.hasher().clone()?);
+        insert_uids(&mut edited, uids)?;
+        let affected = affected_by(alloc, &self.entities, &self.index, &edited)?;
+        Ok(listed(alloc, &affected)?)
     }
 
     /// Creates a store with these entities, not partial. It hashes uids with hashers of `hasher`. The result is the

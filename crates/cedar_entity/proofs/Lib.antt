@@ -1,4 +1,5 @@
 pub mod AncestorSets
+pub mod AscendingUids
 pub mod FieldLists
 pub mod LeastUids
 pub mod UidSteps

@@ -236,8 +236,7 @@ impl Entity {
         }
     }
 
-    /// Creates an entity with a uid and parents, and nothing else. The parents may be in any order, and may contain
-    /// duplicates.
+    /// Creates an entity with a uid and parents, in any order and with or without duplicates, and nothing else.
     ///
     /// # Errors
     ///
@@ -269,7 +268,6 @@ impl Entity {
     }
 
     /// Creates an entity with a uid and parents, and nothing else. Takes constant time. Does not allocate.
-    ///
     /// Differs from cedar-policy-core: the original has no such function.
     pub fn with_parent_set(alloc: Global, uid: EntityUID, parents: UidSet) -> Entity
         ensures { result ≡ record {
@@ -346,8 +344,7 @@ impl Entity {
         self.is_child_of(other) || self.is_indirect_descendant_of(other)
     }
 
-    /// Returns whether a shared uid is a parent or an indirect ancestor. Its lookups are cheaper than the lookups of
-    /// [`Entity::is_descendant_of`]. Does not allocate.
+    /// Returns what [`Entity::is_descendant_of`] does, for a shared uid and by cheaper lookups. Does not allocate.
     #[inline(always)]
     pub fn is_descendant_of_shared(&self, other: &SharedUid) -> bool
         ensures { result ≡ has_ancestor self.now other.now }
@@ -422,7 +419,6 @@ impl Entity {
     }
 
     /// Iterates over the parents as shared uids: each once, in ascending order of uid. Does not allocate.
-    ///
     /// Differs from cedar-policy-core: the original has no such function.
     pub fn shared_parents(&self) -> SharedUids<'_>
         ensures lists { Lists self.now.parents result }
@@ -433,7 +429,6 @@ impl Entity {
 
     /// Iterates over the parents and then over the indirect ancestors, as shared uids. Each of the two groups is in
     /// ascending order of uid. A uid that is in both groups is returned twice. Does not allocate.
-    ///
     /// Differs from cedar-policy-core: the original has no such function.
     pub fn shared_ancestors(&self) -> SharedUids<'_>
         ensures { ListsAncestors self.now result }
@@ -451,7 +446,6 @@ impl Entity {
 
     /// Iterates over the parents and the indirect ancestors together: each once, in ascending order of uid. Makes one
     /// or two comparisons per uid. Does not allocate.
-    ///
     /// Differs from cedar-policy-core: the original has no such function.
     pub fn ancestors_in_order(&self) -> Union<'_>
         ensures members { (q : EntityUID) → is_member same_uid result q ≡ has_ancestor self.now q }
@@ -524,8 +518,7 @@ impl Entity {
         least_common(&self.parents, &self.indirect_ancestors)
     }
 
-    // Returns the least parent that is not an action. If there is none, returns the least indirect ancestor that is not
-    // an action.
+    // Returns the least parent that is not an action, or else the least indirect ancestor that is not an action.
     fn least_non_action_ancestor(&self) -> Option<&EntityUID>
         ensures { MatchOption (option_copied result) (HasOnlyActionAncestors self.now) (IsLeastNonAction self.now) }
     {
@@ -535,8 +528,7 @@ impl Entity {
         }
     }
 
-    // Returns the ancestor that an error for an action names: an ancestor that is not an action. Returns `None` if the
-    // entity is not an action.
+    // Returns the ancestor that an error for an action names: one that is not an action. `None` for other entities.
     fn invalid_action_ancestor(&self) -> Option<&EntityUID>
         ensures { MatchOption (option_copied result)
             (IsTrue (is_action self.now.uid) → HasOnlyActionAncestors self.now)
@@ -639,7 +631,6 @@ impl Entity {
     }
 
     /// Returns whether [`Entity::validate`] finds no fault. Recurses into values as that does. Does not allocate.
-    ///
     /// Differs from cedar-policy-core: the original has no such function.
     pub fn is_valid(&self) -> bool
         ensures { IsTrue result ↔ IsValid self.now }
@@ -690,8 +681,7 @@ impl Entity {
             .extend_ascending(added.into_pointers())
     }
 
-    // Inserts shared uids as indirect ancestors. None of them may be an ancestor already, so they are not compared with
-    // the parents.
+    // Inserts shared uids as indirect ancestors. None may be an ancestor, so they are not compared with the parents.
     pub(crate) fn add_new_ancestors(&mut self, shared: Vec<SharedUid>) -> Result<(), AllocError>
         requires { AreNewTo self.old shared.items }
         ensures ok { OnOk result (self.new ≡ record self.old {
@@ -702,6 +692,22 @@ impl Entity {
     {
         let added = UidSet::from_pointers(shared)?.into_pointers();
         self.indirect_ancestors.extend_ascending(added)
+    }
+
+    // Inserts shared uids as indirect ancestors. They must ascend, and none of them may be an ancestor already.
+    pub(crate) fn add_ascending_ancestors(
+        &mut self,
+        shared: Vec<SharedUid>,
+    ) -> Result<(), AllocError>
+        requires new { AreNewTo self.old shared.items }
+        requires ascending { Ascend shared.items }
+        ensures ok { OnOk result (self.new ≡ record self.old {
+          indirect = set.union self.old.indirect
+              (set.difference (set.from_list shared.items) self.old.parents);
+        }) }
+        ensures err { OnErr result (self.new ≡ self.old) }
+    {
+        self.indirect_ancestors.extend_ascending(shared)
     }
 
     /// Inserts an indirect ancestor. A uid that is a parent or an indirect ancestor already has no effect.
@@ -765,9 +771,7 @@ impl Entity {
         self.parents.remove(uid);
     }
 
-    /// Removes the uids of a set from the indirect ancestors; see [`UidSet::difference`]. The parents do not change.
-    /// Does not allocate.
-    ///
+    /// Removes the uids of a set from the indirect ancestors. The parents do not change. Does not allocate.
     /// Differs from cedar-policy-core: the original has no such function.
     pub fn remove_ancestors_of(&mut self, uids: &UidSet)
         ensures { self.new ≡ record self.old { indirect = set.difference self.old.indirect uids.now } }
@@ -775,9 +779,7 @@ impl Entity {
         self.indirect_ancestors.difference(uids);
     }
 
-    /// Removes the uids of a set from the parents; see [`UidSet::difference`]. The indirect ancestors do not change.
-    /// Does not allocate.
-    ///
+    /// Removes the uids of a set from the parents. The indirect ancestors do not change. Does not allocate.
     /// Differs from cedar-policy-core: the original has no such function.
     pub fn remove_parents_of(&mut self, uids: &UidSet)
         ensures { self.new ≡ record self.old { parents = set.difference self.old.parents uids.now } }

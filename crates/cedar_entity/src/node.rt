@@ -33,6 +33,7 @@ impl TCNode<EntityUID> for Entity {
     ghost use Rattle.std.specs.FinSet as set;
     ghost use Rattle.cedar_entity.specs.View.{EntityView, has_ancestor, Rest, rest, UnchangedParts, unchanged_parts};
     ghost use Rattle.cedar_entity.specs.laws.Views.{ancestors_respect, parents_are_ancestors};
+    ghost use Rattle.cedar_entity.specs.laws.Views.{uid_precedes, uid_precedes_respects};
 
     ghost Rest = { Rest };
 
@@ -47,6 +48,8 @@ impl TCNode<EntityUID> for Entity {
     ghost rest = { rest };
 
     ghost kept = { unchanged_parts };
+
+    ghost precedes = { uid_precedes };
 
     /// Returns a copy of the uid.
     ///
@@ -112,6 +115,8 @@ impl TCNode<EntityUID> for Entity {
     ghost respects_eq = { ancestors_respect };
 
     ghost direct_are_edges = { parents_are_ancestors };
+
+    ghost precedes_respects_eq = { uid_precedes_respects };
 }
 
 /// A pointer to an entity, which several stores can share. `clone` copies the pointer. A change first copies the entity
@@ -124,6 +129,7 @@ impl TCNode<EntityUID> for SharedEntity {
     ghost use Rattle.std.specs.FinSet as set;
     ghost use Rattle.cedar_entity.specs.View.{EntityView, has_ancestor, Rest, rest, UnchangedParts, unchanged_parts};
     ghost use Rattle.cedar_entity.specs.laws.Views.{ancestors_respect, parents_are_ancestors};
+    ghost use Rattle.cedar_entity.specs.laws.Views.{uid_precedes, uid_precedes_respects};
 
     ghost Rest = { Rest };
 
@@ -138,6 +144,8 @@ impl TCNode<EntityUID> for SharedEntity {
     ghost rest = { λ n. rest n.0.value };
 
     ghost kept = { λ n. unchanged_parts n.0.value };
+
+    ghost precedes = { uid_precedes };
 
     /// Returns a copy of the uid.
     ///
@@ -212,4 +220,6 @@ impl TCNode<EntityUID> for SharedEntity {
     ghost respects_eq = { λ n. ancestors_respect n.0.value };
 
     ghost direct_are_edges = { λ n. parents_are_ancestors n.0.value };
+
+    ghost precedes_respects_eq = { uid_precedes_respects };
 }

@@ -1,14 +1,15 @@
 //! Shared entities as nodes of a graph whose keys are shared uids. A store closes this graph.
-ghost use Rattle.std.specs.Prelude.{◌≡◌, ◌||◌, IfOk, OnOk, OnErr, map, length};
+ghost use Rattle.std.specs.Prelude.{◌≡◌, ℕ, ◌<◌, ◌||◌, true, IfOk, OnOk, OnErr, map, length, slice_index};
 ghost use Rattle.std.specs.List.{range_with_len};
 ghost use Rattle.std.specs.List.Sorted.{IsPermutation};
 ghost use Rattle.std.specs.FinSet as set;
 ghost use Rattle.std.specs.Set.{is_member};
 ghost use Rattle.cedar_ids.specs.UidOf.{same_uid};
 ghost use Rattle.cedar_ids.specs.declared.entity.EntityUID.{EntityUID};
+ghost use Rattle.cedar_graph.specs.Ascending.{IsAscending, IsAscendingAt};
 ghost use Rattle.cedar_graph.specs.Graph.{Grows};
 ghost use Rattle.cedar_entity.specs.View.{has_ancestor, rest, unchanged_parts};
-ghost use Rattle.cedar_entity.specs.laws.Views.{AreNewTo};
+ghost use Rattle.cedar_entity.specs.laws.Views.{AreNewTo, uid_precedes};
 
 use crate::entity::Entity;
 use crate::iters::SharedUids;
@@ -44,6 +45,19 @@ fn order(alloc: Global, keys: &[SharedUid]) -> Result<Vec<usize>, AllocError>
     let mut places: Vec<usize> = (0..keys.len()).collect(alloc)?;
     places.sort_by(|one, other| keys.get(*one).cmp(&keys.get(*other)))?;
     Ok(places)
+}
+
+// Checks whether the keys at the positions in `numbers` ascend.
+fn ascend_at(keys: &[SharedUid], numbers: &[usize]) -> bool
+    requires { (k : ℕ) → k < length numbers.now → slice_index numbers.now k < length keys.now }
+    ensures { result ≡ true → IsAscendingAt uid_precedes keys.now numbers.now }
+{
+    for k in 1..numbers.len() {
+        if keys[numbers[k - 1]].cmp(&keys[numbers[k]]).is_ge() {
+            return false;
+        }
+    }
+    true
 }
 
 // Moves the keys out of a vector.
@@ -99,11 +113,32 @@ fn add_new_row(
     entity.add_new_ancestors(keys)
 }
 
+// Inserts the keys of a vector as indirect ancestors. They must ascend, and none of them may be an ancestor already.
+fn add_ascending_row(
+    alloc: Global,
+    entity: &mut Entity,
+    keys: &mut Vec<SharedUid>,
+) -> Result<(), AllocError>
+    requires new { AreNewTo entity.old keys.old.items }
+    requires ascending { IsAscending uid_precedes keys.old.items }
+    ensures ok { OnOk result ((q : EntityUID) → has_ancestor entity.new q
+        ≡ (has_ancestor entity.old q || is_member same_uid keys.old.items q)) }
+    ensures grows { Grows (has_ancestor entity.old) (has_ancestor entity.new)
+        (is_member same_uid keys.old.items) }
+    ensures key { entity.new.uid ≡ entity.old.uid }
+    ensures rest { rest entity.new ≡ rest entity.old }
+    ensures kept { unchanged_parts entity.new ≡ unchanged_parts entity.old }
+{
+    let keys = taken(alloc, keys);
+    entity.add_ascending_ancestors(keys)
+}
+
 impl TCNode<SharedUid> for SharedEntity {
     ghost use Rattle.cedar_ids.specs.declared.entity.EntityUID.{EntityUID};
     ghost use Rattle.std.specs.FinSet as set;
     ghost use Rattle.cedar_entity.specs.View.{EntityView, has_ancestor, Rest, rest, UnchangedParts, unchanged_parts};
     ghost use Rattle.cedar_entity.specs.laws.Views.{ancestors_respect, parents_are_ancestors};
+    ghost use Rattle.cedar_entity.specs.laws.Views.{uid_precedes, uid_precedes_respects};
 
     ghost Rest = { Rest };
 
@@ -118,6 +153,8 @@ impl TCNode<SharedUid> for SharedEntity {
     ghost rest = { λ n. rest n.0.value };
 
     ghost kept = { λ n. unchanged_parts n.0.value };
+
+    ghost precedes = { uid_precedes };
 
     /// Returns a copy of the uid, as a shared uid.
     ///
@@ -213,6 +250,12 @@ impl TCNode<SharedUid> for SharedEntity {
         order(alloc, keys)
     }
 
+    /// Returns whether the uids at the positions in `numbers` ascend. Each number must be below `keys.len()`. Compares
+    /// neighbours. Does not allocate.
+    fn are_ascending(keys: &[SharedUid], numbers: &[usize]) -> bool {
+        ascend_at(keys, numbers)
+    }
+
     /// Inserts the uids as indirect ancestors, except parents. Ascending uids are inserted in one pass. If the entity
     /// is shared, it is copied first.
     fn add_edges_to(&mut self, alloc: Global, keys: &mut Vec<SharedUid>) -> Result<(), AllocError> {
@@ -229,7 +272,19 @@ impl TCNode<SharedUid> for SharedEntity {
         add_new_row(alloc, Rc::make_mut(&mut self.0)?, keys)
     }
 
+    /// Inserts the uids as indirect ancestors. The caller must ensure that they ascend and that none of them is an
+    /// ancestor, so they are not compared. If the entity is shared, it is copied first.
+    fn add_ascending_edges_to(
+        &mut self,
+        alloc: Global,
+        keys: &mut Vec<SharedUid>,
+    ) -> Result<(), AllocError> {
+        add_ascending_row(alloc, Rc::make_mut(&mut self.0)?, keys)
+    }
+
     ghost respects_eq = { λ n. ancestors_respect n.0.value };
 
     ghost direct_are_edges = { λ n. parents_are_ancestors n.0.value };
+
+    ghost precedes_respects_eq = { uid_precedes_respects };
 }

@@ -27,10 +27,11 @@ use std::collections::{HashMap, HashSet};
 use std::hash::BuildHasher;
 use std::rc::Rc;
 
-// Merging stops once it has inserted more than this many times as many ancestors as the row has.
+// A row with n ancestors is given up once more than about `REPEATS * (n + SHORT)` ancestors were inserted into it: most
+// of these insertions repeated an ancestor.
 const REPEATS: usize = 4;
 
-// It does not stop if the row has fewer ancestors than this.
+// See `REPEATS`. With it, few insertions never give a short row up.
 const SHORT: usize = 64;
 
 // Inserts the ancestors of an entity into a row. Returns their number.
@@ -45,7 +46,8 @@ fn insert_ancestors_of(node: &SharedEntity, row: &mut UidSet) -> Result<usize, A
     Ok(node.0.ancestors_len())
 }
 
-/// Inserts the ancestors of the entity at a uid, if there is one, into a row. Returns their number.
+/// Inserts the ancestors of the entity at a uid, if there is one, into a row. Returns their number, for an estimate of
+/// cost that no contract states.
 ///
 /// # Errors
 ///
@@ -173,9 +175,10 @@ fn merge_at<S: BuildHasher>(
     }
 }
 
-// Repairs the affected entities none of whose ancestors is affected. Returns their uids. The other affected entities
-// still need a repair. The work is proportional to the number of ancestors that the repaired entities get. A shared
-// entity is copied first.
+// Repairs each affected entity for which `row_above` returns a row: none of its ancestors is affected, it is not an
+// ancestor of one of them, and a closure would not cost less. Returns the uids of these entities. The other affected
+// entities still need a repair. The work is proportional to the number of ancestors that the repaired entities get. A
+// shared entity is copied first.
 pub(crate) fn merge_rows<S: BuildHasher>(
     alloc: Global,
     entities: &mut HashMap<SharedUid, SharedEntity, S>,

@@ -2,6 +2,7 @@ pub mod Checking
 pub mod Closing
 pub mod Counting
 pub mod Dags
+pub mod InOrder
 pub mod Keyed
 pub mod Loops
 pub mod Members

@@ -1,3 +1,4 @@
+pub mod Ascending
 pub mod Calls
 pub mod Faults
 pub mod Graph

@@ -3,6 +3,7 @@ pub mod Arcs
 pub mod Checks
 pub mod Deciding
 pub mod Nodes
+pub mod Ranks
 pub mod Reaches
 pub mod Readings
 pub mod Writings

@@ -20,6 +20,7 @@ ghost use Rattle.std.specs.HashMap.{get, hash_map_len};
 ghost use Rattle.std.specs.HashSet.{contains, hash_set_len};
 ghost use Rattle.indexmap.specs.IndexSet.{IsUnique};
 ghost use Rattle.cedar_components.specs.Reach.{AreArcs, HasPath};
+ghost use Rattle.cedar_graph.specs.Ascending.{IsAscending, IsAscendingAt};
 ghost use Rattle.cedar_graph.specs.Graph.{graph_of, Grows, HasNoLoop, IsTrusted};
 ghost use Rattle.cedar_graph.specs.Calls.{CoversEdged, HasAll, IsAtMostNeeded, KeepsAll, OnlyAdds};
 ghost use Rattle.cedar_graph.specs.laws.Reaches.{HasReached};
@@ -36,15 +37,18 @@ ghost use Rattle.cedar_graph.specs.laws.Writings.{
   IsEdgeTo,
   IsFixEdge,
   IsOnlyKnown,
+  IsOrderedBy,
   IsReachOf,
   IsRowOf,
   IsRowTo,
   IsToFix,
+  KeepsOrder,
   KnowsEdges,
   KnowsLast,
   KnowsTargets,
   NoneGoesBack,
   StartsAt,
+  TakesInOrder,
   TakesKey,
   TakesRun,
   Writes,
@@ -52,7 +56,7 @@ ghost use Rattle.cedar_graph.specs.laws.Writings.{
 };
 
 use crate::arcs::{FixReading, Reading, read_arcs, read_fix};
-use crate::order::order_of;
+use crate::order::{ends_below, order_of};
 use crate::transitive_closure::{TCNode, Work};
 use cedar_components::{Reached, reach};
 use std::alloc::{AllocError, Global};
@@ -62,7 +66,8 @@ use std::hash::{BuildHasher, Hash};
 // Appends a copy of a key to a row, unless it is known.
 fn pick_key<K: Clone + Eq + Hash>(row: &mut Vec<K>, key: &K, known: bool) -> Result<(), AllocError>
     requires { ClonesAreEqual K.eq K.is_clone }
-    ensures { OnOk result (TakesKey K.eq key.now known row.old.items row.new.items) }
+    ensures taken { OnOk result (TakesKey K.eq key.now known row.old.items row.new.items) }
+    ensures order { OnOk result (TakesInOrder K.eq key.now row.old.items row.new.items) }
 {
     if known {
         return Ok(());
@@ -96,7 +101,9 @@ fn pick_run<K: Clone + Eq + Hash>(
     requires numbers { AllBelow (length keys.now) numbers.now }
     requires ordered { start ≤ end }
     requires within { end ≤ length numbers.now }
-    ensures { OnOk result (TakesRun K.eq keys.now numbers.now start end row.old.items row.new.items) }
+    ensures taken { OnOk result (TakesRun K.eq keys.now numbers.now start end row.old.items row.new.items) }
+    ensures order { OnOk result (KeepsOrder K.eq keys.now numbers.now start row.old.items
+        → KeepsOrder K.eq keys.now numbers.now end row.new.items) }
 {
     for place in start..end {
         pick_key(row, &keys[numbers[place]], false)?;
@@ -137,7 +144,8 @@ fn push_unknown_keys<K: Clone + Eq + Hash>(
     requires unique { IsDistinct K.eq keys.now }
     requires one { IsOnlyKnown known.now known.now.last }
     requires row { row.old.items ≡ [] }
-    ensures { OnOk result (IsRowOf K.eq keys.now numbers.now known.now row.new.items) }
+    ensures row { OnOk result (IsRowOf K.eq keys.now numbers.now known.now row.new.items) }
+    ensures order { OnOk result (KeepsOrder K.eq keys.now numbers.now (length numbers.now) row.new.items) }
 {
     for place in 0..numbers.len() {
         let y = numbers[place];
@@ -161,7 +169,8 @@ fn pick_runs<K: Clone + Eq + Hash>(
     requires unique { IsDistinct K.eq keys.now }
     requires one { KnowsLast known.now }
     requires row { row.old.items ≡ [] }
-    ensures { OnOk result (IsRowOf K.eq keys.now numbers.now known.now row.new.items) }
+    ensures row { OnOk result (IsRowOf K.eq keys.now numbers.now known.now row.new.items) }
+    ensures order { OnOk result (KeepsOrder K.eq keys.now numbers.now (length numbers.now) row.new.items) }
 {
     if known.count == 1 {
         return push_unknown_keys(row, keys, numbers, known);
@@ -184,6 +193,7 @@ fn pick_if_room<K: Clone + Eq + Hash>(
 ) -> Result<bool, AllocError>
     requires { ClonesAreEqual K.eq K.is_clone }
     ensures taken { IfOk result (λ b. b ≡ true → TakesKey K.eq key.now known row.old.items row.new.items) }
+    ensures order { IfOk result (λ b. b ≡ true → TakesInOrder K.eq key.now row.old.items row.new.items) }
     ensures full { IfOk result (λ b. b ≡ false → row.new.items ≡ row.old.items) }
 {
     if known {
@@ -212,6 +222,7 @@ fn pick_while_room<K: Clone + Eq + Hash>(
     requires row { row.old.items ≡ [] }
     ensures most { IfOk result (λ n. n ≤ length numbers.now) }
     ensures row { IfOk result (λ n. IsRowTo K.eq keys.now numbers.now n known.now row.new.items) }
+    ensures order { IfOk result (λ n. KeepsOrder K.eq keys.now numbers.now n row.new.items) }
 {
     for place in 0..numbers.len() {
         let y = numbers[place];
@@ -235,7 +246,8 @@ fn pick_row<K: Clone + Eq + Hash>(
     requires marks { length known.now.marks.items ≡ length keys.now }
     requires unique { IsDistinct K.eq keys.now }
     requires one { KnowsLast known.now }
-    ensures { IfOk result (λ v. IsRowOf K.eq keys.now numbers.now known.now v.items) }
+    ensures row { IfOk result (λ v. IsRowOf K.eq keys.now numbers.now known.now v.items) }
+    ensures order { IfOk result (λ v. KeepsOrder K.eq keys.now numbers.now (length numbers.now) v.items) }
 {
     let room = numbers.len().saturating_sub(known.count);
     let mut row = Vec::with_capacity(alloc, room)?;
@@ -251,14 +263,16 @@ fn pick_row<K: Clone + Eq + Hash>(
     Ok(row)
 }
 
-// Adds edges from a node to the keys of a row. The node must not have any of these edges yet. Does not call the node
-// for an empty row.
+// Adds edges from a node to the keys of a row. The node must not have any of these edges yet. If `ascending` is true,
+// the keys must ascend. Does not call the node for an empty row.
 fn fill_node<K: Clone + Eq + Hash, V: TCNode<K>>(
     alloc: Global,
     node: &mut V,
     row: &mut Vec<K>,
+    ascending: bool,
 ) -> Result<(), AllocError>
-    requires { AreNewTo K.eq (V.edges node.old) row.old.items }
+    requires new { AreNewTo K.eq (V.edges node.old) row.old.items }
+    requires ascending { ascending ≡ true → IsAscending V.precedes row.old.items }
     ensures grows { Grows (V.edges node.old) (V.edges node.new) (is_member K.eq row.old.items) }
     ensures ok { OnOk result ((q : K) → is_member K.eq row.old.items q ≡ true → V.edges node.new q ≡ true) }
     ensures key { V.key node.new ≡ V.key node.old }
@@ -268,18 +282,23 @@ fn fill_node<K: Clone + Eq + Hash, V: TCNode<K>>(
     if row.is_empty() {
         return Ok(());
     }
+    if ascending {
+        return node.add_ascending_edges_to(alloc, row);
+    }
     node.add_new_edges_to(alloc, row)
 }
 
-// Adds edges from the node at a key to the keys of a row. The node must not have any of these edges yet. Returns the
-// number of nodes found: 0 or 1.
+// Adds edges from the node at a key to the keys of a row. The node must not have any of these edges yet. If `ascending`
+// is true, the keys must ascend. Returns the number of nodes found: 0 or 1.
 fn add_row<K: Clone + Eq + Hash, V: TCNode<K>, S: BuildHasher>(
     alloc: Global,
     nodes: &mut HashMap<K, V, S>,
     at: &K,
     row: &mut Vec<K>,
+    ascending: bool,
 ) -> Result<usize, AllocError>
-    requires { AreNewTo K.eq (graph_of K.eq V.edges nodes.old at.now) row.old.items }
+    requires new { AreNewTo K.eq (graph_of K.eq V.edges nodes.old at.now) row.old.items }
+    requires ascending { ascending ≡ true → IsAscending V.precedes row.old.items }
     ensures keeps { KeepsAll K.eq V.key V.rest V.kept nodes.old nodes.new }
     ensures writes { Writes K.eq V.edges (IsAt K.eq at.now) (IsEdgeTo K.eq at.now row.old.items)
         nodes.old nodes.new result }
@@ -289,7 +308,7 @@ fn add_row<K: Clone + Eq + Hash, V: TCNode<K>, S: BuildHasher>(
         Some(node) => node,
         None => return Ok(0),
     };
-    fill_node(alloc, node, row)?;
+    fill_node(alloc, node, row, ascending)?;
     Ok(1)
 }
 
@@ -308,18 +327,44 @@ pub(crate) fn listed_for<'a, K: Clone + Eq + Hash, S: BuildHasher>(
     &reached.lists[reached.start[component]..reached.start[component + 1]]
 }
 
+// The numbers that each number reaches. The keys at the first `limit` places of the order of the lists ascend.
+#[derive(Drop)]
+pub(crate) struct OrderedReach {
+    pub(crate) numbers: Reached,
+    pub(crate) limit: usize,
+}
+
+// Returns whether the keys of the numbers that number `x` reaches are known to ascend in the order of their list.
+fn ascends<K: Clone + Eq + Hash, V: TCNode<K>, S: BuildHasher>(
+    read: &Reading<K, S>,
+    reached: &OrderedReach,
+    x: usize,
+) -> bool
+    requires reach { IsReachOf read.now reached.now.numbers }
+    requires order { IsOrderedBy V.precedes read.now.keys.keys reached.now }
+    requires within { x < length read.now.keys.keys }
+    ensures { result ≡ true → IsAscendingAt V.precedes read.now.keys.keys (listed reached.now.numbers x) }
+{
+    if !reached.numbers.ordered {
+        return false;
+    }
+    let list = listed_for(read, &reached.numbers, x);
+    ends_below(list, &reached.numbers.places, reached.limit)
+}
+
 // Adds edges from the node of number `x` to the keys of the numbers that `x` reaches. Its existing edges must be the
 // edges to known numbers. Returns the number of nodes found: 0 or 1.
 fn write_number<K: Clone + Eq + Hash, V: TCNode<K>, S: BuildHasher>(
     alloc: Global,
     nodes: &mut HashMap<K, V, S>,
     read: &Reading<K, S>,
-    reached: &Reached,
+    reached: &OrderedReach,
     x: usize,
     known: &Known,
 ) -> Result<usize, AllocError>
     requires copies { ClonesAreEqual K.eq K.is_clone }
-    requires reach { IsReachOf read.now reached.now }
+    requires reach { IsReachOf read.now reached.now.numbers }
+    requires order { IsOrderedBy V.precedes read.now.keys.keys reached.now }
     requires within { x < length read.now.keys.keys }
     requires unique { IsUnique K.eq read.now.keys }
     requires known { KnowsEdges K.eq (graph_of K.eq V.edges nodes.old) read.now.keys.keys x known.now }
@@ -331,8 +376,10 @@ fn write_number<K: Clone + Eq + Hash, V: TCNode<K>, S: BuildHasher>(
         (HasNodes K.eq nodes.old (IsKeyAt K.eq read.now.keys.keys x))) }
 {
     let keys = read.keys.as_slice();
-    let mut row = pick_row(alloc, keys, listed_for(read, reached, x), known)?;
-    add_row(alloc, nodes, &keys[x], &mut row)
+    let numbers = listed_for(read, &reached.numbers, x);
+    let mut row = pick_row(alloc, keys, numbers, known)?;
+    let ascending = ascends::<K, V, S>(read, reached, x);
+    add_row(alloc, nodes, &keys[x], &mut row, ascending)
 }
 
 // Marks the targets of number `x` as known. Its arcs begin at place `e`. Returns the place after them.
@@ -397,12 +444,13 @@ pub(crate) fn write_rows<K: Clone + Eq + Hash, V: TCNode<K>, S: BuildHasher>(
     alloc: Global,
     nodes: &mut HashMap<K, V, S>,
     read: &FixReading<K, S>,
-    reached: &Reached,
+    reached: &OrderedReach,
     asks: bool,
 ) -> Result<Closed, AllocError>
     requires copies { ClonesAreEqual K.eq K.is_clone }
     requires read { AreRead K.eq (graph_of K.eq V.edges nodes.old) read.now }
-    requires reach { IsReachOf read.now.reading reached.now }
+    requires reach { IsReachOf read.now.reading reached.now.numbers }
+    requires order { IsOrderedBy V.precedes read.now.reading.keys.keys reached.now }
     ensures keeps { KeepsAll K.eq V.key V.rest V.kept nodes.old nodes.new }
     ensures writes { Writes K.eq V.edges (IsToFix K.eq read.now) (IsFixEdge K.eq read.now)
         nodes.old nodes.new result }
@@ -423,7 +471,7 @@ pub(crate) fn write_rows<K: Clone + Eq + Hash, V: TCNode<K>, S: BuildHasher>(
     for x in 0..read.fixed {
         place = mark_targets(&arcs.from, &arcs.to, &mut known, x, place);
         closings += write_number(alloc, nodes, arcs, reached, x, &known)?;
-        has_loop = has_loop || known.marks[x] != 0 && reaches_itself(arcs, reached, x);
+        has_loop = has_loop || known.marks[x] != 0 && reaches_itself(arcs, &reached.numbers, x);
     }
     let work = Work {
         reads: arcs.reads,
@@ -436,13 +484,18 @@ pub(crate) fn write_rows<K: Clone + Eq + Hash, V: TCNode<K>, S: BuildHasher>(
 pub(crate) fn reach_of<K: Clone + Eq + Hash, V: TCNode<K>, S: BuildHasher>(
     alloc: Global,
     read: &Reading<K, S>,
-) -> Result<Reached, AllocError>
+) -> Result<OrderedReach, AllocError>
     requires { AreArcs read.now.from.items read.now.to.items (length read.now.keys.keys) }
-    ensures { IfOk result (IsReachOf read.now) }
+    ensures reach { IfOk result (λ r. IsReachOf read.now r.numbers) }
+    ensures order { IfOk result (IsOrderedBy V.precedes read.now.keys.keys) }
 {
     let keys = read.keys.as_slice();
     let order = order_of::<K, V>(alloc, keys, &read.to)?;
-    reach(alloc, &read.from, &read.to, keys.len(), &order)
+    let numbers = reach(alloc, &read.from, &read.to, keys.len(), &order.numbers)?;
+    Ok(OrderedReach {
+        numbers,
+        limit: order.ascending,
+    })
 }
 
 // Adds the edges that follow from the arcs to the nodes of the numbers to fix. Reports whether one of these numbers may

@@ -176,5 +176,5 @@ pub(crate) fn enforce_tc<
 {
     let read = read_arcs(alloc, nodes)?;
     let reached = reach_of::<K, V, S>(alloc, &read.reading)?;
-    check_numbers(alloc, &read, &reached)
+    check_numbers(alloc, &read, &reached.numbers)
 }

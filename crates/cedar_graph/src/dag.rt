@@ -133,7 +133,7 @@ pub fn close_dag<K: Clone + Eq + Hash + Debug + Display, V: TCNode<K>, S: BuildH
 {
     let read = read_arcs(alloc, nodes)?;
     let reached = reach_of::<K, V, S>(alloc, &read.reading)?;
-    refuse_loop(alloc, &read, &reached)?;
+    refuse_loop(alloc, &read, &reached.numbers)?;
     write_rows(alloc, nodes, &read, &reached, false)?;
     Ok(())
 }
@@ -177,7 +177,7 @@ pub fn repair_dag<
 {
     let read = read_fix(alloc, nodes_to_fix, nodes)?;
     let reached = reach_of::<K, V, S>(alloc, &read.reading)?;
-    refuse_loop(alloc, &read, &reached)?;
+    refuse_loop(alloc, &read, &reached.numbers)?;
     write_rows(alloc, nodes, &read, &reached, false)?;
     Ok(())
 }

@@ -1,7 +1,10 @@
 //! The order in which the lists of a closure contain their numbers.
-ghost use Rattle.std.specs.Prelude.{◌≡◌, ◌≤◌, ◌++◌, ◌∷◌, [], length, IfOk, OnOk};
+ghost use Rattle.std.specs.Prelude.{◌≡◌, ◌≤◌, ◌++◌, ◌∷◌, [], length, take, true, IfOk, OnOk};
 ghost use Rattle.std.specs.List.{range_with_len};
 ghost use Rattle.std.specs.List.Sorted.{IsPermutation};
+ghost use Rattle.cedar_graph.specs.Ascending.{IsAscendingAt};
+ghost use Rattle.cedar_graph.specs.laws.Ranks.{EndsBelow};
+ghost use Rattle.cedar_graph.specs.laws.Writings.{AllBelow};
 
 use crate::transitive_closure::TCNode;
 use std::alloc::{AllocError, Global};
@@ -85,17 +88,54 @@ fn at_places(
     Ok(order)
 }
 
+// The numbers of the keys in order. The keys of the first `ascending` numbers ascend.
+#[derive(Drop)]
+pub(crate) struct Order {
+    pub(crate) numbers: Vec<usize>,
+    pub(crate) ascending: usize,
+}
+
+// Returns how many of the first numbers have ascending keys: all of them, or none.
+fn count_ascending<K: Clone + Eq + Drop, V: TCNode<K>>(keys: &[K], first: &[usize]) -> usize
+    requires { AllBelow (length keys.now) first.now }
+    ensures most { result ≤ length first.now }
+    ensures ascending { IsAscendingAt V.precedes keys.now (take result first.now) }
+{
+    if V::are_ascending(keys, first) {
+        first.len()
+    } else {
+        0
+    }
+}
+
 // Returns the numbers of the keys in order. Numbers to which arcs lead come first, in the order that the node type
 // prefers for their keys. The others follow; no list contains them.
 pub(crate) fn order_of<K: Clone + Eq + Drop, V: TCNode<K>>(
     alloc: Global,
     keys: &[K],
     to: &[usize],
-) -> Result<Vec<usize>, AllocError>
-    ensures { IfOk result (λ v. IsPermutation (range_with_len 0 (length keys.now)) v.items) }
+) -> Result<Order, AllocError>
+    ensures all { IfOk result (λ o. IsPermutation (range_with_len 0 (length keys.now)) o.numbers.items) }
+    ensures most { IfOk result (λ o. o.ascending ≤ length o.numbers.items) }
+    ensures ascending { IfOk result (λ o. IsAscendingAt V.precedes keys.now (take o.ascending o.numbers.items)) }
 {
     let parts = parts_of(alloc, keys, to)?;
     let places = V::order(alloc, &parts.keys)?;
     let order = at_places(alloc, &parts.led, &places, &parts.others)?;
-    Ok(order)
+    let ascending = count_ascending::<K, V>(keys, &order[..parts.led.len()]);
+    Ok(Order {
+        numbers: order,
+        ascending,
+    })
+}
+
+// Checks whether the place of the last number of a list is below `limit`.
+pub(crate) fn ends_below(list: &[usize], places: &[usize], limit: usize) -> bool
+    requires { AllBelow (length places.now) list.now }
+    ensures { result ≡ true → EndsBelow limit places.now list.now }
+{
+    if list.is_empty() {
+        return true;
+    }
+    places[list[list.len() - 1]] < limit
 }

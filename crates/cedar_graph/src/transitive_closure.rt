@@ -6,9 +6,12 @@ ghost use Rattle.std.specs.Prelude.{
   false,
   map,
   ◌||◌,
+  ℕ,
+  ◌<◌,
   ◌≤◌,
   ◌*◌,
   length,
+  slice_index,
   IfOk,
   OnOk,
   OnErr,
@@ -19,6 +22,7 @@ ghost use Rattle.std.specs.List.Sorted.{IsPermutation};
 ghost use Rattle.std.specs.Set.{is_member, ClonesAreEqual};
 ghost use Rattle.std.specs.HashMap.{hash_map_len};
 ghost use Rattle.std.specs.HashSet.{contains, hash_set_len};
+ghost use Rattle.cedar_graph.specs.Ascending.{IsAscending, IsAscendingAt, RespectsEq};
 ghost use Rattle.cedar_graph.specs.Calls.{Closes, CoversEdged, HasAll, IsAtMostNeeded, KeepsAll, Repairs};
 ghost use Rattle.cedar_graph.specs.Graph.{graph_of, Grows, IsClosedWithoutLoop, KeysMatch};
 ghost use Rattle.cedar_graph.specs.Faults.{DeniesClosed};
@@ -42,6 +46,8 @@ use std::mem::replace;
 /// - The ghost member `rest` is the other content of the node, which no method changes.
 /// - The ghost member `kept` is further content that adding an edge does not change, but `reset_edges` may. A node type
 ///   without such content uses the unit value.
+/// - The ghost member `precedes` is the order of [`TCNode::are_ascending`]. A node type without an order uses any
+///   relation that respects the equality, such as the one that never holds.
 pub trait TCNode<K: Eq + Drop> {
     ghost Rest: { Type 0 };
 
@@ -56,6 +62,8 @@ pub trait TCNode<K: Eq + Drop> {
     ghost rest: { Self → Rest };
 
     ghost kept: { Self → Kept };
+
+    ghost precedes: { K → K → Bool };
 
     /// Returns a copy of the node's key.
     ///
@@ -181,6 +189,22 @@ pub trait TCNode<K: Eq + Drop> {
         (0..keys.len()).collect(alloc)
     }
 
+    /// Returns whether the keys at the positions in `numbers` ascend in the order of the node type. Each number must be
+    /// below `keys.len()`. The default returns `false`. Does not allocate.
+    ///
+    /// A closure calls this once, after [`TCNode::order`], with all keys and with the numbers in that order. If the
+    /// result is `true`, it adds edges by [`TCNode::add_ascending_edges_to`].
+    ///
+    /// # Differences from cedar-policy-core
+    ///
+    /// The original has no such method.
+    fn are_ascending(keys: &[K], numbers: &[usize]) -> bool
+        requires { (k : ℕ) → k < length numbers.now → slice_index numbers.now k < length keys.now }
+        ensures { result ≡ true → IsAscendingAt precedes keys.now numbers.now }
+    {
+        false
+    }
+
     /// Adds edges to all of the keys. The keys may contain duplicates, and keys to which the node has an edge already.
     /// The method may remove keys from the vector; its later content is unspecified.
     ///
@@ -243,10 +267,42 @@ pub trait TCNode<K: Eq + Drop> {
         self.add_edges_to(alloc, keys)
     }
 
+    /// Adds edges to all of the keys, as [`TCNode::add_new_edges_to`] does. The caller must ensure that the node has no
+    /// edge to any of them, and that they ascend, so an implementation need check neither.
+    ///
+    /// The default calls [`TCNode::add_new_edges_to`].
+    ///
+    /// # Errors
+    ///
+    /// Returns `AllocError` if an allocation fails. After an allocation failure no edge is removed, and each added edge
+    /// leads to one of the keys.
+    ///
+    /// # Differences from cedar-policy-core
+    ///
+    /// The original has no such method.
+    fn add_ascending_edges_to(
+        &mut self,
+        alloc: Global,
+        keys: &mut Vec<K>,
+    ) -> std::result::Result<(), AllocError>
+        requires new { (q : K) → is_member K.eq keys.old.items q ≡ true → edges self.old q ≡ false }
+        requires ascending { IsAscending precedes keys.old.items }
+        ensures ok { OnOk result ((q : K) →
+            edges self.new q ≡ (edges self.old q || is_member K.eq keys.old.items q)) }
+        ensures grows { Grows (edges self.old) (edges self.new) (is_member K.eq keys.old.items) }
+        ensures key { key self.new ≡ key self.old }
+        ensures rest { rest self.new ≡ rest self.old }
+        ensures kept { kept self.new ≡ kept self.old }
+    {
+        self.add_new_edges_to(alloc, keys)
+    }
+
     // A node has edges to both of two equal keys, or to neither.
     ghost respects_eq: { (n : Self) (x y : K) → K.eq x y ≡ true → edges n x ≡ edges n y };
 
     ghost direct_are_edges: { (n : Self) (q : K) → direct n q ≡ true → edges n q ≡ true };
+
+    ghost precedes_respects_eq: { RespectsEq K.eq precedes };
 }
 
 /// The work that a closure function did.
@@ -278,8 +334,8 @@ pub struct Work {
 /// edges read and of edges added. A pair of keys without an edge costs nothing.
 ///
 /// - Calls [`TCNode::may_have_edges`] for each node, twice if a node may have edges.
-/// - Calls [`TCNode::order`] once.
-/// - Calls [`TCNode::add_new_edges_to`] once for each node that needs edges.
+/// - Calls [`TCNode::order`] once, and then [`TCNode::are_ascending`].
+/// - Calls [`TCNode::add_ascending_edges_to`] or [`TCNode::add_new_edges_to`] once for each node that needs edges.
 /// - Calls [`TCNode::has_edge_to`] only if `enforce_dag` is `true` and there is a cycle, until a node has an edge to
 ///   itself.
 ///

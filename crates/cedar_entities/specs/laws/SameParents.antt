@@ -21,7 +21,7 @@ pub record HasRowOf (D : EntityMap) (e r : EntityView) : Type 0 where
   pub parts : unchanged_parts r ≡ unchanged_parts e
   pub ancestors : (b : EntityUID) → has_ancestor r b ≡ (has_ancestor e b || ancestry D e.uid b)
 
--- Holds if there is no entity in both cases, or if e has the uid q and r has its row.
+-- Holds if there is neither e nor r, or if e has the uid q, and r is e with the ancestors that D has at q.
 abbrev pub BothAt : EntityMap → EntityUID → Option EntityView → Option EntityView → Type 0
 BothAt D q None None = Unit {0}
 BothAt D q (Some e) (Some r) = (e.uid ≡ q) × HasRowOf D e r

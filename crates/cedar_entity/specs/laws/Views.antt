@@ -1,11 +1,13 @@
 -- Laws of entities: deep equality and ancestors.
-use Rattle.std.specs.Prelude.{◌≡◌, true, false, ◌||◌, List}
+use Rattle.std.specs.Prelude.{◌≡◌, Bool, true, false, ◌||◌, List}
+use Rattle.std.specs.Ordering.{is_lt}
 use Rattle.std.proofs.Common.{refl, ap, sym, ◌∙◌}
 use Rattle.std.specs.FinSet as set
 use Rattle.std.specs.Set.{is_member}
-use Rattle.cedar_ids.specs.UidOf.{same_uid}
+use Rattle.cedar_ids.specs.UidOf.{same_uid, uid_order}
 use Rattle.cedar_ids.specs.laws.UidOfLaws.{same_uid_decides}
 use Rattle.cedar_ids.specs.declared.entity.EntityUID.{EntityUID}
+use Rattle.cedar_graph.specs.Ascending.{RespectsEq}
 use Rattle.cedar_uid_sets.specs.laws.Sets.{is_member-append}
 use Rattle.cedar_uid_sets.specs.UidSets.{UidValues}
 use Rattle.cedar_entity.specs.Listing.{ListsAncestors, ListsBoth}
@@ -14,6 +16,15 @@ use Rattle.cedar_entity.specs.View.{EntityView, IsDeepEqual, IsEquivalenceRelati
 -- Holds if none of the uids is an ancestor.
 abbrev pub AreNewTo : EntityView → List EntityUID → Type 0
 AreNewTo e uids = (q : EntityUID) → is_member same_uid uids q ≡ true → has_ancestor e q ≡ false
+
+-- Whether the first uid is less than the second.
+abbrev pub uid_precedes : EntityUID → EntityUID → Bool
+uid_precedes x y = is_lt (uid_order x y)
+
+-- Equal uids are less than the same uids.
+pub uid_precedes_respects : RespectsEq same_uid uid_precedes
+uid_precedes_respects x y u v h g =
+    ap (λ z. uid_precedes z u) ((same_uid_decides x y).0 h) ∙ ap (uid_precedes y) ((same_uid_decides u v).0 g)
 
 -- Deep equality is an equivalence relation.
 pub deep_equality : IsEquivalenceRelation IsDeepEqual

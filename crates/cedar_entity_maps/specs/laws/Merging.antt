@@ -18,7 +18,8 @@ pub record IsRowOf (at : EntityUID → Option EntityView) (e : EntityView) (row 
       → (y : EntityUID) × (has_ancestor e y ≡ true) × (is_ancestor_in (at y) q ≡ true)
   pub all : (y q : EntityUID) → has_ancestor e y ≡ true → is_ancestor_in (at y) q ≡ true → set.contains row q ≡ true
 
--- Holds if, in addition, none of the ancestors is affected, and the row does not contain the key.
+-- Holds if the row contains exactly the ancestors of the ancestors of an entity, none of its ancestors is affected, and
+-- the row does not contain the key.
 pub record IsRowApart (affected : EntityUID → Bool) (at : EntityUID → Option EntityView) (key : EntityUID) (e : EntityView)
     (row : UidValues) : Type 0 where
   pub row_of : IsRowOf at e row

@@ -1,17 +1,20 @@
 -- The writing into a map of nodes: edges to the keys of the numbers that a number reaches.
 use Rattle.std.specs.Prelude.{◌≡◌, ℕ, ◌<◌, ◌≤◌, ◌⊎◌, Bool, true, false, List, length, slice_get, slice_index, Some}
-use Rattle.std.specs.Prelude.{◌+◌, is_some, Result, OnOk}
+use Rattle.std.specs.Prelude.{◌+◌, ◌++◌, ◌∷◌, [], is_some, Result, OnOk}
 use Rattle.std.specs.List.{slice_range}
 use Rattle.std.specs.Set.{is_member}
 use Rattle.std.specs.HashMap.{HashMap, get}
-use Rattle.cedar_components.specs.Reach.{HasPath, HasArc, IsReach}
+use Rattle.cedar_components.specs.Reach.{AreInOrder, HasPath, HasArc, IsReach}
 use Rattle.cedar_components.specs.declared.Reached.{Reached}
+use Rattle.cedar_graph.specs.Ascending.{IsAscending, IsAscendingAt, RespectsEq}
 use Rattle.cedar_graph.specs.Graph.{graph_of, KeepsEdges}
 use Rattle.cedar_graph.specs.laws.Arcs.{IsKeyAt, IsRowEdgeBelow}
+use Rattle.cedar_graph.specs.laws.Ranks.{AreRanked}
 use Rattle.cedar_graph.specs.laws.Readings.{IsArc}
 use Rattle.cedar_graph.specs.declared.arcs.Reading.{Reading}
 use Rattle.cedar_graph.specs.declared.arcs.FixReading.{FixReading}
 use Rattle.cedar_graph.specs.declared.close.Known.{Known}
+use Rattle.cedar_graph.specs.declared.close.OrderedReach.{OrderedReach}
 use Rattle.cedar_graph.specs.declared.transitive_closure.Work.{Work}
 
 abbrev pub AreAtMost : ℕ → List ℕ → Type 0
@@ -76,6 +79,23 @@ pub record TakesKey {K : Type 0} (eq : K → K → Bool) (key : K) (known : Bool
       → (is_member eq old q ≡ true) ⊎ ((eq q key ≡ true) × (known ≡ false))
   pub has : (q : K) → eq q key ≡ true → (is_member eq new q ≡ true) ⊎ (known ≡ true)
 
+-- Holds if a copy of a key was appended to a row, or nothing.
+abbrev pub TakesInOrder : {K : Type 0} → (K → K → Bool) → K → List K → List K → Type 0
+TakesInOrder {K} eq key old new = (new ≡ old) ⊎ ((copy : K) × (eq key copy ≡ true) × (new ≡ old ++ copy ∷ []))
+
+-- Holds if a row ascends, and each of its keys precedes the keys of the numbers from place n on.
+pub record KeepsOrderBy {K : Type 0} (precedes : K → K → Bool) (keys : List K) (numbers : List ℕ) (n : ℕ)
+    (row : List K) : Type 0 where
+  pub ascends : IsAscending precedes row
+  pub before : (i m : ℕ) (x y : K) → slice_get row i ≡ Some x → n ≤ m → m < length numbers
+      → slice_get keys (slice_index numbers m) ≡ Some y → precedes x y ≡ true
+
+-- Holds if `KeepsOrderBy` holds for each order that respects the equality and in which the keys of the numbers ascend.
+pub record KeepsOrder {K : Type 0} (eq : K → K → Bool) (keys : List K) (numbers : List ℕ) (n : ℕ) (row : List K)
+    : Type 0 where
+  pub by : (precedes : K → K → Bool) → RespectsEq eq precedes → IsAscendingAt precedes keys numbers
+      → KeepsOrderBy precedes keys numbers n row
+
 -- Holds if q is the key of a number from place i up to place j.
 abbrev pub IsKeyWithin : {K : Type 0} → (K → K → Bool) → List K → List ℕ → ℕ → ℕ → K → Type 0
 IsKeyWithin {K} eq keys numbers i j q = (n : ℕ) × (k : K) × (i ≤ n) × (n < j)
@@ -111,6 +131,13 @@ IsFixEdge eq read = IsRowEdgeBelow eq read.fixed read.reading.keys.keys (IsArc r
 abbrev pub IsReachOf : {K S H : Type 0} → Reading K S H → Reached → Type 0
 IsReachOf s reached = IsReach (IsArc s) (length s.keys.keys) reached.component.items reached.start.items
     reached.lists.items
+
+-- Holds if the places of the numbers are those of the keys in an order in which the keys at the first `limit` places
+-- ascend, and each list is in the order of its places if it is marked as such.
+pub record IsOrderedBy {K : Type 0} (precedes : K → K → Bool) (keys : List K) (reached : OrderedReach) : Type 0 where
+  pub ranked : AreRanked precedes keys reached.limit reached.numbers.places.items
+  pub ordered : reached.numbers.ordered ≡ true → AreInOrder reached.numbers.places.items reached.numbers.start.items
+      reached.numbers.lists.items
 
 -- The list of the component of number x.
 abbrev pub listed : Reached → ℕ → List ℕ

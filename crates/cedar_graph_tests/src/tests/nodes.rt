@@ -22,7 +22,8 @@ pub struct Node {
 }
 
 impl TCNode<u64> for Node {
-    ghost use Rattle.std.specs.Prelude.{◌||◌, ℕ};
+    ghost use Rattle.std.specs.Prelude.{◌||◌, ℕ, false};
+    ghost use Rattle.std.proofs.Common.{refl};
     ghost use Rattle.std.specs.Cmp.{nat_eq_equiv};
     ghost use Rattle.cedar_graph.specs.laws.Nodes.{either_contains_both_or_none, first_of_either};
 
@@ -39,6 +40,8 @@ impl TCNode<u64> for Node {
     ghost rest = { λ n. tt };
 
     ghost kept = { λ n. n.own.keys };
+
+    ghost precedes = { λ x y. false };
 
     fn get_key(&self, _alloc: Global) -> Result<u64, AllocError> {
         Ok(self.number)
@@ -76,6 +79,8 @@ impl TCNode<u64> for Node {
 
     ghost direct_are_edges = { λ n q h.
         first_of_either (contains nat_eq n.own q) (contains nat_eq n.further q) h };
+
+    ghost precedes_respects_eq = { λ x y u v h g. refl };
 }
 
 /// A graph with numbers as keys, in a map with the hasher builder `S`.

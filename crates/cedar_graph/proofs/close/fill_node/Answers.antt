@@ -16,6 +16,14 @@ returns-then-is_empty-clause-ok g c =
     let within = slice_get_within row n.0 n.1 n.2 in
     absurd (omega arith)
 
+pub returns-then-ascending-clause-ok : goal.returns-then-ascending-clause-ok
+returns-then-ascending-clause-ok g c =
+    let eq = g.K.PartialEq.eq in
+    let old = g.V.TCNode.edges c.args.node.now in
+    let row = c.args.row.now.items in
+    on_ok_weaker c.add_ascending_edges_to.result (λ ok q m. ok q ∙ or_right (old q) (is_member eq row q) m)
+    c.add_ascending_edges_to.ensures.ok
+
 pub returns-clause-ok : goal.returns-clause-ok
 returns-clause-ok g c =
     let eq = g.K.PartialEq.eq in

@@ -1,6 +1,7 @@
 use Rattle.std.proofs.Common.{◌≡◌, ◌<◌, Some, arith, get_or, sym, ap, ◌∙◌, length, slice_get}
 use Rattle.std.proofs.lemmas.Option.{slice_get-get_or}
 use Rattle.std.proofs.lemmas.Grind.{common_steps}
+use Rattle.cedar_graph.proofs.InOrder.{taken_in_order}
 use Rattle.cedar_graph.proofs.Runs.{key_taken}
 use Rattle.cedar_graph.proofs.close.pick_while_room.Goals as goal
 
@@ -14,6 +15,11 @@ loop-place-preserved g c =
     let y = get_or numbers n 0 in
     let y_in : y < length keys = c.requires.numbers n (omega arith) in
     let got : slice_get keys y ≡ Some key = slice_get-get_or keys y key y_in ∙ ap Some (sym c.index-keys-y.is) in
-    key_taken g.met.K.Eq.laws keys c.requires.unique numbers known n key _ c.loop-place.row.items
-    c.pick_if_room.new.row.items c.loop-place.invariant got (c.in_ok-has_room.ensures.taken c.if-not-has_room.false)
-    (λ h. grind (arith, common_steps)) (λ h mark. grind (arith, common_steps))
+    record {
+      row = key_taken g.met.K.Eq.laws keys c.requires.unique numbers known n key _ c.loop-place.row.items
+          c.pick_if_room.new.row.items c.loop-place.invariant.row got
+          (c.in_ok-has_room.ensures.taken c.if-not-has_room.false)
+          (λ h. grind (arith, common_steps)) (λ h mark. grind (arith, common_steps));
+      order = taken_in_order keys numbers g.met.K.Eq.laws n key c.loop-place.row.items c.pick_if_room.new.row.items
+          (omega arith) got (c.in_ok-has_room.ensures.order c.if-not-has_room.false) c.loop-place.invariant.order;
+    }
