@@ -10,7 +10,7 @@ use Rattle.cedar_ids.specs.declared.entity.EntityUID.{EntityUID}
 use Rattle.cedar_entity.specs.View.{EntityView}
 use Rattle.cedar_entity_maps.specs.laws.Lists.{all_push}
 use Rattle.cedar_dry_run.specs.laws.Requested.{AreAsked, IsAsked}
-use Rattle.cedar_dry_run.proofs.Found.{all_along}
+use Rattle.cedar_dry_run.specs.laws.Found.{all_along}
 
 module _ (U V : List EntityUID) (e : EntityView) (grows : (q : EntityUID) → is_member same_uid V q
     ≡ (is_member same_uid U q || (same_uid q e.uid || set.contains e.parents q))) where

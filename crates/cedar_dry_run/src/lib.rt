@@ -7,7 +7,7 @@
 //! Proved, for any other store: the edit can fail with the error of the dry run.
 #![tactic(auto, using(cedar_ids::specs::laws::UidOfLaws::same_uid_decides))]
 
-mod requested;
+pub mod requested;
 pub mod would;
 
 pub use would::{have_no_indirect, would_add, would_upsert};

@@ -33,11 +33,20 @@ fn push_uid_and_parents(uids: &mut Vec<EntityUID>, entity: &Entity) -> Result<()
     push_parents(uids, entity)
 }
 
-// Returns the uids of the entities and of their parents.
-pub(crate) fn uids_and_parents(
-    alloc: Global,
-    list: &[Rc<Entity>],
-) -> Result<Vec<EntityUID>, AllocError>
+/// Returns the uids of the entities of a list and of their parents, in the order of the list, with repetitions.
+///
+/// # Errors
+///
+/// Returns `AllocError` if an allocation fails.
+///
+/// # Complexity
+///
+/// O(n), where n is the number of these uids. Copies each uid.
+///
+/// # Differences from cedar-policy-core
+///
+/// The original has no such function.
+pub fn uids_and_parents(alloc: Global, list: &[Rc<Entity>]) -> Result<Vec<EntityUID>, AllocError>
     ensures { IfOk result (λ v. AreAsked v.items (entities_in list.now)) }
 {
     let mut uids = Vec::new(alloc);

@@ -1,6 +1,6 @@
 use Rattle.std.proofs.Common.{Ok, Err}
 use Rattle.cedar_entity_maps.specs.Plain.{entities_in}
-use Rattle.cedar_dry_run.proofs.Tried.{adding_refused, adding_tried}
+use Rattle.cedar_dry_run.specs.laws.Tried.{adding_refused, adding_tried}
 use Rattle.cedar_dry_run.proofs.would.would_add.Goals as goal
 
 pub returns-in-Ok-clause-plain : goal.returns-in-Ok-clause-plain

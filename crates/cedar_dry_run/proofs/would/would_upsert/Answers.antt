@@ -1,6 +1,6 @@
 use Rattle.std.proofs.Common.{Ok, Err}
 use Rattle.cedar_entity_maps.specs.Plain.{entities_in}
-use Rattle.cedar_dry_run.proofs.Tried.{putting_refused, putting_tried}
+use Rattle.cedar_dry_run.specs.laws.Tried.{putting_refused, putting_tried}
 use Rattle.cedar_dry_run.proofs.would.would_upsert.Goals as goal
 
 pub returns-in-Ok-clause-plain : goal.returns-in-Ok-clause-plain

@@ -1,0 +1,8 @@
+use Rattle.std.proofs.Common.{◌≡◌, filter_map, take}
+use Rattle.std.specs.FinMap as finmap
+use Rattle.cedar_entity_diff.specs.Diffs.{only_first}
+use Rattle.cedar_entity_diff.proofs.store_diff.only_in.Given as goal
+
+abbrev pub invariant-loop-uid : goal.invariant-loop-uid
+invariant-loop-uid g l = l.list.items ≡ filter_map
+    (λ q. only_first (finmap.get l.store.entities q) (finmap.get l.other.entities q)) (take l.uid-index l.uids)

@@ -1,0 +1,5 @@
+use Rattle.std.proofs.Common.{refl}
+use Rattle.cedar_entity_diff.proofs.would_change.would_change_by_upsert.Goals as goal
+
+pub part_change_by_upsert-requires-clause-plain : goal.part_change_by_upsert-requires-clause-plain
+part_change_by_upsert-requires-clause-plain g c = c.if-has_part_for.ensures.store refl

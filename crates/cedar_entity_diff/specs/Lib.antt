@@ -1,0 +1,4 @@
+pub mod Codes
+pub mod Diffs
+pub mod WouldChange
+pub mod laws

@@ -1,0 +1,4 @@
+pub mod DiffLaws
+pub mod Listed
+pub mod OneList
+pub mod Parts

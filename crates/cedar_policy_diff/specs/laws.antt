@@ -1,0 +1,3 @@
+pub mod ListDiffLaws
+pub mod DiffLaws
+pub mod Emptiness

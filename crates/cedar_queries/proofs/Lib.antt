@@ -1,0 +1,9 @@
+mod Cycles
+mod Descending
+mod FoundPaths
+mod Layers
+mod Listing
+mod Traces
+mod UidLists
+mod UidVisits
+mod Visiting

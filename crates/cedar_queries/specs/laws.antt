@@ -1,0 +1,2 @@
+pub mod PlainQueries
+pub mod Searches
