@@ -1,9 +1,9 @@
 pub mod Checks
 pub mod Copying
+pub mod ErrorCalls
 pub mod PoliciesHandles
 pub mod PolicyCalls
 pub mod PolicyReads
-pub mod RefusalCalls
 pub mod Runs
 pub mod StatusCalls
 pub mod Statuses

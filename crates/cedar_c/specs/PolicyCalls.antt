@@ -27,7 +27,7 @@ HandleState = SetState KeyedState KeyedHasher
 abbrev pub HasSet : SetParts → Option Inner → Type 0
 HasSet b o = IsSomeAnd o (λ i. i.kept.set ≡ b)
 
--- Holds if the handle is open, without an answer, nodes or a last error.
+-- Holds if the handle is open, without an result, nodes or a last error.
 abbrev pub HasNoTexts : Option Inner → Type 0
 HasNoTexts o = IsSomeAnd o (λ i. IsUntold i.kept)
 
@@ -75,12 +75,12 @@ ChangesBy P other None n new = (n ≡ closed) × (new ≡ None)
 ChangesBy P None (Some i) n new = (n ≡ closed) × (new ≡ Some i)
 ChangesBy P (Some o) (Some i) n new = Changes (P o.kept.set) (Some i) n new
 
--- Holds for a call that copies the bytes of the answer, from a position on. A closed handle has no bytes.
-abbrev pub CopiesAnswer : Option Inner → ℕ → List ℕ → ℕ → List ℕ → Type 0
-CopiesAnswer None from old told new = (told ≡ 0) × (new ≡ old)
-CopiesAnswer (Some i) from old told new = CopiesOut (concat i.kept.answer) from old told new
+-- Holds for a call that copies the bytes of the result, from a position on. A closed handle has no bytes.
+abbrev pub CopiesResult : Option Inner → ℕ → List ℕ → ℕ → List ℕ → Type 0
+CopiesResult None from old told new = (told ≡ 0) × (new ≡ old)
+CopiesResult (Some i) from old told new = CopiesOut (concat i.kept.answer) from old told new
 
--- Holds for a call that copies the spans of the texts of the answer, from a position on. A closed handle has no texts.
+-- Holds for a call that copies the spans of the texts of the result, from a position on. A closed handle has no texts.
 abbrev pub CopiesSpans : Option Inner → ℕ → List Span → ℕ → List Span → Type 0
 CopiesSpans None from old told new = (told ≡ 0) × (new ≡ old)
 CopiesSpans (Some i) from old told new = CopiesOut (spans_from 0 i.kept.answer) from old told new

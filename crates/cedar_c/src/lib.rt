@@ -9,20 +9,22 @@
 #![tactic(auto)]
 
 mod copying;
+mod errors;
 mod keys;
 mod parts;
 mod policies;
 mod policies_bodies;
 mod policies_deep_copy;
 mod policies_handle;
+mod policies_naming;
 mod policies_reads;
 mod program;
-mod refusals;
 mod statuses;
 mod store;
 mod store_deep_copy;
 mod store_handle;
 mod store_numbers;
+mod store_queries;
 mod store_reads;
 mod store_values;
 mod uids;

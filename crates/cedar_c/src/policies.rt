@@ -5,7 +5,7 @@ ghost use Rattle.cedar_policy_maps.specs.PolicySets.{empty_set};
 ghost use Rattle.cedar_policy_set.specs.Steps.{remove_static_step, remove_template_step, unlink_step};
 ghost use Rattle.cedar_c_sets.specs.Sets.{AddsStatic, AddsTemplate, CopiesSet, Links, ListsIds, MergesSet, RemovesById};
 ghost use Rattle.cedar_c.specs.Statuses.{ok, no_memory};
-ghost use Rattle.cedar_c.specs.PolicyCalls.{Boxes, Changes, ChangesBy, Compares, CopiesAnswer, CopiesErrorText};
+ghost use Rattle.cedar_c.specs.PolicyCalls.{Boxes, Changes, ChangesBy, Compares, CopiesResult, CopiesErrorText};
 ghost use Rattle.cedar_c.specs.PolicyCalls.{CopiesSpans, Fills, FillsBy, HasSet, HasNoTexts};
 
 use crate::copying::copy_out;
@@ -146,9 +146,9 @@ pub extern "C" fn cedar_policies_add_static(
     let Some(mut inner) = take(alloc, handle) else {
         return CLOSED;
     };
-    let answer = inner.kept.add_static(alloc, id, effect);
+    let outcome = inner.kept.add_static(alloc, id, effect);
     *handle = opened(inner);
-    status_of(answer)
+    status_of(outcome)
 }
 
 /// Adds a template with these bytes as its id, the effect with a number, and the slots with a number. Its only
@@ -176,9 +176,9 @@ pub extern "C" fn cedar_policies_add_template(
     let Some(mut inner) = take(alloc, handle) else {
         return CLOSED;
     };
-    let answer = inner.kept.add_template(alloc, id, effect, slots);
+    let outcome = inner.kept.add_template(alloc, id, effect, slots);
     *handle = opened(inner);
-    status_of(answer)
+    status_of(outcome)
 }
 
 /// Links the template with an id. The link gets another id, and the bindings in three parts of a text: principal,
@@ -212,9 +212,9 @@ pub extern "C" fn cedar_policies_link(
     let Some(mut inner) = take(alloc, handle) else {
         return CLOSED;
     };
-    let answer = inner.kept.link(alloc, template, id, text, values);
+    let outcome = inner.kept.link(alloc, template, id, text, values);
     *handle = opened(inner);
-    status_of(answer)
+    status_of(outcome)
 }
 
 /// Removes the link with an id.
@@ -235,9 +235,9 @@ pub extern "C" fn cedar_policies_unlink(alloc: Global, handle: &mut Policies, id
     let Some(mut inner) = take(alloc, handle) else {
         return CLOSED;
     };
-    let answer = inner.kept.unlink(alloc, id);
+    let outcome = inner.kept.unlink(alloc, id);
     *handle = opened(inner);
-    status_of(answer)
+    status_of(outcome)
 }
 
 /// Removes the static policy with an id.
@@ -262,9 +262,9 @@ pub extern "C" fn cedar_policies_remove_static(
     let Some(mut inner) = take(alloc, handle) else {
         return CLOSED;
     };
-    let answer = inner.kept.remove_static(alloc, id);
+    let outcome = inner.kept.remove_static(alloc, id);
     *handle = opened(inner);
-    status_of(answer)
+    status_of(outcome)
 }
 
 /// Removes the template with an id.
@@ -290,13 +290,13 @@ pub extern "C" fn cedar_policies_remove_template(
     let Some(mut inner) = take(alloc, handle) else {
         return CLOSED;
     };
-    let answer = inner.kept.remove_template(alloc, id);
+    let outcome = inner.kept.remove_template(alloc, id);
     *handle = opened(inner);
-    status_of(answer)
+    status_of(outcome)
 }
 
 /// Merges another set into this one, as `PolicySet::merge_policyset` does. Stores each renamed id, followed by its new
-/// id, as the answer.
+/// id, as the result.
 ///
 /// # Status
 ///
@@ -323,13 +323,13 @@ pub extern "C" fn cedar_policies_merge(
         *handle = opened(inner);
         return CLOSED;
     };
-    let answer = inner.kept.merge(alloc, &beside.kept, rename);
+    let outcome = inner.kept.merge(alloc, &beside.kept, rename);
     *handle = opened(inner);
     *other = opened(beside);
-    status_of(answer)
+    status_of(outcome)
 }
 
-/// Stores the ids of the bodies (`kind` 0) or of the policies (`kind` 1) as the answer, in order.
+/// Stores the ids of the bodies (`kind` 0) or of the policies (`kind` 1) as the result, in order.
 ///
 /// # Status
 ///
@@ -345,12 +345,12 @@ pub extern "C" fn cedar_policies_ids(alloc: Global, handle: &mut Policies, kind:
     let Some(mut inner) = take(alloc, handle) else {
         return CLOSED;
     };
-    let answer = inner.kept.ids(alloc, kind);
+    let outcome = inner.kept.ids(alloc, kind);
     *handle = opened(inner);
-    status_of(answer)
+    status_of(outcome)
 }
 
-/// Fills the handle `to` with a copy of the policy set of `from`. The copy has no answer and no last error.
+/// Fills the handle `to` with a copy of the policy set of `from`. The copy has no result and no last error.
 ///
 /// # Status
 ///
@@ -371,7 +371,7 @@ pub extern "C" fn cedar_policies_copy(alloc: Global, from: &mut Policies, to: &m
     fill(alloc, to, made)
 }
 
-/// Writes to `answer` whether both sets have equal bodies and policies, in the same order.
+/// Writes to `out` whether both sets have equal bodies and policies, in the same order.
 ///
 /// # Status
 ///
@@ -383,11 +383,11 @@ pub extern "C" fn cedar_policies_equal(
     alloc: Global,
     one: &mut Policies,
     other: &mut Policies,
-    answer: &mut bool,
+    out: &mut bool,
 ) -> u32
     ensures one { one.new.held.value ≡ one.old.held.value }
     ensures other { other.new.held.value ≡ other.old.held.value }
-    ensures compares { Compares one.old.held.value other.old.held.value result answer.old answer.new }
+    ensures compares { Compares one.old.held.value other.old.held.value result out.old out.new }
 {
     let Some(inner) = take(alloc, one) else {
         return CLOSED;
@@ -396,23 +396,23 @@ pub extern "C" fn cedar_policies_equal(
         *one = opened(inner);
         return CLOSED;
     };
-    *answer = inner.kept.is_equal(&beside.kept);
+    *out = inner.kept.is_equal(&beside.kept);
     *one = opened(inner);
     *other = opened(beside);
     0
 }
 
-/// Copies the bytes of the answer, from position `from` on, as many as fit. Returns the number of all bytes, which is 0
+/// Copies the bytes of the result, from position `from` on, as many as fit. Returns the number of all bytes, which is 0
 /// for a closed handle.
 #[unsafe(no_mangle)]
-pub extern "C" fn cedar_policies_answer(
+pub extern "C" fn cedar_policies_result(
     alloc: Global,
     handle: &mut Policies,
     from: usize,
     out: &mut [u8],
 ) -> usize
     ensures same { handle.new.held.value ≡ handle.old.held.value }
-    ensures copies { CopiesAnswer handle.old.held.value from out.old result out.new }
+    ensures copies { CopiesResult handle.old.held.value from out.old result out.new }
 {
     let Some(inner) = take(alloc, handle) else {
         return 0;
@@ -422,10 +422,10 @@ pub extern "C" fn cedar_policies_answer(
     told
 }
 
-/// Copies the spans of the texts of the answer within its bytes, from the text at position `from` on, as many as fit.
+/// Copies the spans of the texts of the result within its bytes, from the text at position `from` on, as many as fit.
 /// Returns the number of all texts, which is 0 for a closed handle.
 #[unsafe(no_mangle)]
-pub extern "C" fn cedar_policies_answer_spans(
+pub extern "C" fn cedar_policies_result_spans(
     alloc: Global,
     handle: &mut Policies,
     from: usize,
@@ -445,7 +445,7 @@ pub extern "C" fn cedar_policies_answer_spans(
 /// Copies the text of the last error of a call on the set, as much as fits. Returns the length of the whole text, which
 /// is 0 for a closed handle.
 #[unsafe(no_mangle)]
-pub extern "C" fn cedar_policies_refusal(
+pub extern "C" fn cedar_policies_error_text(
     alloc: Global,
     handle: &mut Policies,
     out: &mut [u8],

@@ -54,9 +54,9 @@ pub extern "C" fn cedar_policies_add_static_with(
         uids,
         nodes,
     };
-    let answer = inner.kept.add_static_with(alloc, id, lists);
+    let outcome = inner.kept.add_static_with(alloc, id, lists);
     *handle = opened(inner);
-    status_of(answer)
+    status_of(outcome)
 }
 
 /// Adds a template with these bytes as its id, from the lists that `cedar_policies_add_static_with` takes. It may have
@@ -99,14 +99,14 @@ pub extern "C" fn cedar_policies_add_template_with(
         uids,
         nodes,
     };
-    let answer = inner.kept.add_template_with(alloc, id, lists);
+    let outcome = inner.kept.add_template_with(alloc, id, lists);
     *handle = opened(inner);
-    status_of(answer)
+    status_of(outcome)
 }
 
 /// Writes the kind of the principal constraint (`which` 0), the action constraint (1) or the resource constraint (2) of
 /// the policy or template with an id to `kind`. Stores the text of its type, followed by the texts of its uids, as the
-/// answer.
+/// result.
 ///
 /// # Status
 ///
@@ -131,13 +131,13 @@ pub extern "C" fn cedar_policies_scope(
     let Some(mut inner) = take(alloc, handle) else {
         return CLOSED;
     };
-    let answer = inner.kept.scope(alloc, id, which);
+    let outcome = inner.kept.scope(alloc, id, which);
     *handle = opened(inner);
-    write_result(answer, kind)
+    write_result(outcome, kind)
 }
 
 /// Writes to `has` whether the policy or template with an id has a clause. If it has, stores the nodes of the clause,
-/// and their text as the answer.
+/// and their text as the result.
 ///
 /// # Status
 ///
@@ -160,12 +160,12 @@ pub extern "C" fn cedar_policies_clause(
     let Some(mut inner) = take(alloc, handle) else {
         return CLOSED;
     };
-    let answer = inner.kept.clause(alloc, id);
+    let outcome = inner.kept.clause(alloc, id);
     *handle = opened(inner);
-    write_bool(answer, has)
+    write_bool(outcome, has)
 }
 
-/// Stores the nodes of the condition of the policy or template with an id, and their text as the answer.
+/// Stores the nodes of the condition of the policy or template with an id, and their text as the result.
 ///
 /// # Status
 ///
@@ -182,15 +182,15 @@ pub extern "C" fn cedar_policies_condition(alloc: Global, handle: &mut Policies,
     let Some(mut inner) = take(alloc, handle) else {
         return CLOSED;
     };
-    let answer = inner.kept.condition(alloc, id);
+    let outcome = inner.kept.condition(alloc, id);
     *handle = opened(inner);
-    status_of(answer)
+    status_of(outcome)
 }
 
 /// Copies the nodes of the last expression, from position `from` on, as many as fit. Returns the number of all nodes,
 /// which is 0 for a closed handle.
 #[unsafe(no_mangle)]
-pub extern "C" fn cedar_policies_answer_nodes(
+pub extern "C" fn cedar_policies_result_nodes(
     alloc: Global,
     handle: &mut Policies,
     from: usize,

@@ -33,7 +33,7 @@ pub extern "C" fn cedar_policies_deep_copy(
 }
 
 /// Merges a deep copy of another set into this one, as `cedar_policies_merge` does. Stores each renamed id, followed by
-/// its new id, as the answer. The result shares nothing with the other set.
+/// its new id, as the result. The result shares nothing with the other set.
 ///
 /// # Status
 ///
@@ -60,8 +60,8 @@ pub extern "C" fn cedar_policies_merge_deep_copy(
         *handle = opened(inner);
         return CLOSED;
     };
-    let answer = inner.kept.merge_deep_copy(alloc, &beside.kept, rename);
+    let outcome = inner.kept.merge_deep_copy(alloc, &beside.kept, rename);
     *handle = opened(inner);
     *other = opened(beside);
-    status_of(answer)
+    status_of(outcome)
 }

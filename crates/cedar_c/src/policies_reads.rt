@@ -35,9 +35,9 @@ pub extern "C" fn cedar_policies_get(
     let Some(inner) = take(alloc, handle) else {
         return CLOSED;
     };
-    let answer = inner.kept.kind(alloc, id);
+    let outcome = inner.kept.kind(alloc, id);
     *handle = opened(inner);
-    write_result(answer, told)
+    write_result(outcome, told)
 }
 
 /// Writes the effect of the policy or template with an id to `told`: 0 is permit, 1 is forbid.
@@ -64,9 +64,9 @@ pub extern "C" fn cedar_policies_effect(
     let Some(inner) = take(alloc, handle) else {
         return CLOSED;
     };
-    let answer = inner.kept.effect(alloc, id);
+    let outcome = inner.kept.effect(alloc, id);
     *handle = opened(inner);
-    write_result(answer, told)
+    write_result(outcome, told)
 }
 
 /// Writes the slots of the static policy or the template with an id to `told`, as a sum: 1 for the principal, 2 for the
@@ -94,13 +94,13 @@ pub extern "C" fn cedar_policies_slots(
     let Some(inner) = take(alloc, handle) else {
         return CLOSED;
     };
-    let answer = inner.kept.slots(alloc, id);
+    let outcome = inner.kept.slots(alloc, id);
     *handle = opened(inner);
-    write_result(answer, told)
+    write_result(outcome, told)
 }
 
 /// Writes to `has` whether the policy or template with an id has an annotation with a key. Stores its value as the
-/// answer, which becomes empty if there is none.
+/// result, which becomes empty if there is none.
 ///
 /// # Status
 ///
@@ -125,12 +125,12 @@ pub extern "C" fn cedar_policies_annotation(
     let Some(mut inner) = take(alloc, handle) else {
         return CLOSED;
     };
-    let answer = inner.kept.annotation(alloc, id, key);
+    let outcome = inner.kept.annotation(alloc, id, key);
     *handle = opened(inner);
-    write_bool(answer, has)
+    write_bool(outcome, has)
 }
 
-/// Stores the annotations of the policy or template with an id as the answer, in order of key: each key, followed by
+/// Stores the annotations of the policy or template with an id as the result, in order of key: each key, followed by
 /// its value.
 ///
 /// # Status
@@ -148,12 +148,12 @@ pub extern "C" fn cedar_policies_annotations(alloc: Global, handle: &mut Policie
     let Some(mut inner) = take(alloc, handle) else {
         return CLOSED;
     };
-    let answer = inner.kept.annotations(alloc, id);
+    let outcome = inner.kept.annotations(alloc, id);
     *handle = opened(inner);
-    status_of(answer)
+    status_of(outcome)
 }
 
-/// Stores the bindings of the policy with an id as the answer: three texts, for principal, action and resource. A text
+/// Stores the bindings of the policy with an id as the result: three texts, for principal, action and resource. A text
 /// is empty if its slot is not bound.
 ///
 /// # Status
@@ -171,12 +171,12 @@ pub extern "C" fn cedar_policies_env(alloc: Global, handle: &mut Policies, id: &
     let Some(mut inner) = take(alloc, handle) else {
         return CLOSED;
     };
-    let answer = inner.kept.env(alloc, id);
+    let outcome = inner.kept.env(alloc, id);
     *handle = opened(inner);
-    status_of(answer)
+    status_of(outcome)
 }
 
-/// Stores the id of the template of the policy with an id as the answer. For a static policy it is its own id.
+/// Stores the id of the template of the policy with an id as the result. For a static policy it is its own id.
 ///
 /// # Status
 ///
@@ -193,12 +193,12 @@ pub extern "C" fn cedar_policies_template_id(alloc: Global, handle: &mut Policie
     let Some(mut inner) = take(alloc, handle) else {
         return CLOSED;
     };
-    let answer = inner.kept.template_id(alloc, id);
+    let outcome = inner.kept.template_id(alloc, id);
     *handle = opened(inner);
-    status_of(answer)
+    status_of(outcome)
 }
 
-/// Stores the ids of the policies that use the static policy or the template with an id as the answer, in order.
+/// Stores the ids of the policies that use the static policy or the template with an id as the result, in order.
 ///
 /// # Status
 ///
@@ -215,12 +215,12 @@ pub extern "C" fn cedar_policies_linked(alloc: Global, handle: &mut Policies, id
     let Some(mut inner) = take(alloc, handle) else {
         return CLOSED;
     };
-    let answer = inner.kept.linked(alloc, id);
+    let outcome = inner.kept.linked(alloc, id);
     *handle = opened(inner);
-    status_of(answer)
+    status_of(outcome)
 }
 
-/// Stores the uids of the unknowns in the condition of the policy with an id as the answer: ascending, each once.
+/// Stores the uids of the unknowns in the condition of the policy with an id as the result: ascending, each once.
 ///
 /// # Status
 ///
@@ -241,9 +241,9 @@ pub extern "C" fn cedar_policies_unknown_entities(
     let Some(mut inner) = take(alloc, handle) else {
         return CLOSED;
     };
-    let answer = inner.kept.unknown_entities(alloc, id);
+    let outcome = inner.kept.unknown_entities(alloc, id);
     *handle = opened(inner);
-    status_of(answer)
+    status_of(outcome)
 }
 
 /// Validates a copy of the set, as `PolicySet::try_validate` does. The first fault determines the status.
@@ -265,12 +265,12 @@ pub extern "C" fn cedar_policies_validate(alloc: Global, handle: &mut Policies) 
     let Some(mut inner) = take(alloc, handle) else {
         return CLOSED;
     };
-    let answer = inner.kept.validate(alloc);
+    let outcome = inner.kept.validate(alloc);
     *handle = opened(inner);
-    status_of(answer)
+    status_of(outcome)
 }
 
-/// Stores the text of the set, from its `Display`, as the answer.
+/// Stores the text of the set, from its `Display`, as the result.
 ///
 /// # Status
 ///
@@ -285,12 +285,12 @@ pub extern "C" fn cedar_policies_text(alloc: Global, handle: &mut Policies) -> u
     let Some(mut inner) = take(alloc, handle) else {
         return CLOSED;
     };
-    let answer = inner.kept.text(alloc);
+    let outcome = inner.kept.text(alloc);
     *handle = opened(inner);
-    status_of(answer)
+    status_of(outcome)
 }
 
-/// Stores the text of the policy with an id, from its `Display`, as the answer.
+/// Stores the text of the policy with an id, from its `Display`, as the result.
 ///
 /// # Status
 ///
@@ -307,12 +307,12 @@ pub extern "C" fn cedar_policies_policy_text(alloc: Global, handle: &mut Policie
     let Some(mut inner) = take(alloc, handle) else {
         return CLOSED;
     };
-    let answer = inner.kept.policy_text(alloc, id);
+    let outcome = inner.kept.policy_text(alloc, id);
     *handle = opened(inner);
-    status_of(answer)
+    status_of(outcome)
 }
 
-/// Stores the text of the static policy or the template with an id, from its `Display`, as the answer.
+/// Stores the text of the static policy or the template with an id, from its `Display`, as the result.
 ///
 /// # Status
 ///
@@ -333,7 +333,7 @@ pub extern "C" fn cedar_policies_template_text(
     let Some(mut inner) = take(alloc, handle) else {
         return CLOSED;
     };
-    let answer = inner.kept.template_text(alloc, id);
+    let outcome = inner.kept.template_text(alloc, id);
     *handle = opened(inner);
-    status_of(answer)
+    status_of(outcome)
 }

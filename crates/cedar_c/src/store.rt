@@ -6,7 +6,7 @@ ghost use Rattle.cedar_entity.specs.View.{has_ancestor};
 ghost use Rattle.cedar_c_stores.specs.Stores.{AddsListed, ReadsAncestry, ReadsPresence, BuildsListed, Copies, IsAncestorIn, IsParent};
 ghost use Rattle.cedar_c_stores.specs.Stores.{Listing, RemovesListed, SlicesAt, UpsertsListed, Validates, has_parent};
 ghost use Rattle.cedar_c.specs.Statuses.{ok, no_memory};
-ghost use Rattle.cedar_c.specs.StoreCalls.{ReadsBoolOfStore, Boxes, Changes, Compares, CopiesAnswer, CopiesErrorText};
+ghost use Rattle.cedar_c.specs.StoreCalls.{ReadsBoolOfStore, Boxes, Changes, Compares, CopiesResult, CopiesErrorText};
 ghost use Rattle.cedar_c.specs.StoreCalls.{CopiesSpans, Counts, Fills, FillsBy, HasNoTexts, HasInputStore};
 
 use crate::copying::copy_out;
@@ -159,9 +159,9 @@ pub extern "C" fn cedar_store_build(
         count,
         edges,
     };
-    let answer = inner.kept.build(alloc, lists, mode);
+    let outcome = inner.kept.build(alloc, lists, mode);
     *handle = opened(inner);
-    status_of(answer)
+    status_of(outcome)
 }
 
 /// Adds the entities in lists to the store, as `Entities::add_entities` does. The lists have the form that
@@ -202,9 +202,9 @@ pub extern "C" fn cedar_store_add(
         count,
         edges,
     };
-    let answer = inner.kept.add(alloc, lists, mode);
+    let outcome = inner.kept.add(alloc, lists, mode);
     *handle = opened(inner);
-    status_of(answer)
+    status_of(outcome)
 }
 
 /// Upserts the entities in lists, as `Entities::upsert_entities` does. The lists have the form that `cedar_store_build`
@@ -243,9 +243,9 @@ pub extern "C" fn cedar_store_upsert(
         count,
         edges,
     };
-    let answer = inner.kept.upsert(alloc, lists, mode);
+    let outcome = inner.kept.upsert(alloc, lists, mode);
     *handle = opened(inner);
-    status_of(answer)
+    status_of(outcome)
 }
 
 /// Removes the entities with the uids in parts of a text, as `Entities::remove_entities` does, with the mode of this
@@ -274,9 +274,9 @@ pub extern "C" fn cedar_store_remove(
     let Some(mut inner) = take(alloc, handle) else {
         return CLOSED;
     };
-    let answer = inner.kept.remove(alloc, text, uids, mode);
+    let outcome = inner.kept.remove(alloc, text, uids, mode);
     *handle = opened(inner);
-    status_of(answer)
+    status_of(outcome)
 }
 
 /// Returns the number of entities, which is 0 for a closed handle.
@@ -293,7 +293,7 @@ pub extern "C" fn cedar_store_len(alloc: Global, handle: &mut Store) -> usize
     count
 }
 
-/// Writes to `answer` whether the store has an entity with a uid.
+/// Writes to `out` whether the store has an entity with a uid.
 ///
 /// # Status
 ///
@@ -307,20 +307,20 @@ pub extern "C" fn cedar_store_has(
     alloc: Global,
     handle: &mut Store,
     uid: &[u8],
-    answer: &mut bool,
+    out: &mut bool,
 ) -> u32
     ensures same { handle.new.held.value ≡ handle.old.held.value }
-    ensures asks { ReadsBoolOfStore (λ S r. ReadsPresence S uid.now r) handle.old.held.value result answer.old answer.new }
+    ensures asks { ReadsBoolOfStore (λ S r. ReadsPresence S uid.now r) handle.old.held.value result out.old out.new }
 {
     let Some(mut inner) = take(alloc, handle) else {
         return CLOSED;
     };
     let told = inner.kept.has(alloc, uid);
     *handle = opened(inner);
-    write_bool(told, answer)
+    write_bool(told, out)
 }
 
-/// Writes to `answer` whether the entity with the uid in `child` is a descendant of the uid in `ancestor`.
+/// Writes to `out` whether the entity with the uid in `child` is a descendant of the uid in `ancestor`.
 ///
 /// # Status
 ///
@@ -336,21 +336,21 @@ pub extern "C" fn cedar_store_is_descendant_of(
     handle: &mut Store,
     child: &[u8],
     ancestor: &[u8],
-    answer: &mut bool,
+    out: &mut bool,
 ) -> u32
     ensures same { handle.new.held.value ≡ handle.old.held.value }
     ensures asks { ReadsBoolOfStore
-        (λ S r. ReadsAncestry S child.now ancestor.now r) handle.old.held.value result answer.old answer.new }
+        (λ S r. ReadsAncestry S child.now ancestor.now r) handle.old.held.value result out.old out.new }
 {
     let Some(mut inner) = take(alloc, handle) else {
         return CLOSED;
     };
     let told = inner.kept.is_descendant_of(alloc, child, ancestor);
     *handle = opened(inner);
-    write_bool(told, answer)
+    write_bool(told, out)
 }
 
-/// Stores the ancestors of the entity with a uid as the answer, in ascending order of uid.
+/// Stores the ancestors of the entity with a uid as the result, in ascending order of uid.
 ///
 /// # Status
 ///
@@ -367,12 +367,12 @@ pub extern "C" fn cedar_store_ancestors(alloc: Global, handle: &mut Store, uid: 
     let Some(mut inner) = take(alloc, handle) else {
         return CLOSED;
     };
-    let answer = inner.kept.ancestors(alloc, uid);
+    let outcome = inner.kept.ancestors(alloc, uid);
     *handle = opened(inner);
-    status_of(answer)
+    status_of(outcome)
 }
 
-/// Stores the parents of the entity with a uid as the answer, in ascending order of uid.
+/// Stores the parents of the entity with a uid as the result, in ascending order of uid.
 ///
 /// # Status
 ///
@@ -389,9 +389,9 @@ pub extern "C" fn cedar_store_parents(alloc: Global, handle: &mut Store, uid: &[
     let Some(mut inner) = take(alloc, handle) else {
         return CLOSED;
     };
-    let answer = inner.kept.parents(alloc, uid);
+    let outcome = inner.kept.parents(alloc, uid);
     *handle = opened(inner);
-    status_of(answer)
+    status_of(outcome)
 }
 
 /// Validates a copy of the store, as `Entities::try_validate` does. The first fault determines the status.
@@ -415,12 +415,12 @@ pub extern "C" fn cedar_store_validate(alloc: Global, handle: &mut Store) -> u32
     let Some(mut inner) = take(alloc, handle) else {
         return CLOSED;
     };
-    let answer = inner.kept.validate(alloc);
+    let outcome = inner.kept.validate(alloc);
     *handle = opened(inner);
-    status_of(answer)
+    status_of(outcome)
 }
 
-/// Fills the handle `to` with the slice of the store of `from` at the uids in parts of a text. The slice has no answer,
+/// Fills the handle `to` with the slice of the store of `from` at the uids in parts of a text. The slice has no result,
 /// no numbers and no last error.
 ///
 /// # Status
@@ -450,7 +450,7 @@ pub extern "C" fn cedar_store_slice(
     fill(alloc, to, made)
 }
 
-/// Fills the handle `to` with a copy of the store of `from`. The copy has no answer, no numbers and no last error.
+/// Fills the handle `to` with a copy of the store of `from`. The copy has no result, no numbers and no last error.
 ///
 /// # Status
 ///
@@ -471,7 +471,7 @@ pub extern "C" fn cedar_store_copy(alloc: Global, from: &mut Store, to: &mut Sto
     fill(alloc, to, made)
 }
 
-/// Writes to `answer` whether both stores have deeply equal entities.
+/// Writes to `out` whether both stores have deeply equal entities.
 ///
 /// # Status
 ///
@@ -483,11 +483,11 @@ pub extern "C" fn cedar_store_equal(
     alloc: Global,
     one: &mut Store,
     other: &mut Store,
-    answer: &mut bool,
+    out: &mut bool,
 ) -> u32
     ensures one { one.new.held.value ≡ one.old.held.value }
     ensures other { other.new.held.value ≡ other.old.held.value }
-    ensures compares { Compares one.old.held.value other.old.held.value result answer.old answer.new }
+    ensures compares { Compares one.old.held.value other.old.held.value result out.old out.new }
 {
     let Some(inner) = take(alloc, one) else {
         return CLOSED;
@@ -496,23 +496,23 @@ pub extern "C" fn cedar_store_equal(
         *one = opened(inner);
         return CLOSED;
     };
-    *answer = inner.kept.is_equal(&beside.kept);
+    *out = inner.kept.is_equal(&beside.kept);
     *one = opened(inner);
     *other = opened(beside);
     0
 }
 
-/// Copies the bytes of the answer, from position `from` on, as many as fit. Returns the number of all bytes, which is 0
+/// Copies the bytes of the result, from position `from` on, as many as fit. Returns the number of all bytes, which is 0
 /// for a closed handle.
 #[unsafe(no_mangle)]
-pub extern "C" fn cedar_store_answer(
+pub extern "C" fn cedar_store_result(
     alloc: Global,
     handle: &mut Store,
     from: usize,
     out: &mut [u8],
 ) -> usize
     ensures same { handle.new.held.value ≡ handle.old.held.value }
-    ensures copies { CopiesAnswer handle.old.held.value from out.old result out.new }
+    ensures copies { CopiesResult handle.old.held.value from out.old result out.new }
 {
     let Some(inner) = take(alloc, handle) else {
         return 0;
@@ -522,10 +522,10 @@ pub extern "C" fn cedar_store_answer(
     told
 }
 
-/// Copies the spans of the texts of the answer within its bytes, from the text at position `from` on, as many as fit.
+/// Copies the spans of the texts of the result within its bytes, from the text at position `from` on, as many as fit.
 /// Returns the number of all texts, which is 0 for a closed handle.
 #[unsafe(no_mangle)]
-pub extern "C" fn cedar_store_answer_spans(
+pub extern "C" fn cedar_store_result_spans(
     alloc: Global,
     handle: &mut Store,
     from: usize,
@@ -545,7 +545,7 @@ pub extern "C" fn cedar_store_answer_spans(
 /// Copies the text of the last error of a call on the store, as much as fits. Returns the length of the whole text,
 /// which is 0 for a closed handle.
 #[unsafe(no_mangle)]
-pub extern "C" fn cedar_store_refusal(alloc: Global, handle: &mut Store, out: &mut [u8]) -> usize
+pub extern "C" fn cedar_store_error_text(alloc: Global, handle: &mut Store, out: &mut [u8]) -> usize
     ensures same { handle.new.held.value ≡ handle.old.held.value }
     ensures copies { CopiesErrorText handle.old.held.value out.old result out.new }
 {

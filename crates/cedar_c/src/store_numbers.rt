@@ -35,7 +35,7 @@ pub extern "C" fn cedar_store_uid_number(
     write_result(told, number)
 }
 
-/// Stores the text of the uid of a number as the answer.
+/// Stores the text of the uid of a number as the result.
 ///
 /// # Status
 ///
@@ -51,12 +51,12 @@ pub extern "C" fn cedar_store_number_uid(alloc: Global, handle: &mut Store, numb
     let Some(mut inner) = take(alloc, handle) else {
         return CLOSED;
     };
-    let answer = inner.kept.number_uid(alloc, number);
+    let outcome = inner.kept.number_uid(alloc, number);
     *handle = opened(inner);
-    status_of(answer)
+    status_of(outcome)
 }
 
-/// Writes to `answer` whether the store has an entity with the uid of a number. Does not allocate.
+/// Writes to `out` whether the store has an entity with the uid of a number. Does not allocate.
 ///
 /// # Status
 ///
@@ -69,21 +69,21 @@ pub extern "C" fn cedar_store_has_number(
     alloc: Global,
     handle: &mut Store,
     number: usize,
-    answer: &mut bool,
+    out: &mut bool,
 ) -> u32
     ensures same { handle.new.held.value ≡ handle.old.held.value }
     ensures asks { ReadsBoolOfState (λ k r. ReadsPresenceByNumber k.store k.numbers number r)
-        handle.old.held.value result answer.old answer.new }
+        handle.old.held.value result out.old out.new }
 {
     let Some(inner) = take(alloc, handle) else {
         return CLOSED;
     };
     let told = inner.kept.has_number(number);
     *handle = opened(inner);
-    write_bool(told, answer)
+    write_bool(told, out)
 }
 
-/// Writes to `answer` whether the entity with the uid of the number `child` is a descendant of the uid of the number
+/// Writes to `out` whether the entity with the uid of the number `child` is a descendant of the uid of the number
 /// `ancestor`. Does not allocate.
 ///
 /// # Status
@@ -99,16 +99,16 @@ pub extern "C" fn cedar_store_is_descendant_of_numbers(
     handle: &mut Store,
     child: usize,
     ancestor: usize,
-    answer: &mut bool,
+    out: &mut bool,
 ) -> u32
     ensures same { handle.new.held.value ≡ handle.old.held.value }
     ensures asks { ReadsBoolOfState (λ k r. ReadsAncestryByNumbers k.store k.numbers child ancestor r)
-        handle.old.held.value result answer.old answer.new }
+        handle.old.held.value result out.old out.new }
 {
     let Some(inner) = take(alloc, handle) else {
         return CLOSED;
     };
     let told = inner.kept.is_descendant_of_numbers(child, ancestor);
     *handle = opened(inner);
-    write_bool(told, answer)
+    write_bool(told, out)
 }

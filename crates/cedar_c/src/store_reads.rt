@@ -11,7 +11,7 @@ use crate::store::{CLOSED, Store, opened, take};
 use cedar_c_lists::{status_of, write_bool, write_result};
 use std::alloc::Global;
 
-/// Stores the uids of all entities as the answer, in an unspecified order.
+/// Stores the uids of all entities as the result, in an unspecified order.
 ///
 /// # Status
 ///
@@ -26,9 +26,9 @@ pub extern "C" fn cedar_store_uids(alloc: Global, handle: &mut Store) -> u32
     let Some(mut inner) = take(alloc, handle) else {
         return CLOSED;
     };
-    let answer = inner.kept.uids(alloc);
+    let outcome = inner.kept.uids(alloc);
     *handle = opened(inner);
-    status_of(answer)
+    status_of(outcome)
 }
 
 /// Writes 2 to `found` if the store has an entity with a uid. Otherwise writes 1 for a partial store, and 0 for another
@@ -76,7 +76,7 @@ pub extern "C" fn cedar_store_partial(alloc: Global, handle: &mut Store) -> u32
     0
 }
 
-/// Writes to `answer` whether the store is partial.
+/// Writes to `out` whether the store is partial.
 ///
 /// # Status
 ///
@@ -84,23 +84,19 @@ pub extern "C" fn cedar_store_partial(alloc: Global, handle: &mut Store) -> u32
 ///
 /// After an error nothing is written.
 #[unsafe(no_mangle)]
-pub extern "C" fn cedar_store_is_partial(
-    alloc: Global,
-    handle: &mut Store,
-    answer: &mut bool,
-) -> u32
+pub extern "C" fn cedar_store_is_partial(alloc: Global, handle: &mut Store, out: &mut bool) -> u32
     ensures same { handle.new.held.value ≡ handle.old.held.value }
-    ensures asks { ReadsPartial handle.old.held.value result answer.old answer.new }
+    ensures asks { ReadsPartial handle.old.held.value result out.old out.new }
 {
     let Some(inner) = take(alloc, handle) else {
         return CLOSED;
     };
-    *answer = inner.kept.is_partial();
+    *out = inner.kept.is_partial();
     *handle = opened(inner);
     0
 }
 
-/// Stores the indirect ancestors of the entity with a uid as the answer, in ascending order of uid.
+/// Stores the indirect ancestors of the entity with a uid as the result, in ascending order of uid.
 ///
 /// # Status
 ///
@@ -121,12 +117,12 @@ pub extern "C" fn cedar_store_indirect_ancestors(
     let Some(mut inner) = take(alloc, handle) else {
         return CLOSED;
     };
-    let answer = inner.kept.indirect_ancestors(alloc, uid);
+    let outcome = inner.kept.indirect_ancestors(alloc, uid);
     *handle = opened(inner);
-    status_of(answer)
+    status_of(outcome)
 }
 
-/// Writes to `answer` whether the uid in `parent` is a parent of the entity with the uid in `child`.
+/// Writes to `out` whether the uid in `parent` is a parent of the entity with the uid in `child`.
 ///
 /// # Status
 ///
@@ -142,21 +138,21 @@ pub extern "C" fn cedar_store_is_child_of(
     handle: &mut Store,
     child: &[u8],
     parent: &[u8],
-    answer: &mut bool,
+    out: &mut bool,
 ) -> u32
     ensures same { handle.new.held.value ≡ handle.old.held.value }
     ensures asks { ReadsBoolOfStore (λ S r. ReadsRelation has_parent S child.now parent.now r)
-        handle.old.held.value result answer.old answer.new }
+        handle.old.held.value result out.old out.new }
 {
     let Some(mut inner) = take(alloc, handle) else {
         return CLOSED;
     };
     let told = inner.kept.is_child_of(alloc, child, parent);
     *handle = opened(inner);
-    write_bool(told, answer)
+    write_bool(told, out)
 }
 
-/// Writes to `answer` whether the uid in `ancestor` is an indirect ancestor of the entity with the uid in `child`.
+/// Writes to `out` whether the uid in `ancestor` is an indirect ancestor of the entity with the uid in `child`.
 ///
 /// # Status
 ///
@@ -172,21 +168,21 @@ pub extern "C" fn cedar_store_is_indirect_descendant_of(
     handle: &mut Store,
     child: &[u8],
     ancestor: &[u8],
-    answer: &mut bool,
+    out: &mut bool,
 ) -> u32
     ensures same { handle.new.held.value ≡ handle.old.held.value }
     ensures asks { ReadsBoolOfStore (λ S r. ReadsRelation has_indirect S child.now ancestor.now r)
-        handle.old.held.value result answer.old answer.new }
+        handle.old.held.value result out.old out.new }
 {
     let Some(mut inner) = take(alloc, handle) else {
         return CLOSED;
     };
     let told = inner.kept.is_indirect_descendant_of(alloc, child, ancestor);
     *handle = opened(inner);
-    write_bool(told, answer)
+    write_bool(told, out)
 }
 
-/// Stores the keys of the attributes of the entity with a uid as the answer, in byte order.
+/// Stores the keys of the attributes of the entity with a uid as the result, in byte order.
 ///
 /// # Status
 ///
@@ -203,12 +199,12 @@ pub extern "C" fn cedar_store_keys(alloc: Global, handle: &mut Store, uid: &[u8]
     let Some(mut inner) = take(alloc, handle) else {
         return CLOSED;
     };
-    let answer = inner.kept.keys(alloc, uid);
+    let outcome = inner.kept.keys(alloc, uid);
     *handle = opened(inner);
-    status_of(answer)
+    status_of(outcome)
 }
 
-/// Stores the keys of the tags of the entity with a uid as the answer, in byte order.
+/// Stores the keys of the tags of the entity with a uid as the result, in byte order.
 ///
 /// # Status
 ///
@@ -225,9 +221,9 @@ pub extern "C" fn cedar_store_tag_keys(alloc: Global, handle: &mut Store, uid: &
     let Some(mut inner) = take(alloc, handle) else {
         return CLOSED;
     };
-    let answer = inner.kept.tag_keys(alloc, uid);
+    let outcome = inner.kept.tag_keys(alloc, uid);
     *handle = opened(inner);
-    status_of(answer)
+    status_of(outcome)
 }
 
 /// Writes the number of attributes of the entity with a uid to `count`.
@@ -288,7 +284,7 @@ pub extern "C" fn cedar_store_tags_len(
     write_result(told, count)
 }
 
-/// Writes to `answer` whether the entities with a uid are deeply equal in both stores.
+/// Writes to `out` whether the entities with a uid are deeply equal in both stores.
 ///
 /// # Status
 ///
@@ -304,12 +300,12 @@ pub extern "C" fn cedar_store_entity_equal(
     handle: &mut Store,
     uid: &[u8],
     other: &mut Store,
-    answer: &mut bool,
+    out: &mut bool,
 ) -> u32
     ensures one { handle.new.held.value ≡ handle.old.held.value }
     ensures other { other.new.held.value ≡ other.old.held.value }
     ensures asks { ReadsBoolOfBoth (λ S T r. ComparesAt S T uid.now r)
-        handle.old.held.value other.old.held.value result answer.old answer.new }
+        handle.old.held.value other.old.held.value result out.old out.new }
 {
     let Some(mut inner) = take(alloc, handle) else {
         return CLOSED;
@@ -321,10 +317,10 @@ pub extern "C" fn cedar_store_entity_equal(
     let told = inner.kept.entity_is_equal(alloc, uid, &beside.kept);
     *handle = opened(inner);
     *other = opened(beside);
-    write_bool(told, answer)
+    write_bool(told, out)
 }
 
-/// Stores the text of the store, from its `Display`, as the answer.
+/// Stores the text of the store, from its `Display`, as the result.
 ///
 /// # Status
 ///
@@ -339,12 +335,12 @@ pub extern "C" fn cedar_store_text(alloc: Global, handle: &mut Store) -> u32
     let Some(mut inner) = take(alloc, handle) else {
         return CLOSED;
     };
-    let answer = inner.kept.text(alloc);
+    let outcome = inner.kept.text(alloc);
     *handle = opened(inner);
-    status_of(answer)
+    status_of(outcome)
 }
 
-/// Stores the text of the entity with a uid, from its `Display`, as the answer.
+/// Stores the text of the entity with a uid, from its `Display`, as the result.
 ///
 /// # Status
 ///
@@ -362,7 +358,7 @@ pub extern "C" fn cedar_store_entity_text(alloc: Global, handle: &mut Store, uid
     let Some(mut inner) = take(alloc, handle) else {
         return CLOSED;
     };
-    let answer = inner.kept.entity_text(alloc, uid);
+    let outcome = inner.kept.entity_text(alloc, uid);
     *handle = opened(inner);
-    status_of(answer)
+    status_of(outcome)
 }

@@ -68,9 +68,9 @@ pub extern "C" fn cedar_store_build_with(
         terms,
         nodes,
     };
-    let answer = inner.kept.build_with(alloc, lists, content, mode);
+    let outcome = inner.kept.build_with(alloc, lists, content, mode);
     *handle = opened(inner);
-    status_of(answer)
+    status_of(outcome)
 }
 
 /// Adds the entities in lists with their content, as `cedar_store_add` does. The content has the form that
@@ -128,9 +128,9 @@ pub extern "C" fn cedar_store_add_with(
         terms,
         nodes,
     };
-    let answer = inner.kept.add_with(alloc, lists, content, mode);
+    let outcome = inner.kept.add_with(alloc, lists, content, mode);
     *handle = opened(inner);
-    status_of(answer)
+    status_of(outcome)
 }
 
 /// Upserts the entities in lists with their content, as `cedar_store_upsert` does. The content has the form that
@@ -186,13 +186,13 @@ pub extern "C" fn cedar_store_upsert_with(
         terms,
         nodes,
     };
-    let answer = inner.kept.upsert_with(alloc, lists, content, mode);
+    let outcome = inner.kept.upsert_with(alloc, lists, content, mode);
     *handle = opened(inner);
-    status_of(answer)
+    status_of(outcome)
 }
 
 /// Writes to `has` whether the entity with a uid has an attribute at a key. If it has, stores the nodes of its partial
-/// value, and their text as the answer.
+/// value, and their text as the result.
 ///
 /// # Status
 ///
@@ -256,7 +256,7 @@ pub extern "C" fn cedar_store_get_tag(
 /// Copies the nodes of the last value, from position `from` on, as many as fit. Returns the number of all nodes, which
 /// is 0 for a closed handle.
 #[unsafe(no_mangle)]
-pub extern "C" fn cedar_store_answer_nodes(
+pub extern "C" fn cedar_store_result_nodes(
     alloc: Global,
     handle: &mut Store,
     from: usize,

@@ -5,14 +5,7 @@ use Rattle.std.proofs.lemmas.List.{take_more}
 use Rattle.std.proofs.lemmas.Option.{slice_get-get_or}
 use Rattle.std.specs.List.{AllZip}
 use Rattle.std.specs.Prelude.{Some, slice_get}
-
--- One more pair.
-zip_more : {A B : Type 0} (R : A → B → Type 0) (xs : List A) (ys : List B) (x : A) (y : B) → AllZip R xs ys → R x y
-    → AllZip R (xs ++ x ∷ []) (ys ++ y ∷ [])
-zip_more R [] [] x y z r = (r, tt)
-zip_more R [] (b ∷ ys) x y z r = absurd z
-zip_more R (a ∷ xs) [] x y z r = absurd z
-zip_more R (a ∷ xs) (b ∷ ys) x y z r = (z.0, zip_more R xs ys x y z.1 r)
+use Rattle.cedar_c_lists.specs.laws.Zipping.{zip_more}
 
 -- One more element is read from the next part.
 pub read_next : {A B : Type 0} (R : A → B → Type 0) (xs : List A) (ys : List B) (k : ℕ) (d : B) (x : A)

@@ -98,3 +98,11 @@ pub kept_before : {E : Type 0} (o : Option Refusal) (told : Result ErrorText E) 
 kept_before o (Err e) w before text t h m = h.1
 kept_before None (Ok told) w before text t h m = absurd t
 kept_before (Some x) (Ok told) w before text t h m = absurd (no_memory_told x (sym t.0 ∙ sym h.0 ∙ m))
+
+-- A call that fails leaves the texts of the results unchanged, and the text of the last error after an allocation
+-- failure.
+pub texts_kept : {X Y E : Type 0} (o : Option Refusal) (told : Result ErrorText E) (w : Reason) (before text : List ℕ)
+    → X → Y → IfOk told (λ t. IsErrorTextFor o t.reason t.text.items)
+    → MatchResult told (λ t. (w ≡ t.reason) × (text ≡ t.text.items)) (λ _. (w ≡ reasons.NoMemory) × (text ≡ before))
+    → X × Y × (w ≡ reasons.NoMemory → text ≡ before)
+texts_kept o told w before text x y t h = (x, y, kept_before o told w before text t h)

@@ -1,5 +1,6 @@
 pub mod BodyCalls
 pub mod Clauses
+pub mod Naming
 pub mod Reads
 pub mod Scopes
 pub mod Sets

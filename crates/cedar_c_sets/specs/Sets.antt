@@ -120,7 +120,7 @@ NamesAscii x = Unit {0}
 abbrev pub IsErrorTextBy : Refusal → Reason → List ℕ → Type 0
 IsErrorTextBy x w text = (w ≡ reason_of x) × (NamesAscii x → text ≡ words_of w ++ (32 ∷ name_in_error x))
 
--- Holds if there is an error, and the reason and the text are its.
+-- Holds if there is an error, with this reason and this text.
 abbrev pub IsErrorTextFor : Option Refusal → Reason → List ℕ → Type 0
 IsErrorTextFor None w text = ⊥
 IsErrorTextFor (Some x) w text = IsErrorTextBy x w text

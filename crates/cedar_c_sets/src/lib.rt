@@ -8,6 +8,7 @@ mod clauses;
 mod deep_copies;
 mod error_text;
 mod making;
+mod naming;
 mod reads;
 mod scopes;
 pub mod set_state;

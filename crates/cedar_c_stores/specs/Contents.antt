@@ -164,14 +164,16 @@ BuildsFromLists L mode r i j =
     ⊎ ((m : TCComputation) × (list : List EntityView) × IsMode mode m × AreFromLists L list × Builds m list i.store r j
     × KeepsTexts r i j)
 
--- Holds for a call that adds the entities of an input to the store, in the same way.
+-- Holds for a call that adds the entities of an input to the store, in the mode of a number. If the mode or the input
+-- cannot be read, the call fails and changes nothing.
 abbrev pub AddsFromLists : {A B H : Type 0} → ListInput → ℕ → Result A Reason → StoreState B H → StoreState B H → Type 0
 AddsFromLists L mode r i j =
     IsStopped (λ w. IsNoMode mode w ⊎ IsNotFromLists L w) r i j
     ⊎ ((m : TCComputation) × (list : List EntityView) × IsMode mode m × AreFromLists L list × Adds m list i.store r j
     × KeepsTexts r i j)
 
--- Holds for a call that upserts the entities of an input, in the same way.
+-- Holds for a call that upserts the entities of an input into the store, in the mode of a number. If the mode or the
+-- input cannot be read, the call fails and changes nothing.
 abbrev pub UpsertsFromLists : {A B H : Type 0} → ListInput → ℕ → Result A Reason → StoreState B H → StoreState B H → Type 0
 UpsertsFromLists L mode r i j =
     IsStopped (λ w. IsNoMode mode w ⊎ IsNotFromLists L w) r i j

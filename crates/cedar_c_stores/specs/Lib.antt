@@ -1,10 +1,12 @@
 pub mod Contents
 pub mod Edits
 pub mod Lists
+pub mod Queries
 pub mod QueryCaches
 pub mod Numbers
 pub mod Reads
 pub mod SomePlain
 pub mod Stores
+pub mod Types
 pub mod Values
 pub mod laws

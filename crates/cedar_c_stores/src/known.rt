@@ -1,9 +1,12 @@
 //! The types in earlier texts of uids. Uids of these types are parsed faster.
-ghost use Rattle.std.specs.Prelude.{MatchResult};
-ghost use Rattle.cedar_c_lists.specs.Texts.{AreReadAt, IsOneUnread, ReadsUid, ReadsUidAt};
+ghost use Rattle.std.specs.Prelude.{MatchResult, ◌⊎◌};
+ghost use Rattle.cedar_ids.specs.TextOf.{IsNameText};
+ghost use Rattle.cedar_ids.specs.Views.{type_name};
+ghost use Rattle.cedar_c_lists.specs.Texts.{AreReadAt, IsOneUnread, IsReadOf, IsUnread, ReadsUid, ReadsUidAt};
+ghost use Rattle.cedar_c_stores.specs.Types.{IsNoType};
 
-use cedar_c_lists::{Reason, Span, text_at, uid_of};
-use cedar_ids::entity::EntityUID;
+use cedar_c_lists::{Reason, Span, text_at, type_of, uid_of};
+use cedar_ids::entity::{EntityType, EntityUID};
 use cedar_lines::known_types::{KnownTypes, uid_of_text};
 use std::alloc::Global;
 use std::marker::Model;
@@ -44,6 +47,40 @@ impl Known {
             return Ok(uid);
         }
         uid_of(alloc, text)
+    }
+
+    // Parses two uids.
+    pub(crate) fn pair_of(
+        &mut self,
+        alloc: Global,
+        first: &[u8],
+        second: &[u8],
+    ) -> Result<(EntityUID, EntityUID), Reason>
+        ensures { MatchResult result (λ p. IsReadOf p.0 first.now × IsReadOf p.1 second.now)
+            (λ w. IsUnread first.now w ⊎ IsUnread second.now w) }
+    {
+        let one = self.uid_of(alloc, first)?;
+        match self.uid_of(alloc, second) {
+            Ok(other) => Ok((one, other)),
+            Err(reason) => Err(reason),
+        }
+    }
+
+    // Parses a uid and the name of a type.
+    pub(crate) fn uid_and_type_of(
+        &mut self,
+        alloc: Global,
+        text: &[u8],
+        ty: &[u8],
+    ) -> Result<(EntityUID, EntityType), Reason>
+        ensures { MatchResult result (λ p. IsReadOf p.0 text.now × IsNameText (type_name p.1) ty.now)
+            (λ w. IsUnread text.now w ⊎ IsNoType ty.now w) }
+    {
+        let uid = self.uid_of(alloc, text)?;
+        match type_of(alloc, ty) {
+            Ok(ty) => Ok((uid, ty)),
+            Err(reason) => Err(reason),
+        }
     }
 
     // Parses the uid in a part of a text. Returns `BadArgument` if the part is not within the text.

@@ -13,6 +13,7 @@ pub mod known;
 mod listing;
 mod number_calls;
 pub mod numbers;
+mod queries;
 mod query_cache;
 mod reads;
 mod refusal;

@@ -215,19 +215,21 @@ pushed_both is js N M start ps ps' h g = record {
       (k.0, (k.1, b.1));
 }
 
+-- The items of a list of trees with one more tree. F are the items of a list, and f of an element.
+one_more : {V : Type 0} (F : List V → List Item) (f : V → List Item) → F [] ≡ []
+    → ((x : V) (xs : List V) → F (x ∷ xs) ≡ f x ++ F xs) → (xs : List V) (x : V) → F (xs ++ x ∷ []) ≡ F xs ++ f x
+one_more F f none step [] x = step x [] ∙ ap (λ l. f x ++ l) none ∙ append-nil (f x) ∙ ap (λ l. l ++ f x) (sym none)
+one_more F f none step (y ∷ ys) x =
+    step y (ys ++ x ∷ []) ∙ ap (λ l. f y ++ l) (one_more F f none step ys x) ∙ sym (append_assoc (f y) (F ys) (f x))
+    ∙ ap (λ l. l ++ f x) (sym (step y ys))
+
 values_more : (vs : List ValueTree) (v : ValueTree)
     → flats (values_plan (value_trees (vs ++ v ∷ []))) ≡ flats (values_plan (value_trees vs)) ++ flat (value_plan v)
-values_more [] v = append-nil (flat (value_plan v))
-values_more (w ∷ vs) v =
-    ap (λ l. flat (value_plan w) ++ l) (values_more vs v)
-    ∙ sym (append_assoc (flat (value_plan w)) (flats (values_plan (value_trees vs))) (flat (value_plan v)))
+values_more = one_more (λ vs. flats (values_plan (value_trees vs))) (λ v. flat (value_plan v)) refl (λ x xs. refl)
 
 exprs_more : (es : List ExprTree) (e : ExprTree)
     → flats (exprs_plan (expr_trees (es ++ e ∷ []))) ≡ flats (exprs_plan (expr_trees es)) ++ flat (expr_plan e)
-exprs_more [] e = append-nil (flat (expr_plan e))
-exprs_more (d ∷ es) e =
-    ap (λ l. flat (expr_plan d) ++ l) (exprs_more es e)
-    ∙ sym (append_assoc (flat (expr_plan d)) (flats (exprs_plan (expr_trees es))) (flat (expr_plan e)))
+exprs_more = one_more (λ es. flats (exprs_plan (expr_trees es))) (λ e. flat (expr_plan e)) refl (λ x xs. refl)
 
 have_more : (es : List ExprTree) (e : ExprTree) → HaveNames (expr_trees es) → HasNames e
     → HaveNames (expr_trees (es ++ e ∷ []))

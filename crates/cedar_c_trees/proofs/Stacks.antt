@@ -5,9 +5,9 @@ use Rattle.std.specs.declared.alloc.Global.{Global}
 use Rattle.std.proofs.Math.ListN.{get_or}
 use Rattle.std.proofs.lemmas.List.{take_more, take_all, length-map}
 use mathlib.Core.List.{append-nil}
-use Rattle.std.specs.List.{AllZip}
 use Rattle.cedar_terms.specs.ValueTree.{ValueTree}
 use Rattle.cedar_terms.specs.ValueViews.{named_pairs}
+use Rattle.cedar_c_lists.specs.laws.Zipping.{zip_more}
 use Rattle.cedar_c_trees.specs.Items.{Item, Tree, node, Trees, no_trees, tree_then, flat, flats, IsBuiltFrom, AreBuiltFrom, tree_levels}
 use Rattle.cedar_c_trees.specs.Reads.{Decodes, AllDecode, IsReadAs}
 use Rattle.cedar_c_trees.specs.laws.Stacks.{Makes}
@@ -64,12 +64,16 @@ values_more C no_trees (w ∷ vs) t v h r = absurd h
 values_more C (tree_then s ts) [] t v h r = absurd h
 values_more C (tree_then s ts) (w ∷ vs) t v h r = (h.0, values_more C ts vs t v h.1 r)
 
-zip_more : {A B : Type 0} (R : A → B → Type 0) (xs : List A) (ys : List B) (x : A) (y : B) → AllZip R xs ys → R x y
-    → AllZip R (xs ++ x ∷ []) (ys ++ y ∷ [])
-zip_more R [] [] x y z r = (r, tt)
-zip_more R [] (b ∷ ys) x y z r = absurd z
-zip_more R (a ∷ xs) [] x y z r = absurd z
-zip_more R (a ∷ xs) (b ∷ ys) x y z r = (z.0, zip_more R xs ys x y z.1 r)
+-- What a node does to the stack.
+pub makes : {V : Type 0} (C : Item → List V → V → Type 0) (text : List ℕ) (n : Node) (old new : List V) (v : V) (i : Item)
+    (below : List V) → Decodes text n i → old ≡ new ++ below → C i below v → Makes C text n old new v
+makes C text n old new v i below says stack combines = record {
+  item = i;
+  below = below;
+  says = says;
+  stack = stack;
+  combines = combines;
+}
 
 -- One more node is read.
 pub one_node : {V : Type 0} (C : Item → List V → V → Type 0) (text : List ℕ) (ns : List Node) (n : Node)

@@ -38,7 +38,8 @@ length_pairs : (ps : List (List ℕ × ValueTree)) → length (pairs_listed ps) 
 length_pairs [] = refl
 length_pairs (p ∷ ps) = omega (arith, length_pairs ps)
 
-combines_arity : (i : Item) (vs : List ValueTree) (v : ValueTree) → Combines i vs v → length vs ≡ arity i
+-- A value is built from as many operands as its item has.
+pub combines_arity : (i : Item) (vs : List ValueTree) (v : ValueTree) → Combines i vs v → length vs ≡ arity i
 combines_arity (bool_item b) vs v h = ap length h.0
 combines_arity (long_item n) vs v h = ap length h.0
 combines_arity (text_item s) vs v h = ap length h.0

@@ -6,31 +6,17 @@ use Rattle.cedar_c_lists.specs.declared.reason.Reason.{Reason}
 use Rattle.cedar_c_lists.specs.declared.reason.Reason.TheVariants.{NoMemory, BadArgument}
 use Rattle.cedar_c_trees.specs.Items.{Item, bool_item, long_item, text_item, uid_item, set_item, record_item, call_item}
 use Rattle.cedar_c_trees.specs.Items.{Combines}
-use Rattle.cedar_c_trees.specs.Items.{pairs_listed}
 use Rattle.cedar_c_trees.specs.laws.Levels.{arity}
 use Rattle.cedar_c_trees.specs.Shapes.{Fits, is_text, keyed, IsAllowedInValue}
 use Rattle.cedar_c_trees.specs.laws.Stacks.{is_text_value, IsUnmade, AreNoPairs}
 use Rattle.cedar_c_trees.specs.laws.Stacks.{ArePairsOn}
 use Rattle.cedar_c_trees.specs.declared.node.Node.{Node}
 use Rattle.cedar_c_trees.proofs.Refusing.{IsLanguage}
-
-length_listed : (ps : List (List ℕ × ValueTree)) → length (pairs_listed ps) ≡ length ps + length ps
-length_listed [] = refl
-length_listed (p ∷ ps) = omega (arith, length_listed ps)
+use Rattle.cedar_c_trees.proofs.ValueBack.{combines_arity}
 
 length_keyed : (bs : List Bool) → length (keyed bs) ≡ length bs + length bs
 length_keyed [] = refl
 length_keyed (b ∷ bs) = omega (arith, length_keyed bs)
-
-combines_arity : (i : Item) (vs : List ValueTree) (v : ValueTree) → Combines i vs v → length vs ≡ arity i
-combines_arity (bool_item b) vs v h = ap length h.0
-combines_arity (long_item n) vs v h = ap length h.0
-combines_arity (text_item s) vs v h = ap length h.0
-combines_arity (uid_item u) vs v h = ap length h.0
-combines_arity (set_item n) vs v h = h.0
-combines_arity (record_item n) vs v h = omega (arith, ap length h.1, length_listed h.0, h.2)
-combines_arity (call_item f n) vs v h = ap length h.2 ∙ sym h.1
-combines_arity i vs v h = absurd h
 
 pub value_arity : (i : Item) (under : List Bool) → IsAllowedInValue i under → length under ≡ arity i
 value_arity (bool_item b) under h = ap length h

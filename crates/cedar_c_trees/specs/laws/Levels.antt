@@ -23,7 +23,7 @@ abbrev pub count : Trees → ℕ
 count no_trees = 0
 count (tree_then t ts) = suc (count ts)
 
--- Holds if each item has its number of operands.
+-- Holds if each node of a tree has as many operands as its item needs.
 abbrev mutual
   pub IsFull : Tree → Type 0
   IsFull (node i ts) = (count ts ≡ arity i) × AreFull ts

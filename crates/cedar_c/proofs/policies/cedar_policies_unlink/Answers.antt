@@ -6,5 +6,5 @@ use Rattle.cedar_c.proofs.policies.cedar_policies_unlink.Goals as goal
 pub returns : goal.returns
 returns c =
     changed (RemovesById unlink_step c.args.id.now) c.args.handle.now.held.value c.opened.result.held.value
-    c.in-Some.inner.value c.deref_mut.result.now c.unlink-answer.new.self c.unlink-answer.result c.status_of.result
-    c.in-Some.ensures.value c.deref_mut.ensures.value c.opened.ensures c.status_of.ensures c.unlink-answer.ensures
+    c.in-Some.inner.value c.deref_mut.result.now c.unlink-outcome.new.self c.unlink-outcome.result c.status_of.result
+    c.in-Some.ensures.value c.deref_mut.ensures.value c.opened.ensures c.status_of.ensures c.unlink-outcome.ensures

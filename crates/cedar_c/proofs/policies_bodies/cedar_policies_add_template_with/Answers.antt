@@ -11,6 +11,6 @@ returns c =
       uids = c.args.uids.now;
       nodes = c.args.nodes.now;
     })) c.args.handle.now.held.value
-    c.opened.result.held.value c.in-Some.inner.value c.deref_mut.result.now c.add_template_with-answer.new.self
-    c.add_template_with-answer.result c.status_of.result
-    c.in-Some.ensures.value c.deref_mut.ensures.value c.opened.ensures c.status_of.ensures c.add_template_with-answer.ensures
+    c.opened.result.held.value c.in-Some.inner.value c.deref_mut.result.now c.add_template_with-outcome.new.self
+    c.add_template_with-outcome.result c.status_of.result
+    c.in-Some.ensures.value c.deref_mut.ensures.value c.opened.ensures c.status_of.ensures c.add_template_with-outcome.ensures

@@ -5,7 +5,7 @@ use Rattle.cedar_c.proofs.policies_reads.cedar_policies_template_text.Goals as g
 pub returns : goal.returns
 returns c =
     changed (AnswersAt body_at IsBodyText c.args.id.now) c.args.handle.now.held.value
-    c.opened.result.held.value c.in-Some.inner.value c.deref_mut.result.now c.template_text-answer.new.self
-    c.template_text-answer.result c.status_of.result
+    c.opened.result.held.value c.in-Some.inner.value c.deref_mut.result.now c.template_text-outcome.new.self
+    c.template_text-outcome.result c.status_of.result
     c.in-Some.ensures.value c.deref_mut.ensures.value c.opened.ensures c.status_of.ensures
-    c.template_text-answer.ensures
+    c.template_text-outcome.ensures

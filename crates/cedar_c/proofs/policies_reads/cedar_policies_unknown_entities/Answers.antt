@@ -6,7 +6,7 @@ use Rattle.cedar_c.proofs.policies_reads.cedar_policies_unknown_entities.Goals a
 pub returns : goal.returns
 returns c =
     changed (AnswersAt policy_at AreUnknownIn c.args.id.now) c.args.handle.now.held.value
-    c.opened.result.held.value c.in-Some.inner.value c.deref_mut.result.now c.unknown_entities-answer.new.self
-    c.unknown_entities-answer.result c.status_of.result
+    c.opened.result.held.value c.in-Some.inner.value c.deref_mut.result.now c.unknown_entities-outcome.new.self
+    c.unknown_entities-outcome.result c.status_of.result
     c.in-Some.ensures.value c.deref_mut.ensures.value c.opened.ensures c.status_of.ensures
-    c.unknown_entities-answer.ensures
+    c.unknown_entities-outcome.ensures

@@ -6,6 +6,6 @@ use Rattle.cedar_c.proofs.store.cedar_store_ancestors.Goals as goal
 pub returns : goal.returns
 returns c =
     changed (Listing has_ancestor IsAncestorIn c.args.uid.now) c.args.handle.now.held.value c.opened.result.held.value
-    c.in-Some.inner.value c.deref_mut.result.now c.ancestors-answer.new.self c.ancestors-answer.result
+    c.in-Some.inner.value c.deref_mut.result.now c.ancestors-outcome.new.self c.ancestors-outcome.result
     c.status_of.result
-    c.in-Some.ensures.value c.deref_mut.ensures.value c.opened.ensures c.status_of.ensures c.ancestors-answer.ensures
+    c.in-Some.ensures.value c.deref_mut.ensures.value c.opened.ensures c.status_of.ensures c.ancestors-outcome.ensures

@@ -6,5 +6,5 @@ pub returns : goal.returns
 returns c =
     changed (BuildsListed c.args.text.now c.args.uids.now c.args.count c.args.edges.now c.args.mode)
     c.args.handle.now.held.value c.opened.result.held.value c.in-Some.inner.value c.deref_mut.result.now
-    c.build-answer.new.self c.build-answer.result c.status_of.result
-    c.in-Some.ensures.value c.deref_mut.ensures.value c.opened.ensures c.status_of.ensures c.build-answer.ensures
+    c.build-outcome.new.self c.build-outcome.result c.status_of.result
+    c.in-Some.ensures.value c.deref_mut.ensures.value c.opened.ensures c.status_of.ensures c.build-outcome.ensures

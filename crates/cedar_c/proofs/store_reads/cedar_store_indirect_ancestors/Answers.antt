@@ -6,6 +6,6 @@ use Rattle.cedar_c.proofs.store_reads.cedar_store_indirect_ancestors.Goals as go
 pub returns : goal.returns
 returns c =
     changed (Listing has_indirect IsIndirectAncestorIn c.args.uid.now) c.args.handle.now.held.value
-    c.opened.result.held.value c.in-Some.inner.value c.deref_mut.result.now c.indirect_ancestors-answer.new.self
-    c.indirect_ancestors-answer.result c.status_of.result
-    c.in-Some.ensures.value c.deref_mut.ensures.value c.opened.ensures c.status_of.ensures c.indirect_ancestors-answer.ensures
+    c.opened.result.held.value c.in-Some.inner.value c.deref_mut.result.now c.indirect_ancestors-outcome.new.self
+    c.indirect_ancestors-outcome.result c.status_of.result
+    c.in-Some.ensures.value c.deref_mut.ensures.value c.opened.ensures c.status_of.ensures c.indirect_ancestors-outcome.ensures

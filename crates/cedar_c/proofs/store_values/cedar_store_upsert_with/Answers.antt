@@ -14,5 +14,5 @@ returns c =
       nodes = c.args.nodes.now;
     }) c.args.mode)
     c.args.handle.now.held.value c.opened.result.held.value c.in-Some.inner.value c.deref_mut.result.now
-    c.upsert_with-answer.new.self c.upsert_with-answer.result c.status_of.result
-    c.in-Some.ensures.value c.deref_mut.ensures.value c.opened.ensures c.status_of.ensures c.upsert_with-answer.ensures
+    c.upsert_with-outcome.new.self c.upsert_with-outcome.result c.status_of.result
+    c.in-Some.ensures.value c.deref_mut.ensures.value c.opened.ensures c.status_of.ensures c.upsert_with-outcome.ensures

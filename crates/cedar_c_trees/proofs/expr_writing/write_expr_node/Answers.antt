@@ -68,33 +68,15 @@ returns-in_ok-put-in-Not c =
 
 pub returns-in_ok-put-in-And : goal.returns-in_ok-put-in-And
 returns-in_ok-put-in-And c =
-    rw (← c.in-And.ensures)
-    (on_ok_weaker c.push_two.result
-    (writes_two (binary_item and_operator) (expr_plan c.in-And.left.now) (expr_plan c.in-And.right.now)
-    (HasNames c.in-And.left.now × HasNames c.in-And.right.now) c.args.draft.now
-    c.put-in-And.new.self c.args.pending.now.items c.push_two.new.pending.items
-    (adds_one _ (binary_item and_operator) c.args.draft.now c.put-in-And.new.self c.in_ok-put-in-And.ensures refl
-    (refl, refl, refl)))
-    c.push_two.ensures)
+    rw (← c.in-And.ensures) (on_ok_weaker _ (writes_two (binary_item and_operator) _ _ _ _ _ _ _
+    (adds_one _ _ _ _ c.in_ok-put-in-And.ensures refl (refl, refl, refl))) c.push_two.ensures)
 
 pub returns-in_ok-put-in-Eq : goal.returns-in_ok-put-in-Eq
 returns-in_ok-put-in-Eq c =
-    rw (← c.in-Eq.ensures)
-    (on_ok_weaker c.push_two-in-Eq.result
-    (writes_two (binary_item eq_operator) (expr_plan c.in-Eq.left.now) (expr_plan c.in-Eq.right.now)
-    (HasNames c.in-Eq.left.now × HasNames c.in-Eq.right.now) c.args.draft.now
-    c.put-in-Eq.new.self c.args.pending.now.items c.push_two-in-Eq.new.pending.items
-    (adds_one _ (binary_item eq_operator) c.args.draft.now c.put-in-Eq.new.self c.in_ok-put-in-Eq.ensures refl
-    (refl, refl, refl)))
-    c.push_two-in-Eq.ensures)
+    rw (← c.in-Eq.ensures) (on_ok_weaker _ (writes_two (binary_item eq_operator) _ _ _ _ _ _ _
+    (adds_one _ _ _ _ c.in_ok-put-in-Eq.ensures refl (refl, refl, refl))) c.push_two-in-Eq.ensures)
 
 pub returns-in_ok-put-in-In : goal.returns-in_ok-put-in-In
 returns-in_ok-put-in-In c =
-    rw (← c.in-In.ensures)
-    (on_ok_weaker c.push_two-in-In.result
-    (writes_two (binary_item in_operator) (expr_plan c.in-In.left.now) (expr_plan c.in-In.right.now)
-    (HasNames c.in-In.left.now × HasNames c.in-In.right.now) c.args.draft.now
-    c.put-in-In.new.self c.args.pending.now.items c.push_two-in-In.new.pending.items
-    (adds_one _ (binary_item in_operator) c.args.draft.now c.put-in-In.new.self c.in_ok-put-in-In.ensures refl
-    (refl, refl, refl)))
-    c.push_two-in-In.ensures)
+    rw (← c.in-In.ensures) (on_ok_weaker _ (writes_two (binary_item in_operator) _ _ _ _ _ _ _
+    (adds_one _ _ _ _ c.in_ok-put-in-In.ensures refl (refl, refl, refl))) c.push_two-in-In.ensures)

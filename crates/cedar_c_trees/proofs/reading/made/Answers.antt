@@ -7,7 +7,7 @@ use Rattle.cedar_c_trees.specs.Items.{set_item, record_item, call_item, pairs_li
 use Rattle.cedar_c_trees.specs.Shapes.{IsAllowedInValue}
 use Rattle.cedar_c_trees.specs.laws.Stacks.{is_text_value}
 use Rattle.cedar_c_trees.proofs.Misfits.{literal_unmade}
-use Rattle.cedar_c_trees.proofs.Stacks.{length_named}
+use Rattle.cedar_c_trees.proofs.Stacks.{length_named, makes}
 use Rattle.cedar_c_trees.proofs.ValueMisfits.{record_unmade}
 use Rattle.cedar_c_trees.proofs.reading.made.Goals as goal
 
@@ -19,13 +19,9 @@ returns-in_err-literal-in-0-to-3 c =
     (omega arith) c.in_err-literal-in-0-to-3.ensures)
 
 pub returns-in_ok-set-in-4 : goal.returns-in_ok-set-in-4
-returns-in_ok-set-in-4 c = record {
-  item = set_item c.args.node.now.len;
-  below = c.in_ok-values-in-4.values.items;
-  says = (omega arith, refl);
-  stack = c.in_ok-values-in-4.ensures.0;
-  combines = (c.in_ok-values-in-4.ensures.1, c.in_ok-set-in-4.ensures);
-}
+returns-in_ok-set-in-4 c =
+    makes _ _ _ _ _ _ (set_item c.args.node.now.len) c.in_ok-values-in-4.values.items (omega arith, refl)
+    c.in_ok-values-in-4.ensures.0 (c.in_ok-values-in-4.ensures.1, c.in_ok-set-in-4.ensures)
 
 pub returns-in_ok-fields-in-5 : goal.returns-in_ok-fields-in-5
 returns-in_ok-fields-in-5 c = record {

@@ -6,7 +6,7 @@ use Rattle.cedar_policy_maps.specs.PolicySets.{SetParts}
 use Rattle.cedar_policy_set.specs.Steps.{Refusal, add_static_step, not_static}
 use Rattle.cedar_c_sets.specs.BodyCalls.{static_step}
 use Rattle.cedar_c_sets.specs.Sets.{AppliesStep}
-use Rattle.cedar_c_sets.proofs.Refusing.{kept_before, told_step}
+use Rattle.cedar_c_sets.proofs.Refusing.{texts_kept, told_step}
 use Rattle.cedar_c_sets.proofs.Slots.{slotless, slotted}
 use Rattle.cedar_c_sets.proofs.set_state.SetState.insert_as_static.Goals as goal
 
@@ -21,12 +21,9 @@ returns-then-not-is_static-clause-makes g c = (
 )
 
 pub returns-then-not-is_static-clause-texts : goal.returns-then-not-is_static-clause-texts
-returns-then-not-is_static-clause-texts g c = (
-  c.refuse.ensures.answer,
-  c.refuse.ensures.nodes,
-  kept_before (Some (not_static c.args.template.id)) c.by_slot.result c.refuse.result c.args.self.now.refusal.items
-      c.refuse.new.self.refusal.items c.by_slot.ensures c.refuse.ensures.told,
-)
+returns-then-not-is_static-clause-texts g c =
+    texts_kept (Some (not_static c.args.template.id)) c.by_slot.result _ _ _ c.refuse.ensures.answer c.refuse.ensures.nodes
+    c.by_slot.ensures c.refuse.ensures.told
 
 pub returns-clause-makes : goal.returns-clause-makes
 returns-clause-makes g c =

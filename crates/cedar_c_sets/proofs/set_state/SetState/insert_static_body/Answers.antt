@@ -1,11 +1,8 @@
 use Rattle.cedar_policy_set.specs.Refusals.{set_error_of}
-use Rattle.cedar_c_sets.proofs.Refusing.{kept_before}
+use Rattle.cedar_c_sets.proofs.Refusing.{texts_kept}
 use Rattle.cedar_c_sets.proofs.set_state.SetState.insert_static_body.Goals as goal
 
 pub returns-in-Err-clause-texts : goal.returns-in-Err-clause-texts
-returns-in-Err-clause-texts g c = (
-  c.refuse.ensures.answer,
-  c.refuse.ensures.nodes,
-  kept_before (set_error_of c.in-Err.error) c.by_set.result c.refuse.result c.args.self.now.refusal.items
-      c.refuse.new.self.refusal.items c.by_set.ensures c.refuse.ensures.told,
-)
+returns-in-Err-clause-texts g c =
+    texts_kept (set_error_of c.in-Err.error) c.by_set.result _ _ _ c.refuse.ensures.answer c.refuse.ensures.nodes
+    c.by_set.ensures c.refuse.ensures.told

@@ -1,7 +1,7 @@
 use Rattle.std.proofs.Common.{◌∙◌}
 use Rattle.cedar_policy_set.specs.Refusals.{removal_error_of}
 use Rattle.cedar_policy_set.specs.Steps.{remove_static_step}
-use Rattle.cedar_c_sets.proofs.Refusing.{kept_before, told_taking}
+use Rattle.cedar_c_sets.proofs.Refusing.{texts_kept, told_taking}
 use Rattle.cedar_c_sets.proofs.set_state.SetState.remove_static_by_id.Goals as goal
 
 pub returns-in-Err-clause-makes : goal.returns-in-Err-clause-makes
@@ -14,9 +14,6 @@ returns-in-Err-clause-makes g c = (
 )
 
 pub returns-in-Err-clause-texts : goal.returns-in-Err-clause-texts
-returns-in-Err-clause-texts g c = (
-  c.refuse.ensures.answer,
-  c.refuse.ensures.nodes,
-  kept_before (removal_error_of c.in-Err.error) c.by_removal.result c.refuse.result c.args.self.now.refusal.items
-      c.refuse.new.self.refusal.items c.by_removal.ensures c.refuse.ensures.told,
-)
+returns-in-Err-clause-texts g c =
+    texts_kept (removal_error_of c.in-Err.error) c.by_removal.result _ _ _ c.refuse.ensures.answer c.refuse.ensures.nodes
+    c.by_removal.ensures c.refuse.ensures.told

@@ -1,31 +1,9 @@
-use Rattle.std.proofs.Common.{◌≡◌, refl, sym, subst, true}
-use Rattle.std.specs.Prelude.{◌↔◌, Bool}
-use Rattle.cedar_c_stores.specs.Reads.{IsIndirectAncestorIn}
-use Rattle.cedar_c_stores.proofs.Asking.{far_above_held}
+use Rattle.std.proofs.Common.{refl}
+use Rattle.cedar_c_stores.specs.Reads.{IsIndirectAncestorIn, has_indirect}
+use Rattle.cedar_c_stores.proofs.Asking.{answered, far_above_held, listed}
 use Rattle.cedar_c_stores.proofs.store_state.StoreState.indirect_ancestors.Goals as goal
 
 pub returns : goal.returns
-returns g c =
-    let u = c.in_ok-uid.uid in
-    let x = c.in-Some.entity.now in
-    let members = c.indirect_ancestors.ensures.lists.members in (
-      refl,
-      refl,
-      refl,
-      refl,
-      (
-        u,
-        c.in_ok-uid.ensures,
-        record {
-          entity = x;
-          entities = sym c.in-Some.ensures.value;
-          uids = c.indirect_ancestors.result;
-          ascend = c.indirect_ancestors.ensures.ascending;
-          members = members;
-          plain =
-              λ W p q. subst (λ (b : Bool). (b ≡ true) ↔ IsIndirectAncestorIn W u q) (sym (members q))
-              (far_above_held c.args.self.now.store u q x (sym c.in-Some.ensures.value) W p);
-          are_texts = c.in_ok-answer-in-Some.ensures;
-        },
-      ),
-    )
+returns g c = answered refl refl refl refl
+    (listed has_indirect IsIndirectAncestorIn c.args.self.now.store c.in_ok-uid.uid c.in-Some.entity.now c.indirect_ancestors.result _ _ far_above_held
+    c.in_ok-uid.ensures c.in-Some.ensures.value c.indirect_ancestors.ensures.ascending c.indirect_ancestors.ensures.lists.members c.in_ok-answer-in-Some.ensures)

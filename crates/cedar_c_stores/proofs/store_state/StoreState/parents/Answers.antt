@@ -1,31 +1,9 @@
-use Rattle.std.proofs.Common.{refl, sym, ◌∙◌}
-use Rattle.cedar_c_stores.proofs.Asking.{parent_held}
+use Rattle.std.proofs.Common.{refl}
+use Rattle.cedar_c_stores.specs.Stores.{IsParent, has_parent}
+use Rattle.cedar_c_stores.proofs.Asking.{answered, parents_held, listed}
 use Rattle.cedar_c_stores.proofs.store_state.StoreState.parents.Goals as goal
 
 pub returns : goal.returns
-returns g c =
-    let u = c.in_ok-uid.uid in
-    let x = c.in-Some.entity.now in
-    let members = c.parents.ensures.lists.members in (
-      refl,
-      refl,
-      refl,
-      refl,
-      (
-        u,
-        c.in_ok-uid.ensures,
-        record {
-          entity = x;
-          entities = sym c.in-Some.ensures.value;
-          uids = c.parents.result;
-          ascend = c.parents.ensures.ascending;
-          members = members;
-          plain = λ W p q.
-              let same = parent_held c.args.self.now.store u q x (sym c.in-Some.ensures.value) W p in (
-                λ e. same ∙ (sym (members q) ∙ e),
-                λ g. members q ∙ (sym same ∙ g),
-              );
-          are_texts = c.in_ok-answer-in-Some.ensures;
-        },
-      ),
-    )
+returns g c = answered refl refl refl refl
+    (listed has_parent IsParent c.args.self.now.store c.in_ok-uid.uid c.in-Some.entity.now c.parents.result _ _ parents_held
+    c.in_ok-uid.ensures c.in-Some.ensures.value c.parents.ensures.ascending c.parents.ensures.lists.members c.in_ok-answer-in-Some.ensures)

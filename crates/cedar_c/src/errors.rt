@@ -1,5 +1,5 @@
 //! Calls on the text of an error, and the position of an invalid uid in a list. They need no handle.
-ghost use Rattle.cedar_c.specs.RefusalCalls.{ChecksUids, ReportsPart};
+ghost use Rattle.cedar_c.specs.ErrorCalls.{ChecksUids, ReportsPart};
 
 use cedar_c_errors::{first_unread, part_of};
 use cedar_c_lists::Span;
@@ -9,12 +9,7 @@ use std::alloc::Global;
 /// there is such a name. Otherwise writes nothing. The names are the uids, ids, keys or slots in the text, counted from
 /// 0.
 #[unsafe(no_mangle)]
-pub extern "C" fn cedar_refusal_part(
-    status: u32,
-    text: &[u8],
-    place: usize,
-    part: &mut Span,
-) -> bool
+pub extern "C" fn cedar_error_part(status: u32, text: &[u8], place: usize, part: &mut Span) -> bool
     ensures { ReportsPart status text.now place result part.old part.new }
 {
     match part_of(status, text, place) {
