@@ -2,12 +2,14 @@
 // could not be created. Helpers that inspect a value drop it.
 mod children;
 mod closing;
+mod diffs;
 mod entities;
 mod ids;
 mod listed;
 mod looking;
 mod nodes;
 mod parts;
+mod queries;
 mod reads;
 mod steps;
 mod stores;

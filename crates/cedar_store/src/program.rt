@@ -73,7 +73,8 @@ fn read_all<R: Read>(alloc: Global, reader: &mut R) -> Result<Vec<u8>, RunError>
 }
 
 // Splits at the first line feed. Returns the bytes before it, and the bytes after it if there is a line feed.
-fn first_line(input: &[u8]) -> (&[u8], Option<&[u8]>)
+#[inline(never)]
+fn first_line_by_search(input: &[u8]) -> (&[u8], Option<&[u8]>)
     ensures lines { slice_split (λ b. b == 10) input.now ≡ result.0.now ∷ lines_left (option_copied result.1) }
     ensures shorter { IfSome result.1 (λ rest. length rest.now < length input.now) }
 {
@@ -84,6 +85,24 @@ fn first_line(input: &[u8]) -> (&[u8], Option<&[u8]>)
             match rest.split_first() {
                 None => (input, None),
                 Some((_feed, rest)) => (line, Some(rest)),
+            }
+        }
+    }
+}
+
+// Splits at the first line feed, as `first_line_by_search` does. An empty line is found without a search.
+#[inline(always)]
+fn first_line(input: &[u8]) -> (&[u8], Option<&[u8]>)
+    ensures lines { slice_split (λ b. b == 10) input.now ≡ result.0.now ∷ lines_left (option_copied result.1) }
+    ensures shorter { IfSome result.1 (λ rest. length rest.now < length input.now) }
+{
+    match input.split_first() {
+        None => (input, None),
+        Some((first, rest)) => {
+            if *first == b'\n' {
+                (&input[..0], Some(rest))
+            } else {
+                first_line_by_search(input)
             }
         }
     }

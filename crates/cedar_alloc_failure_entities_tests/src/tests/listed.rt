@@ -53,7 +53,7 @@ fn many(alloc: Global) -> Option<Vec<Entity>> {
 }
 
 // Returns the store after this many edits.
-fn edited(alloc: Global, edits: &str) -> Option<Entities> {
+pub(super) fn edited(alloc: Global, edits: &str) -> Option<Entities> {
     let mut store = match many(alloc) {
         Some(list) => Entities::from_entities(alloc, list, TCComputation::ComputeNow).ok(),
         None => None,

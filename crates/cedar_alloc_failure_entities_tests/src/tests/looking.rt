@@ -6,10 +6,12 @@ use cedar_alloc_failures::{both, refuse, stop_failing};
 use cedar_entities::dereference::Dereference;
 use cedar_entities::entities::Entities;
 use cedar_entity::entity::Entity;
+use cedar_entity::node::SharedEntity;
+use cedar_entity_diff::{StoreDiff, diff};
 use cedar_graph::TCNode;
 use cedar_ids::entity::EntityUID;
 use cedar_uid_sets::{SharedUid, UidSet};
-use std::alloc::Global;
+use std::alloc::{AllocError, Global};
 
 // Returns whether a store contains the entity with a uid.
 fn is_found(alloc: Global, store: &Entities, uid: &EntityUID) -> bool {
@@ -56,6 +58,61 @@ fn reads_a_store(alloc: Global) -> bool {
     }
 }
 
+// Returns the number of items of a difference, with each ancestor that was gained or lost.
+fn difference_len(difference: &StoreDiff) -> usize {
+    let mut count = difference
+        .removed()
+        .len()
+        .saturating_add(difference.added().len());
+    for change in difference.changed() {
+        if change.before() == change.after() {
+            count = count.saturating_add(1);
+        }
+    }
+    for change in difference.ancestry() {
+        count = count.saturating_add(change.gained().count());
+        count = count.saturating_add(change.lost().count());
+    }
+    count
+}
+
+// Reads the difference of two stores, and returns whether all results are right.
+fn reads_a_difference(alloc: Global) -> bool {
+    let stores = both(
+        store_of(alloc, "from: a b, c"),
+        store_of(alloc, "from: a d e, f; partial"),
+    );
+    match stores {
+        Some((one, other)) => {
+            let found = diff(alloc, &one, &other);
+            drop(one);
+            drop(other);
+            is_read_difference(alloc, found)
+        }
+        None => false,
+    }
+}
+
+fn is_read_difference(alloc: Global, found: Result<StoreDiff, AllocError>) -> bool {
+    match found {
+        Ok(difference) => {
+            refuse(alloc, 0);
+            let told = difference_len(&difference) == 6
+                && difference.partial() == Some(true)
+                && !difference.is_empty();
+            let refused = stop_failing(alloc);
+            drop(difference);
+            told && !refused
+        }
+        Err(_) => false,
+    }
+}
+
+#[test]
+fn to_read_a_difference_takes_no_memory(rt: HostRuntime) {
+    assert!(rt; reads_a_difference(rt.alloc()));
+}
+
 #[test]
 fn to_read_a_store_takes_no_memory(rt: HostRuntime) {
     assert!(rt; reads_a_store(rt.alloc()));
@@ -77,6 +134,17 @@ fn walked(entity: &Entity) -> usize {
         .saturating_add(keys)
         .saturating_add(near)
         .saturating_add(entity.ancestors().count())
+}
+
+// Returns whether the keys of a set ascend in its order, for entities as nodes.
+fn is_node_order(set: &UidSet) -> bool {
+    let keys = set.pointers();
+    if keys.len() < 2 {
+        return false;
+    }
+    <SharedEntity as TCNode<SharedUid>>::are_ascending(keys, &[0, 1])
+        && !<SharedEntity as TCNode<SharedUid>>::are_ascending(keys, &[1, 0])
+        && !<Entity as TCNode<EntityUID>>::are_ascending(&[], &[])
 }
 
 fn has_node_edge(entity: &Entity, uid: &EntityUID) -> bool {
@@ -140,7 +208,7 @@ fn is_set_read(set: &UidSet, other: &UidSet, one: &SharedUid) -> bool {
     let either = UidSet::either_contains(set, other, one);
     let first = set.union(other).next() == Some(one.uid());
     let counts = first && set.len() == 2 && !set.is_empty();
-    found && either && counts && UidSet::is_ascending(set.pointers())
+    found && either && counts && UidSet::is_ascending(set.pointers()) && is_node_order(set)
 }
 
 // Removes from a set of two uids the uids of another set, then one uid, then the rest.

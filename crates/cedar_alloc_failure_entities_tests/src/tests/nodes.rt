@@ -1,5 +1,5 @@
 // Tests of entities as nodes, whose keys are uids or shared uids.
-ghost use Rattle.std.specs.Prelude.{◌≡◌, nat_eq};
+ghost use Rattle.std.specs.Prelude.{◌≡◌, ◌<◌, length, nat_eq};
 ghost use Rattle.std.specs.List.{list_any};
 ghost use Rattle.std.specs.HashSet.{contains};
 ghost use Rattle.cedar_graph.specs.laws.Writings.{AreNewTo};
@@ -45,7 +45,9 @@ struct Plain {
 }
 
 impl TCNode<u64> for Plain {
+    ghost use Rattle.std.specs.Prelude.{false};
     ghost use Rattle.std.specs.Cmp.{nat_eq_equiv};
+    ghost use Rattle.std.proofs.Common.{refl};
     ghost use Rattle.cedar_graph.specs.laws.Nodes.{contains_both_or_none};
 
     ghost Rest = { Unit {0} };
@@ -61,6 +63,8 @@ impl TCNode<u64> for Plain {
     ghost rest = { λ n. tt };
 
     ghost kept = { λ n. tt };
+
+    ghost precedes = { λ x y. false };
 
     fn get_key(&self, _alloc: Global) -> Result<u64, AllocError> {
         Ok(0)
@@ -86,6 +90,8 @@ impl TCNode<u64> for Plain {
     ghost respects_eq = { λ n x y h. contains_both_or_none nat_eq_equiv x y h n.targets };
 
     ghost direct_are_edges = { λ n q h. h };
+
+    ghost precedes_respects_eq = { λ x y u v h g. refl };
 }
 
 impl Told for Plain {
@@ -177,6 +183,26 @@ fn newly_joined_to<K: Eq + Drop, N: TCNode<K> + Told + Drop>(
     CallOutcome { answer, refused }
 }
 
+// Runs the addition of an edge to a key to which the node has no edge. The key is passed as a list, which ascends.
+fn newly_joined_to_one<K: Eq + Drop, N: TCNode<K> + Told + Drop>(
+    alloc: Global,
+    number: usize,
+    mut node: N,
+    mut row: Vec<K>,
+    want: &str,
+) -> CallOutcome
+    requires one { length row.items < 2 }
+    requires new { AreNewTo K.eq (N.edges node) row.items }
+{
+    let before = N::told(alloc, &node).unwrap_or(String::new(alloc));
+    refuse(alloc, number);
+    let answer = node.add_ascending_edges_to(alloc, &mut row);
+    let refused = stop_failing(alloc);
+    drop(row);
+    let answer = grown::<K, N>(alloc, before, node, answer, want);
+    CallOutcome { answer, refused }
+}
+
 // Returns whether the node has an edge to one of the keys.
 fn has_edge_among<K: Eq + Drop, N: TCNode<K>>(node: &N, keys: &[K]) -> bool
     ensures { result ≡ list_any (N.edges node.now) keys.now }
@@ -198,6 +224,22 @@ fn newly_joined<K: Eq + Drop, N: TCNode<K> + Told + Drop>(
         return unmade();
     }
     newly_joined_to(alloc, number, node, keys, want)
+}
+
+// Runs the addition of ascending edges, for at most one key, to which the node has no edge.
+fn newly_joined_one<K: Eq + Drop, N: TCNode<K> + Told + Drop>(
+    alloc: Global,
+    number: usize,
+    node: N,
+    keys: Vec<K>,
+    want: &str,
+) -> CallOutcome {
+    if keys.len() > 1 || has_edge_among(&node, &keys) {
+        drop(node);
+        drop(keys);
+        return unmade();
+    }
+    newly_joined_to_one(alloc, number, node, keys, want)
 }
 
 // Runs the addition of an edge to the last of some keys.
@@ -318,6 +360,7 @@ fn asked<K: Eq + Display + Drop, N: TCNode<K> + Told + Drop>(
         "add_edge_to" => led(alloc, number, node, keys, want),
         "add_edges_to" => joined_to(alloc, number, node, keys, want),
         "add_new_edges_to" => newly_joined(alloc, number, node, keys, want),
+        "add_ascending_edges_to" => newly_joined_one(alloc, number, node, keys, want),
         "order" => {
             drop(node);
             ordered::<K, N>(alloc, number, keys, want)
@@ -388,6 +431,7 @@ const ENTITIES: &str = "
     TCNode::order | a, c b | 0 ; 1 ;
     TCNode::add_edges_to | a b / c e, f d b | a b / c d e f / /
     TCNode::add_new_edges_to | a b / c e, f d | a b / c d e f / /
+    TCNode::add_ascending_edges_to | a b / c e, d | a b / c d e / /
 ";
 
 impl Calls for OnEntities {
@@ -424,6 +468,7 @@ const COUNTED: &str = "
     TCNode<SharedUid> for SharedEntity::order | a, c b | 1 ; 0 ;
     TCNode<SharedUid> for SharedEntity::add_edges_to | a b / c e, f d b | a b / c d e f / /
     TCNode<SharedUid> for SharedEntity::add_new_edges_to | a b / c e, f d | a b / c d e f / /
+    TCNode<SharedUid> for SharedEntity::add_ascending_edges_to | a b / c e, d | a b / c d e / /
 ";
 
 // Runs a call on an entity that another node shares. The other node must not change.

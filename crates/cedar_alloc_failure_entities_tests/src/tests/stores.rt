@@ -34,7 +34,7 @@ fn entities(alloc: Global, texts: &str) -> Option<Vec<Entity>> {
     all
 }
 
-fn shared(alloc: Global, texts: &str) -> Option<Vec<Rc<Entity>>> {
+pub(super) fn shared(alloc: Global, texts: &str) -> Option<Vec<Rc<Entity>>> {
     let mut all = Some(Vec::new(alloc));
     for text in texts.split(',') {
         if !text.trim().is_empty() {
@@ -44,7 +44,7 @@ fn shared(alloc: Global, texts: &str) -> Option<Vec<Rc<Entity>>> {
     all
 }
 
-fn uids(alloc: Global, names: &str) -> Option<Vec<EntityUID>> {
+pub(super) fn uids(alloc: Global, names: &str) -> Option<Vec<EntityUID>> {
     let mut all = Some(Vec::new(alloc));
     for name in names.split_whitespace() {
         all = with_last(all, uid_of(alloc, name));
@@ -61,7 +61,7 @@ pub(super) fn mode_of(word: &str) -> TCComputation {
 }
 
 // Returns the word of a call, its mode and its arguments.
-fn parts_of(call: &str) -> (&str, TCComputation, &str) {
+pub(super) fn parts_of(call: &str) -> (&str, TCComputation, &str) {
     let (head, rest) = call.split_once(':').unwrap_or((call, ""));
     let head = head.trim();
     let (word, mode) = head.split_once(' ').unwrap_or((head, ""));

@@ -98,6 +98,17 @@ fn unknown_of_uid(alloc: Global) -> Option<Expr> {
     }
 }
 
+// Returns the negation of the uid `A::"x"`.
+fn negated_uid(alloc: Global) -> Option<Expr> {
+    match super::shared(alloc, "x") {
+        Some(uid) => match Expr::val(alloc, Literal::EntityUID(uid)) {
+            Ok(expr) => Expr::not(alloc, expr).ok(),
+            Err(_) => None,
+        },
+        None => None,
+    }
+}
+
 // Returns the clause for a word.
 pub(super) fn clause_of(alloc: Global, word: &str) -> Option<Expr> {
     match word {
@@ -107,6 +118,7 @@ pub(super) fn clause_of(alloc: Global, word: &str) -> Option<Expr> {
         "action_slot" => Expr::slot(alloc, SlotId::Action).ok(),
         "foo" => call_of_foo(alloc),
         "unknown" => unknown_of_uid(alloc),
+        "negated" => negated_uid(alloc),
         _ => None,
     }
 }
@@ -127,6 +139,7 @@ fn clause(alloc: Global, text: &str) -> Option<Option<Expr>> {
         "action_slot",
         "foo",
         "unknown",
+        "negated",
     ] {
         if has(text, word) {
             return some(clause_of(alloc, word));

@@ -2,7 +2,7 @@ use Rattle.std.specs.Prelude.{◌∷◌, ◌==◌}
 use Rattle.std.proofs.Common.{◌∙◌, sym, ap, arith}
 use Rattle.std.specs.List.{slice_split}
 use Rattle.cedar_store.specs.laws.FirstLine.{fails, ends_before, only_line}
-use Rattle.cedar_store.proofs.program.first_line.Goals as goal
+use Rattle.cedar_store.proofs.program.first_line_by_search.Goals as goal
 
 pub returns-in-None-clause-lines : goal.returns-in-None-clause-lines
 returns-in-None-clause-lines c = only_line c.args.input.now (λ k m. fails _ (c.in-None.ensures k (omega arith) m))
