@@ -130,7 +130,16 @@ fn stores(arguments: &Arguments) {
                 .sum::<usize>()
         },
     );
-    arguments.measure("copying the tree", size, || (), |()| store.clone());
+    arguments.measure("clone of the tree", 1, || (), |()| store.clone());
+    arguments.measure(
+        "  a new store of its entities, which shares no map",
+        size,
+        || (),
+        |()| {
+            let list = store.iter().cloned();
+            Entities::from_entities(list, TCComputation::AssumeAlreadyComputed).expect("each uid is there once")
+        },
+    );
     let small = build_tree(10_000);
     arguments.measure(
         "overwriting one entity of 10,000, 1,000 times",
@@ -145,8 +154,9 @@ fn stores(arguments: &Arguments) {
     );
 }
 
-fn sets(arguments: &Arguments) {
-    let template = Template::new(
+/// Returns a template whose principal is a slot.
+fn slotted_template() -> Template {
+    Template::new(
         PolicyID::from_string("t"),
         None,
         Annotations::new(),
@@ -155,20 +165,75 @@ fn sets(arguments: &Arguments) {
         ActionConstraint::any(),
         ResourceConstraint::any(),
         None,
+    )
+}
+
+/// Returns a set with this number of links of a template.
+fn set_of_links(template: &Template, count: usize) -> PolicySet {
+    let mut set = PolicySet::new();
+    set.add_template(template.clone()).expect("the id is not bound");
+    for number in 0..count {
+        let bound = SlotEnv::from([(SlotId::principal(), node(number))]);
+        let id = PolicyID::from_string(format!("link{number}"));
+        set.link(PolicyID::from_string("t"), id, bound)
+            .expect("the id is not bound");
+    }
+    set
+}
+
+fn differences(arguments: &Arguments) {
+    let template = slotted_template();
+    let set = set_of_links(&template, 20_000);
+    let id = PolicyID::from_string("link777");
+    let mut edited = set.clone();
+    edited.unlink(&id).expect("it is a link");
+    arguments.measure(
+        "difference of 20,000 links after one edit",
+        20_000,
+        || (),
+        |()| {
+            let difference = set.diff(&edited);
+            assert_eq!(difference.removed().len(), 1);
+            difference
+        },
     );
+    let mut other = set_of_links(&template, 20_000);
+    other.unlink(&id).expect("it is a link");
+    arguments.measure("  from a set that shares nothing", 20_000, || (), |()| set.diff(&other));
+}
+
+fn sets(arguments: &Arguments) {
+    let template = slotted_template();
     let id = |number: usize| PolicyID::from_string(format!("link{number}"));
-    let linked_set = || {
-        let mut set = PolicySet::new();
-        set.add_template(template.clone()).expect("the id is not bound");
-        for number in 0..10_000 {
-            let bound = SlotEnv::from([(SlotId::principal(), node(number))]);
-            set.link(PolicyID::from_string("t"), id(number), bound)
-                .expect("the id is not bound");
-        }
-        set
-    };
+    let linked_set = || set_of_links(&template, 10_000);
     arguments.measure("10,000 links", 10_000, || (), |()| linked_set());
     let set = linked_set();
+    arguments.measure(
+        "clone of 10,000 links, and unlink of one",
+        1,
+        || (),
+        |()| {
+            let mut copy = set.clone();
+            copy.unlink(&id(777)).expect("it is a link");
+            copy
+        },
+    );
+    arguments.measure(
+        "  a new set of the links, and unlink of one",
+        10_000,
+        || (),
+        |()| {
+            let mut copy = PolicySet::new();
+            copy.add_template(template.clone()).expect("the id is not bound");
+            for link in &set {
+                let (id, bound) = (link.id().clone(), link.env().clone());
+                copy.link(PolicyID::from_string("t"), id, bound)
+                    .expect("the id is not bound");
+            }
+            copy.unlink(&id(777)).expect("it is a link");
+            copy
+        },
+    );
     arguments.measure(
         "merging an equal set of 10,000 links",
         10_000,
@@ -342,6 +407,7 @@ fn main() {
     stores(&arguments);
     edits(&arguments);
     sets(&arguments);
+    differences(&arguments);
     scopes(&arguments);
     throughput(&arguments);
 }

@@ -1,9 +1,8 @@
 //! A small authorizer: entities with attributes, templates and links, and requests that are decided by the scopes of
 //! the policies. Evaluating conditions is the task of another layer, so the policies here have none.
 use cedar_store::ast::{
-    ActionConstraint, Annotations, Effect, Entity, EntityReference, EntityUID, PartialValue, Policy, PolicyID,
-    PolicySet, PrincipalConstraint, PrincipalOrResourceConstraint, ResourceConstraint, SlotId, StaticPolicy, Template,
-    Value,
+    ActionConstraint, Annotations, Effect, Entity, EntityUID, PartialValue, Policy, PolicyID, PolicySet,
+    PrincipalConstraint, ResourceConstraint, SlotId, StaticPolicy, Template, Value,
 };
 use cedar_store::entities::{Dereference, Entities, TCComputation};
 use std::collections::HashMap;
@@ -17,47 +16,12 @@ struct Request {
     resource: EntityUID,
 }
 
-/// Returns whether a uid is equal to `ancestor` or a descendant of it in the store.
-fn is_in(store: &Entities, uid: &EntityUID, ancestor: &EntityUID) -> bool {
-    uid == ancestor || matches!(store.entity(uid), Dereference::Data(entity) if entity.is_descendant_of(ancestor))
-}
-
-fn satisfies(store: &Entities, uid: &EntityUID, constraint: &PrincipalOrResourceConstraint) -> bool {
-    let euid_of = |reference: &EntityReference| match reference {
-        EntityReference::EUID(uid) => Arc::clone(uid),
-        EntityReference::Slot(_) => unreachable!("a policy's constraints have their slots filled"),
-    };
-    match constraint {
-        PrincipalOrResourceConstraint::Any => true,
-        PrincipalOrResourceConstraint::Eq(reference) => *uid == *euid_of(reference),
-        PrincipalOrResourceConstraint::In(reference) => is_in(store, uid, &euid_of(reference)),
-        PrincipalOrResourceConstraint::Is(ty) => uid.entity_type() == &**ty,
-        PrincipalOrResourceConstraint::IsIn(ty, reference) => {
-            uid.entity_type() == &**ty && is_in(store, uid, &euid_of(reference))
-        }
-    }
-}
-
-fn applies(store: &Entities, policy: &Policy, request: &Request) -> bool {
-    let action = match policy.action_constraint() {
-        ActionConstraint::Any => true,
-        ActionConstraint::Eq(uid) => request.action == *uid,
-        ActionConstraint::In(uids) => uids.iter().any(|uid| is_in(store, &request.action, uid)),
-        ActionConstraint::InSlot(_) | ActionConstraint::EqSlot(_) => {
-            unreachable!("a policy's constraints have their slots filled")
-        }
-    };
-    action
-        && satisfies(store, &request.principal, policy.principal_constraint().as_inner())
-        && satisfies(store, &request.resource, policy.resource_constraint().as_inner())
-}
-
 /// Decides a request. It is allowed if a policy permits it and no policy forbids it. Also returns the ids of the
 /// applicable policies.
 fn decide(store: &Entities, policies: &PolicySet, request: &Request) -> (bool, Vec<String>) {
     let applicable: Vec<&Policy> = policies
         .policies()
-        .filter(|policy| applies(store, policy, request))
+        .filter(|policy| policy.applies_to_scope(&request.principal, &request.action, &request.resource, store))
         .collect();
     let has_effect = |effect| applicable.iter().any(|policy| policy.effect() == effect);
     let ids = applicable.iter().map(|policy| policy.id().to_string()).collect();

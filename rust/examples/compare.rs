@@ -1,5 +1,5 @@
 //! Generates random inputs, and compares the output and the exit status of another program with the program of this
-//! package: `cargo run --release --example compare -- PROGRAM [COUNT [SEED]]`.
+//! package: `cargo run --release -F cli --example compare -- PROGRAM [COUNT [SEED]]`.
 //!
 //! The other program is started once for each input, with the lines as its standard input. An input has up to thirty
 //! lines with few uids and ids, so that the lines interact. Some lines are invalid on purpose. The first inputs with a

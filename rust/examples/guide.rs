@@ -1,11 +1,10 @@
-//! Ten tasks of an authorizer, an administration service, a policy parser or a validator. `docs/GUIDE.md` quotes these
+//! Twelve tasks of an authorizer, an administration service, a policy parser or a validator. `docs/GUIDE.md` quotes these
 //! functions.
 use cedar_store::ast::{
-    ActionConstraint, Annotations, Effect, Entity, EntityReference, EntityUID, LinkingError, PartialValue, Policy,
-    PolicyID, PolicySet, PolicySetError, PolicySetGetLinksError, PolicySetPolicyRemovalError,
-    PolicySetTemplateRemovalError, PolicySetUnlinkError, PolicySetValidationError, PrincipalConstraint,
-    PrincipalOrResourceConstraint, ResourceConstraint, SlotEnv, SlotId, StaticPolicy, Template, UnexpectedSlotError,
-    Value,
+    ActionConstraint, Annotations, Effect, Entity, EntityUID, LinkingError, PartialValue, PolicyID, PolicySet,
+    PolicySetError, PolicySetGetLinksError, PolicySetPolicyRemovalError, PolicySetTemplateRemovalError,
+    PolicySetUnlinkError, PolicySetValidationError, PrincipalConstraint, ResourceConstraint, SlotEnv, SlotId,
+    StaticPolicy, Template, UnexpectedSlotError, Value,
 };
 use cedar_store::entities::{Dereference, Entities, EntitiesError, TCComputation::ComputeNow};
 use cedar_store::slice;
@@ -116,41 +115,16 @@ fn add_and_link(set: &mut PolicySet) -> Result<(), Box<dyn Error>> {
     Ok(())
 }
 
-fn is_in(store: &Entities, uid: &EntityUID, ancestor: &EntityUID) -> bool {
-    uid == ancestor
-        || store
-            .stored(uid)
-            .is_some_and(|entity| entity.is_descendant_of(ancestor))
-}
-
-fn satisfies(store: &Entities, uid: &EntityUID, constraint: &PrincipalOrResourceConstraint) -> bool {
-    use EntityReference::EUID;
-    use PrincipalOrResourceConstraint::{Any, Eq, In, Is, IsIn};
-    match constraint {
-        Any => true,
-        Eq(EUID(one)) => *uid == **one,
-        In(EUID(ancestor)) => is_in(store, uid, ancestor),
-        Is(ty) => uid.entity_type() == &**ty,
-        IsIn(ty, EUID(ancestor)) => uid.entity_type() == &**ty && is_in(store, uid, ancestor),
-        Eq(_) | In(_) | IsIn(..) => false, // a slot, which a policy has filled
-    }
-}
-
-fn applies(store: &Entities, policy: &Policy, request: &Request) -> bool {
-    let action = match policy.action_constraint() {
-        ActionConstraint::Any => true,
-        ActionConstraint::Eq(uid) => request.action == *uid,
-        ActionConstraint::In(uids) => uids.iter().any(|uid| is_in(store, &request.action, uid)),
-        ActionConstraint::InSlot(_) | ActionConstraint::EqSlot(_) => false,
-    };
-    action
-        && satisfies(store, &request.principal, policy.principal_constraint().as_inner())
-        && satisfies(store, &request.resource, policy.resource_constraint().as_inner())
-}
-
 fn list_applicable(store: &Entities, set: &PolicySet, request: &Request) {
-    for policy in set.policies().filter(|policy| applies(store, policy, request)) {
-        println!("applies: {} ({})", policy.id(), policy.effect());
+    let Request {
+        principal,
+        action,
+        resource,
+    } = request;
+    for policy in set {
+        if policy.applies_to_scope(principal, action, resource, store) {
+            println!("applies: {} ({})", policy.id(), policy.effect());
+        }
     }
 }
 
@@ -303,13 +277,30 @@ fn failed_checks(set: &PolicySet) -> Result<(), Box<dyn Error>> {
     Ok(())
 }
 
+fn print_members(store: &Entities) {
+    let staff = uid("Group", "staff");
+    for member in store.descendants_of_type(&staff, uid("User", "").entity_type()) {
+        let path = store.path(member, &staff).unwrap_or_default();
+        let texts: Vec<String> = path.iter().map(ToString::to_string).collect();
+        println!("{}", texts.join(" in "));
+    }
+}
+
+fn print_naming(set: &PolicySet, uid: &EntityUID) {
+    for policy in set.naming(uid) {
+        println!("names {uid}: {}", policy.id());
+    }
+}
+
 fn main() -> Result<(), Box<dyn Error>> {
     let store = build()?;
     query(&store);
+    print_members(&store);
     let edited = edit(store.clone())?;
     println!("edited: {} entities", edited.len());
     for group in ["board", "staff"] {
-        let is_member = is_in(&edited, &uid("User", "alice"), &uid("Group", group));
+        let alice = edited.stored(&uid("User", "alice"));
+        let is_member = alice.is_some_and(|alice| alice.is_descendant_of(&uid("Group", group)));
         println!("alice is in the {group}: {is_member}");
     }
     let with_bob = add_or_keep(store.clone(), entity(uid("User", "bob"), &[]));
@@ -329,6 +320,7 @@ fn main() -> Result<(), Box<dyn Error>> {
     add_and_link(&mut set)?;
     set.add_static(unconstrained("policy0", Effect::Permit)?)?;
     list_applicable(&sliced, &set, &request);
+    print_naming(&set, &uid("Group", "staff"));
     let mut other = PolicySet::new();
     other.add_static(unconstrained("policy0", Effect::Forbid)?)?;
     other.add_static(unconstrained("policy1", Effect::Permit)?)?;

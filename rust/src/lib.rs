@@ -33,10 +33,11 @@
 //! | [`parser`] | source locations and parse errors |
 //! | [`slice`](slice()) | the store of some entities and all entities above them |
 //! | [`would_add`], [`would_upsert`] | dry runs of edits |
-//! | [`BorrowedConstraint`] | constraints of a policy, without a copy |
+//! | [`BorrowedConstraint`], [`BorrowedActionConstraint`] | constraints of a policy, without a copy |
 //! | [`iters`] | the iterators that functions return |
 //! | [`KeyedState`] | the default builder of hashers |
-//! | [`replay`], [`program`] | lists of calls, and the line-based program |
+//! | [`replay`] | lists of calls |
+//! | `program` | the line-based program, with the feature `cli` |
 //!
 //! # Edits and snapshots
 //!
@@ -46,8 +47,9 @@
 //! [`try_remove_entities`](entities::Entities::try_remove_entities) edit a store in place and keep it after an error,
 //! for about the same cost.
 //!
-//! A clone of a store shares the entities, and costs one pointer copy for each entity. A clone of a policy set copies
-//! each id and each link, and shares the templates.
+//! A clone of a store or of a policy set is a snapshot. It shares all content, and costs one pointer copy for 128
+//! entities or policies. An edit of the clone or of the original costs what it changes. In addition it copies each part
+//! that it changes for the first time, of up to 128 entries. A clone of a policy or of an id is one pointer copy.
 //!
 //! # Threads
 //!
@@ -58,7 +60,8 @@
 //!
 //! A function that can fail returns an error, which implements [`Error`](std::error::Error), `Clone` and `PartialEq`,
 //! and whose [`source`](std::error::Error::source) is the cause. The comment of each function lists its errors. After an
-//! error, a set or a store that was borrowed is as before. The program aborts if an allocation fails, as in std.
+//! error, a set or a store that was borrowed is as before. A [parse error](parser::err::ParseErrors) says what was
+//! expected at which byte. The program aborts if an allocation fails, as in std.
 //!
 //! # Cost
 //!
@@ -101,6 +104,45 @@
 //!
 //! If a caller violates one of them, the call panics or returns a wrong result. A debug build checks them.
 #![forbid(unsafe_code)]
+#![allow(
+    clippy::inline_always,
+    reason = "measured: these functions are called for each uid, and are small where they are inlined"
+)]
+#![allow(
+    clippy::match_same_arms,
+    reason = "each variant has an arm of its own, in the order of the enum"
+)]
+#![allow(
+    clippy::cast_lossless,
+    clippy::cast_possible_truncation,
+    clippy::cast_possible_wrap,
+    clippy::cast_sign_loss,
+    reason = "hashes are mixed with bytes, and places are checked to fit when a table grows"
+)]
+#![allow(
+    clippy::many_single_char_names,
+    reason = "numbers of a graph have the letters of the literature"
+)]
+#![allow(
+    clippy::implicit_hasher,
+    reason = "the functions have the signatures of the original; others take a hasher"
+)]
+#![allow(
+    clippy::single_match_else,
+    reason = "a match shows both cases of an option in the same way"
+)]
+#![allow(
+    clippy::ref_option,
+    clippy::trivially_copy_pass_by_ref,
+    clippy::needless_pass_by_value,
+    reason = "the parameters of the proved functions"
+)]
+#![allow(clippy::explicit_iter_loop, reason = "the call says what a loop iterates over")]
+#![allow(
+    clippy::missing_fields_in_debug,
+    reason = "a store prints the fields of the original"
+)]
+#![allow(clippy::struct_field_names, reason = "the field has the name of the original")]
 
 mod cedar_action;
 mod cedar_annotation;
@@ -110,35 +152,51 @@ mod cedar_children;
 mod cedar_components;
 mod cedar_dry_run;
 mod cedar_entities;
+#[cfg_attr(
+    not(feature = "cli"),
+    allow(
+        dead_code,
+        reason = "a line of the program becomes an entity by a function of its own"
+    )
+)]
 mod cedar_entity;
+mod cedar_entity_diff;
+#[cfg(feature = "cli")]
 mod cedar_entity_lines;
 mod cedar_entity_maps;
 mod cedar_graph;
 mod cedar_ids;
 mod cedar_keyed_hash;
+#[cfg(feature = "cli")]
 mod cedar_lines;
+mod cedar_naming;
 mod cedar_policy;
+mod cedar_policy_diff;
+#[cfg(feature = "cli")]
 mod cedar_policy_lines;
 mod cedar_policy_maps;
 mod cedar_policy_merge;
 mod cedar_policy_set;
 mod cedar_policy_set_errors;
+mod cedar_queries;
+#[cfg(feature = "cli")]
 mod cedar_repl;
 mod cedar_replay;
 mod cedar_scope;
 mod cedar_slice;
+#[cfg(feature = "cli")]
 mod cedar_store;
 mod cedar_terms;
 mod cedar_uid_sets;
 mod handwritten;
 
-use handwritten::{linked_map, ordered_map};
+use handwritten::{linked_map, node_map, ordered_map, shared_map};
 
 pub use cedar_dry_run::{have_no_indirect, would_add, would_upsert};
 pub use cedar_keyed_hash::{KeyedHasher, KeyedState};
 pub use cedar_slice::slice;
 pub use handwritten::renaming::{RenamedIds, Renaming};
-pub use handwritten::scopes::BorrowedConstraint;
+pub use handwritten::scopes::{BorrowedActionConstraint, BorrowedConstraint};
 
 /// Ids, entities, values, expressions, constraints, policies, templates and policy sets.
 pub mod ast {
@@ -153,6 +211,7 @@ pub mod ast {
         Effect, LinkingError, Policy, SlotEnv, StaticPolicy, Template, TemplateBody, TemplateBodyImpl,
         TemplateValidationError, UnexpectedSlotError,
     };
+    pub use crate::cedar_policy_diff::PolicySetDiff;
     pub use crate::cedar_policy_set::{
         PolicySet, PolicySetError, PolicySetGetLinksError, PolicySetPolicyRemovalError, PolicySetTemplateRemovalError,
         PolicySetUnlinkError, PolicySetValidationError,
@@ -186,6 +245,7 @@ pub mod ast {
 pub mod entities {
     pub use crate::cedar_entities::{Dereference, Entities, IntoIter, Iter, TCComputation};
     pub use crate::cedar_entity::EntitiesError;
+    pub use crate::cedar_entity_diff::{AncestryChange, ContentChange, StoreDiff};
 
     /// Errors of calls on stores and entities.
     pub mod err {
@@ -210,6 +270,7 @@ pub mod parser {
     /// Errors of texts of uids, names and identifiers.
     pub mod err {
         pub use crate::cedar_ids::ParseErrors;
+        pub use crate::handwritten::parse_errors::{Expected, ParsePlace};
 
         /// Errors that validations of templates share with the parser of cedar-policy-core.
         pub mod parse_errors {
@@ -218,7 +279,8 @@ pub mod parser {
     }
 }
 
-/// The program that runs commands: on a whole input, line by line, and interactively.
+/// The program that runs commands: on a whole input, line by line, and interactively. Needs the feature `cli`.
+#[cfg(feature = "cli")]
 pub mod program {
     pub use crate::cedar_repl::{ErrorMode, FIELD_HELP, POLICY_HELP, STORE_HELP, TalkError, help_texts, talk};
     pub use crate::cedar_store::{

@@ -1,6 +1,6 @@
 //! All integration tests, as modules of one program: it is linked once, and its tests share the processors.
 //!
-//! A random test makes a twentieth of its rounds, unless `CEDAR_LONG_TESTS` is set. `rust/check` sets it.
+//! A random test makes a twentieth of its rounds. `cargo test -- --ignored` runs all tests with all rounds.
 #![allow(
     clippy::duplicate_mod,
     reason = "each file names its helpers, so that it can also be a program of its own"
@@ -10,8 +10,11 @@
 mod closures;
 #[path = "constraints.rs"]
 mod constraints;
+#[cfg(feature = "cli")]
 #[path = "corpus.rs"]
 mod corpus;
+#[path = "diff.rs"]
+mod diff;
 #[path = "dot.rs"]
 mod dot;
 #[path = "drop_in.rs"]
@@ -32,10 +35,16 @@ mod hashers;
 mod large;
 #[path = "locations.rs"]
 mod locations;
+#[path = "naming.rs"]
+mod naming;
 #[path = "policy.rs"]
 mod policy;
+#[path = "policy_diff.rs"]
+mod policy_diff;
 #[path = "policy_set.rs"]
 mod policy_set;
+#[path = "queries.rs"]
+mod queries;
 #[path = "random_closures.rs"]
 mod random_closures;
 #[path = "random_modes.rs"]
@@ -48,6 +57,8 @@ mod random_stores;
 mod scopes;
 #[path = "sets.rs"]
 mod sets;
+#[path = "snapshots.rs"]
+mod snapshots;
 #[path = "store_edge_cases.rs"]
 mod store_edge_cases;
 #[path = "stores.rs"]
@@ -64,3 +75,15 @@ mod traits;
 mod transitive_closure;
 #[path = "try_edits.rs"]
 mod try_edits;
+
+/// Runs this program again, with all rounds of the random tests.
+#[test]
+#[ignore = "it takes minutes"]
+fn random_tests_make_all_rounds() {
+    let program = std::env::current_exe().expect("a test has a path");
+    let status = std::process::Command::new(program)
+        .env("CEDAR_LONG_TESTS", "1")
+        .status()
+        .expect("the program starts");
+    assert!(status.success(), "a test failed with all rounds");
+}

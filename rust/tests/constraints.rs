@@ -48,44 +48,27 @@ fn assert_ascending<T: Ord + Hash + Clone + Debug>(items: &[T]) {
     }
 }
 
-/// Returns the eight forms in order, each by its constructor.
-fn all_constraints() -> [Constraint; 8] {
-    [
-        Constraint::any(),
-        Constraint::is_in(group()),
-        Constraint::is_in_slot(),
-        Constraint::is_eq(group()),
-        Constraint::is_eq_slot(),
-        Constraint::is_entity_type(ty("T")),
-        Constraint::is_entity_type_in(ty("T"), group()),
-        Constraint::is_entity_type_in_slot(ty("T")),
-    ]
+/// Defines functions that return the eight forms in order, each by its constructor.
+macro_rules! all_forms {
+    ($($name:ident: $type:ident;)*) => {
+        $(fn $name() -> [$type; 8] {
+            [
+                $type::any(),
+                $type::is_in(group()),
+                $type::is_in_slot(),
+                $type::is_eq(group()),
+                $type::is_eq_slot(),
+                $type::is_entity_type(ty("T")),
+                $type::is_entity_type_in(ty("T"), group()),
+                $type::is_entity_type_in_slot(ty("T")),
+            ]
+        })*
+    };
 }
-
-fn all_on_principal() -> [PrincipalConstraint; 8] {
-    [
-        PrincipalConstraint::any(),
-        PrincipalConstraint::is_in(group()),
-        PrincipalConstraint::is_in_slot(),
-        PrincipalConstraint::is_eq(group()),
-        PrincipalConstraint::is_eq_slot(),
-        PrincipalConstraint::is_entity_type(ty("T")),
-        PrincipalConstraint::is_entity_type_in(ty("T"), group()),
-        PrincipalConstraint::is_entity_type_in_slot(ty("T")),
-    ]
-}
-
-fn all_on_resource() -> [ResourceConstraint; 8] {
-    [
-        ResourceConstraint::any(),
-        ResourceConstraint::is_in(group()),
-        ResourceConstraint::is_in_slot(),
-        ResourceConstraint::is_eq(group()),
-        ResourceConstraint::is_eq_slot(),
-        ResourceConstraint::is_entity_type(ty("T")),
-        ResourceConstraint::is_entity_type_in(ty("T"), group()),
-        ResourceConstraint::is_entity_type_in_slot(ty("T")),
-    ]
+all_forms! {
+    all_constraints: Constraint;
+    all_on_principal: PrincipalConstraint;
+    all_on_resource: ResourceConstraint;
 }
 
 /// For each form: its text for a variable V, its expression, and its text after the slot was replaced by `B::"u"`.

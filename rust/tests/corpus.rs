@@ -1,5 +1,6 @@
 //! The corpus of a fuzzer: the program writes the same as the proved program for each input. Also lines of more types
 //! than a run caches, and invalid `ent` lines.
+use cedar_store::ast::EntityUID;
 use cedar_store::program::run;
 
 /// Decodes the escapes of an input.
@@ -115,5 +116,29 @@ fn invalid_ent_line_is_not_a_command() {
             (2, b"ok 1\nline 3: not a command\n".to_vec()),
             "{invalid}"
         );
+    }
+}
+
+/// An eid with escapes is read alike whether its type is cached or not.
+#[test]
+fn escapes_are_read_with_and_without_a_cached_type() {
+    let output = |lines: &str| {
+        let mut written = Vec::new();
+        let status = run(&mut lines.as_bytes(), &mut written).expect("memory suffices");
+        (status, String::from_utf8(written).expect("ASCII"))
+    };
+    for (before, count) in [("", 1), ("ent\tA::\"c\"\n", 2)] {
+        for byte in 0..128 {
+            let eid = format!("{}a{}", char::from(byte), char::from(byte));
+            let uid = EntityUID::with_eid_and_type("A", &eid).expect("a type").to_string();
+            let lines = format!("{before}ent\tB::\"b\"\t{uid}\nbuild\nanc\tB::\"b\"\n");
+            assert_eq!(output(&lines), (0, format!("ok {count}\nanc\t{uid}\n")), "{lines}");
+        }
+        for letter in ' '..='~' {
+            let lines = format!("{before}ent\tA::\"a\\{letter}b\"\n");
+            let status = if r#"0trn'"\"#.contains(letter) { 0 } else { 2 };
+            assert_eq!(output(&lines).0, status, "{lines}");
+        }
+        assert_eq!(output(&format!("{before}ent\tA::\"a\\\"\n")).0, 2);
     }
 }

@@ -57,6 +57,16 @@ fn graphviz() {
 }
 
 #[test]
+fn templates() {
+    assert_output("templates");
+}
+
+#[test]
+fn merge() {
+    assert_output("merge");
+}
+
+#[test]
 fn live_store() {
     let output = run("live_store", &["1", "2000"]);
     let text = String::from_utf8_lossy(&output.stdout);

@@ -6,6 +6,7 @@ mod policies;
 
 use cedar_store::ast::{Entity, EntityUID, PolicySet};
 use cedar_store::entities::{Entities, TCComputation};
+#[cfg(feature = "cli")]
 use cedar_store::program::run_with;
 use cedar_store::{KeyedState, slice};
 use common::{Random, id, principal};
@@ -129,29 +130,32 @@ fn policy_set_results<S: BuildHasher + Copy>(hasher: S, seed: u64) -> String {
     output + &one.to_string() + &other.to_string()
 }
 
+/// Asserts that a function of a hasher and a seed returns the same as with the default hasher.
+macro_rules! assert_same_with_hashers {
+    ($results:ident, $seed:ident, $($hasher:expr),*) => {
+        let expected = $results(KeyedState::default(), $seed);
+        $(assert_eq!($results($hasher, $seed), expected);)*
+    };
+}
+
 #[test]
 fn store_results_do_not_depend_on_the_hasher() {
     for seed in 0..60 {
-        let expected = store_results(KeyedState::default(), seed);
-        assert_eq!(store_results(KeyedState::with_keys(1, 2), seed), expected);
-        assert_eq!(store_results(KeyedState::with_keys(u64::MAX, 3), seed), expected);
-        assert_eq!(store_results(Colliding, seed), expected);
-        assert_eq!(store_results(Backwards::default(), seed), expected);
-        assert_eq!(store_results(std::hash::RandomState::new(), seed), expected);
+        let (one, other) = (KeyedState::with_keys(1, 2), KeyedState::with_keys(u64::MAX, 3));
+        assert_same_with_hashers!(store_results, seed, one, other, Colliding, Backwards::default());
+        assert_same_with_hashers!(store_results, seed, std::hash::RandomState::new());
     }
 }
 
 #[test]
 fn policy_set_results_do_not_depend_on_the_hasher() {
     for seed in 0..400 {
-        let expected = policy_set_results(KeyedState::default(), seed);
-        assert_eq!(policy_set_results(KeyedState::with_keys(1, 2), seed), expected);
-        assert_eq!(policy_set_results(KeyedState::with_keys(u64::MAX, 3), seed), expected);
-        assert_eq!(policy_set_results(Colliding, seed), expected);
-        assert_eq!(policy_set_results(Backwards::default(), seed), expected);
+        let (one, other) = (KeyedState::with_keys(1, 2), KeyedState::with_keys(u64::MAX, 3));
+        assert_same_with_hashers!(policy_set_results, seed, one, other, Colliding, Backwards::default());
     }
 }
 
+#[cfg(feature = "cli")]
 #[test]
 fn runs_do_not_depend_on_the_hasher() {
     let lines: String = (0..200)
@@ -168,6 +172,7 @@ fn runs_do_not_depend_on_the_hasher() {
     assert_eq!(run_lines(Backwards::default(), &lines), expected);
 }
 
+#[cfg(feature = "cli")]
 fn run_lines<S: BuildHasher + Copy>(hasher: S, lines: &str) -> (Vec<u8>, u8) {
     let mut written = Vec::new();
     let status = run_with(hasher, &mut lines.as_bytes(), &mut written).expect("reading and writing memory never fails");

@@ -9,7 +9,7 @@ use cedar_store::ast::{
 };
 use cedar_store::entities::{Dereference, Entities, EntitiesError, TCComputation};
 use cedar_store::slice;
-use common::{id, principal};
+use common::{entity_under, id, principal};
 use policies::{permit, principal_template};
 use std::collections::HashSet;
 use std::collections::hash_map::DefaultHasher;
@@ -154,11 +154,7 @@ fn node(number: usize) -> EntityUID {
 }
 
 fn entity_with_parents(number: usize, parents: &[usize]) -> Entity {
-    let mut entity = Entity::with_uid(node(number));
-    for parent in parents {
-        entity.add_parent(node(*parent));
-    }
-    entity
+    entity_under(node(number), parents.iter().copied().map(node))
 }
 
 /// The cost of an error for a cycle is linear in the input. The cost of a check of a closed chain is linear in its

@@ -1,6 +1,8 @@
 //! Source locations of policies. Copies, other ids, links and merges keep them, no comparison uses them, and errors
 //! report them.
 mod common;
+#[path = "common/policies.rs"]
+mod policies;
 
 use cedar_store::ast::{
     ActionConstraint, Annotation, Annotations, AnyId, Effect, EntityReference, EntityUID, Expr, LinkingError, Name,
@@ -9,6 +11,7 @@ use cedar_store::ast::{
 };
 use cedar_store::parser::Loc;
 use common::{id, shared, uid};
+use policies::template_with;
 
 fn at(start: usize) -> Option<Loc> {
     Some(Loc::new(
@@ -438,18 +441,9 @@ fn merge_uses_the_location_of_a_bound_uid() {
     ];
     let mut base = PolicySet::new();
     let principal = PrincipalConstraint::new(slot_constraint(3));
-    let (action, resource) = (ActionConstraint::any(), ResourceConstraint::any());
-    let one = Template::new(
-        id("t"),
-        None,
-        Annotations::new(),
-        Effect::Permit,
-        principal,
-        action,
-        resource,
-        None,
-    );
-    base.add_template(one).unwrap();
+    let scope = (principal, ActionConstraint::any(), ResourceConstraint::any());
+    base.add_template(template_with("t", Effect::Permit, scope, None))
+        .unwrap();
     let user = uid(r#"User::"x""#);
     let linked = |location: &Option<Loc>, type_location: &Option<Loc>| {
         let (ty, eid) = user.clone().components();

@@ -377,37 +377,26 @@ fn random_calls_on_random_stores() {
     );
 }
 
+/// Returns an entity with at most two parents, whose names are greater.
+fn with_greater_parents(random: &mut Random, name: Name) -> (Name, Ancestry) {
+    let parents = (0..random.below(3)).map(|_| name + 1 + random.below(6)).collect();
+    let indirect = Names::new();
+    (name, Ancestry { parents, indirect })
+}
+
 /// Edits by long lists with duplicates, absent uids, and uids that are ancestors of one another.
 #[test]
 fn edits_by_long_lists() {
     for seed in 0..600 {
         let mut random = Random::new(seed);
         let uids = 60;
-        let model: Vec<(Name, Ancestry)> = (0..uids)
-            .map(|name| {
-                let parents = (0..random.below(3)).map(|_| name + 1 + random.below(6)).collect();
-                (
-                    name,
-                    Ancestry {
-                        parents,
-                        indirect: Names::new(),
-                    },
-                )
-            })
-            .collect();
+        let model: Vec<(Name, Ancestry)> = (0..uids).map(|name| with_greater_parents(&mut random, name)).collect();
         let entities = model.iter().map(|(name, ancestry)| entity(*name, ancestry));
         let store = Entities::from_entities(entities, TCComputation::ComputeNow).expect("parents have greater names");
         let list: Vec<(Name, Ancestry)> = (0..30)
             .map(|_| {
                 let name = random.below(uids + 3);
-                let parents = (0..random.below(3)).map(|_| name + 1 + random.below(6)).collect();
-                (
-                    name,
-                    Ancestry {
-                        parents,
-                        indirect: Names::new(),
-                    },
-                )
+                with_greater_parents(&mut random, name)
             })
             .collect();
         let mode = *random.choose(&MODES);

@@ -2,12 +2,12 @@
 //! constraints.
 mod common;
 
-use cedar_store::BorrowedConstraint;
 use cedar_store::ast::{
     ActionConstraint, Annotations, Effect, Entity, EntityReference, EntityType, EntityUID, Policy, PolicySet,
     PrincipalConstraint, PrincipalOrResourceConstraint, ResourceConstraint, SlotEnv, SlotId, StaticPolicy, Template,
 };
 use cedar_store::entities::{Dereference, Entities, TCComputation};
+use cedar_store::{BorrowedActionConstraint, BorrowedConstraint};
 use common::{id, uid};
 use std::sync::Arc;
 
@@ -143,12 +143,24 @@ fn owned(constraint: BorrowedConstraint) -> PrincipalOrResourceConstraint {
     }
 }
 
+/// Returns the owned constraint with the content of a borrowed one.
+fn owned_action(constraint: BorrowedActionConstraint) -> ActionConstraint {
+    match constraint {
+        BorrowedActionConstraint::Any => ActionConstraint::any(),
+        BorrowedActionConstraint::In(uids) => ActionConstraint::is_in(uids.iter().map(|uid| (**uid).clone())),
+        BorrowedActionConstraint::InBound(uid) => ActionConstraint::is_in([uid.clone()]),
+        BorrowedActionConstraint::Eq(uid) => ActionConstraint::is_eq(uid.clone()),
+        BorrowedActionConstraint::Unbound => panic!("the slot is filled"),
+    }
+}
+
 /// Compares all results for a policy with the allocated constraints. Returns the number of requests to which it applies.
 fn compare(store: &Entities, policy: &Policy) -> usize {
     let (principal, resource) = (policy.principal_constraint(), policy.resource_constraint());
     let action = policy.action_constraint();
     assert_eq!(&owned(policy.borrowed_principal_constraint()), principal.as_inner());
     assert_eq!(&owned(policy.borrowed_resource_constraint()), resource.as_inner());
+    assert_eq!(owned_action(policy.borrowed_action_constraint()), action);
     let mut applicable = 0;
     for one in UIDS.map(uid) {
         for other in UIDS.map(uid) {
@@ -202,4 +214,6 @@ fn an_absent_entity_of_a_partial_store_is_in_itself_only() {
     assert!(BorrowedConstraint::In(&absent).is_satisfied_by(&absent, &store));
     assert!(!BorrowedConstraint::In(&uid(UIDS[2])).is_satisfied_by(&absent, &store));
     assert!(!BorrowedConstraint::Unbound.is_satisfied_by(&absent, &store));
+    assert!(BorrowedActionConstraint::InBound(&absent).is_satisfied_by(&absent, &store));
+    assert!(!BorrowedActionConstraint::Unbound.is_satisfied_by(&absent, &store));
 }

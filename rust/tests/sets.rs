@@ -7,7 +7,9 @@ mod common;
 #[path = "common/policies.rs"]
 mod policies;
 
-use cedar_store::ast::{Effect, LinkingError, Policy, PolicySet, PolicySetTemplateRemovalError, SlotEnv, Template};
+use cedar_store::ast::{
+    Effect, EntityUID, LinkingError, Policy, PolicySet, PolicySetTemplateRemovalError, SlotEnv, Template,
+};
 use cedar_store::entities::{Entities, TCComputation};
 use cedar_store::replay::{Answer, EntityCall, PolicyCall, replay_entities, replay_policies};
 use common::{child, id, principal, resource, shared, uid, with_eid};
@@ -19,24 +21,24 @@ fn links_of(set: &PolicySet, template: &str) -> Vec<String> {
     ids.map(ToString::to_string).collect()
 }
 
-/// Returns a set of the principal's template `t` and links of it.
-fn linked(links: &[(&str, &str)]) -> PolicySet {
+/// Returns a set of a template `t` and links of it. Each link has an id, and the eid of the uid in its slot.
+fn links_to(template: Template, bind: fn(EntityUID) -> SlotEnv, links: &[(&str, &str)]) -> PolicySet {
     let mut set = PolicySet::new();
-    set.add_template(principal_template("t")).unwrap();
+    set.add_template(template).unwrap();
     for (name, eid) in links {
-        set.link(id("t"), id(name), principal(with_eid(eid))).unwrap();
+        set.link(id("t"), id(name), bind(with_eid(eid))).unwrap();
     }
     set
 }
 
+/// Returns a set of the principal's template `t` and links of it.
+fn linked(links: &[(&str, &str)]) -> PolicySet {
+    links_to(principal_template("t"), principal, links)
+}
+
 /// Returns a set of the resource's template `t` and links of it.
 fn resource_linked(links: &[(&str, &str)]) -> PolicySet {
-    let mut set = PolicySet::new();
-    set.add_template(resource_template("t")).unwrap();
-    for (name, eid) in links {
-        set.link(id("t"), id(name), resource(with_eid(eid))).unwrap();
-    }
-    set
+    links_to(resource_template("t"), resource, links)
 }
 
 #[test]

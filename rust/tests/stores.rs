@@ -5,7 +5,7 @@ mod common;
 use cedar_store::ast::{Entity, EntityUID, Expr, PartialValue, StaticType, Value};
 use cedar_store::entities::{Dereference, Entities, EntitiesError, TCComputation};
 use cedar_store::{have_no_indirect, would_add, would_upsert};
-use common::{shared, uid};
+use common::{entity_under, shared, uid};
 use std::collections::HashSet;
 use std::sync::Arc;
 
@@ -14,11 +14,7 @@ fn node(number: usize) -> EntityUID {
 }
 
 fn entity_with_parents(number: usize, parents: &[usize]) -> Entity {
-    let mut entity = Entity::with_uid(node(number));
-    for parent in parents {
-        entity.add_parent(node(*parent));
-    }
-    entity
+    entity_under(node(number), parents.iter().copied().map(node))
 }
 
 fn closed_store(entities: impl IntoIterator<Item = Entity>) -> Entities {

@@ -14,8 +14,10 @@ use std::thread;
 const THREADS: usize = 16;
 const ENTITIES: usize = 600;
 
-const fn assert_send_sync<T: Send + Sync>() {}
-const _: () = {
+fn assert_send_sync<T: Send + Sync>() {}
+
+#[test]
+fn threads_can_share_each_type() {
     assert_send_sync::<Entities>();
     assert_send_sync::<PolicySet>();
     assert_send_sync::<Entity>();
@@ -24,7 +26,7 @@ const _: () = {
     assert_send_sync::<Value>();
     assert_send_sync::<Expr>();
     assert_send_sync::<EntityUID>();
-};
+}
 
 fn node(number: usize) -> EntityUID {
     EntityUID::with_eid_and_type("Node", &number.to_string()).unwrap()

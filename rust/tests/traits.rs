@@ -4,7 +4,7 @@ use cedar_store::ast::{
     Policy, PolicyID, PolicySet, Slot, SlotId, TemplateValidationError, Value,
 };
 use cedar_store::entities::{Entities, EntitiesError, TCComputation};
-use cedar_store::parser::err::ParseErrors;
+use cedar_store::parser::err::{Expected, ParseErrors};
 use cedar_store::transitive_closure::{HasCycle, MissingTcEdge, TcError};
 use std::borrow::Borrow;
 use std::collections::{BTreeMap, BTreeSet, HashMap};
@@ -168,6 +168,67 @@ fn a_policy_set_takes_the_hasher_of_the_standard_library() {
     assert_eq!((set.len(), copy.len()), (2, 3));
 }
 
+/// A type without bounds can contain stores, sets and errors of any parameter.
+#[derive(Debug)]
+#[allow(dead_code, reason = "the fields are read by `Debug`")]
+struct Unbounded<K, S> {
+    store: Entities<S>,
+    set: PolicySet<S>,
+    error: Option<TcError<K>>,
+}
+
+#[test]
+fn bounds_stand_on_implementations() {
+    let (store, set, error) = (Entities::new(), PolicySet::new(), None::<TcError<EntityUID>>);
+    let text = format!("{:?}", Unbounded { store, set, error });
+    assert!(text.starts_with("Unbounded { store: Entities {") && text.ends_with("error: None }"));
+}
+
+/// Returns the error of reading a uid.
+fn parse_error(text: &str) -> ParseErrors {
+    text.parse::<EntityUID>().expect_err("the text is not a uid")
+}
+
+#[test]
+fn parse_errors_say_where_the_text_is_wrong() {
+    use Expected::{Identifier, IdentifierPart, Mark, PrintedEid, Quote, Unreserved};
+    let uids = [
+        ("", 0, Quote),
+        (r#"A::"b"#, 5, Quote),
+        ("\"", 0, Mark),
+        (r#"A::b""#, 4, Mark),
+        (r#"A"b""#, 1, Mark),
+        (r#"::"b""#, 0, Identifier),
+        (r#"A::B::::"b""#, 6, Identifier),
+        (r#"A::9::"b""#, 3, Identifier),
+        (r#" A::"b""#, 0, Identifier),
+        (r#"Ab::C d::"b""#, 5, IdentifierPart),
+        (r#"A:B::"b""#, 1, IdentifierPart),
+        (r#"A::é::"b""#, 3, Identifier),
+        (r#"A::in::"b""#, 3, Unreserved),
+        (r#"A::__cedar::"b""#, 3, Unreserved),
+        (r#"A::"it's""#, 6, PrintedEid),
+        (r#"A::"a"b""#, 5, PrintedEid),
+        (r#"A::"\u{41}""#, 4, PrintedEid),
+        (r#"A::"é\q""#, 6, PrintedEid),
+        (r#"A::"ab\""#, 6, PrintedEid),
+    ];
+    for (text, offset, expected) in uids {
+        let place = parse_error(text).place();
+        assert_eq!((place.offset(), place.expected()), (offset, expected), "in {text}");
+        assert!(text.is_char_boundary(offset), "in {text}");
+    }
+    let id = |text: &str| text.parse::<Id>().expect_err("no identifier").place();
+    assert_eq!((id("a-b").offset(), id("a-b").expected()), (1, IdentifierPart));
+    assert_eq!((id("like").offset(), id("like").expected()), (0, Unreserved));
+    let name = |text: &str| text.parse::<Name>().expect_err("no name").to_string();
+    assert_eq!(name("A::"), "not a valid name: expected an identifier at byte 3");
+    assert_eq!(
+        name("A::is"),
+        "not a valid name: expected an identifier that is not reserved at byte 3"
+    );
+}
+
 /// Checks that a copy of an error is equal to it and has its text, and that another error differs.
 fn assert_error<E: std::error::Error + Clone + Eq + Send + Sync + 'static>(error: E, other: E) {
     assert!(error == error.clone() && error != other);
@@ -178,7 +239,7 @@ fn assert_error<E: std::error::Error + Clone + Eq + Send + Sync + 'static>(error
 fn errors_are_copied_and_compared() {
     let slot = |id| TemplateValidationError::SlotsInConditionClause(Slot { id, loc: None });
     assert_error(slot(SlotId::principal()), slot(SlotId::resource()));
-    assert_error(ParseErrors::NotNormalized, ParseErrors::InvalidName);
+    assert_error(parse_error("A::b"), parse_error(r#"in::"b""#));
     let uid = |eid| EntityUID::with_eid_and_type("U", eid).expect("a valid entity type");
     assert_error(EntitiesError::Duplicate(uid("a")), EntitiesError::Duplicate(uid("b")));
     let edge = |grandparent| MissingTcEdge {

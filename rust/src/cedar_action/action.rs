@@ -80,9 +80,10 @@ impl ActionConstraint {
     /// Returns the constraint that allows any action. Does not allocate.
     ///
     /// ```
-    /// # use cedar_store::{ast::*, entities::*};
-    /// # fn uid(text: &str) -> EntityUID { EntityUID::from_normalized_str(text).unwrap() }
-    /// let (view, edit) = (uid(r#"Action::"view""#), uid(r#"Photos::Action::"edit""#));
+    /// use cedar_store::ast::{ActionConstraint, EntityUID};
+    ///
+    /// let view: EntityUID = r#"Action::"view""#.parse()?;
+    /// let edit: EntityUID = r#"Photos::Action::"edit""#.parse()?;
     /// assert_eq!(ActionConstraint::any().to_string(), "action");
     /// assert_eq!(ActionConstraint::is_eq(view.clone()).to_string(), r#"action == Action::"view""#);
     /// let both = ActionConstraint::is_in([view.clone(), edit.clone()]);
@@ -91,7 +92,9 @@ impl ActionConstraint {
     /// // a list is iterated from its end
     /// assert_eq!(both.iter_euids().collect::<Vec<_>>(), [&edit, &view]);
     /// assert_eq!(both.iter_entity_type_names().count(), 2);
+    /// # Ok::<(), Box<dyn std::error::Error>>(())
     /// ```
+    #[must_use]
     pub fn any() -> Self {
         Self::Any
     }
@@ -102,19 +105,8 @@ impl ActionConstraint {
     ///
     /// O(n), where n is the length of the list. Allocates a shared copy of each uid.
     ///
-    /// ```
-    /// # use cedar_store::{ast::*, entities::*};
-    /// # fn uid(text: &str) -> EntityUID { EntityUID::from_normalized_str(text).unwrap() }
-    /// let (view, edit) = (uid(r#"Action::"view""#), uid(r#"Photos::Action::"edit""#));
-    /// assert_eq!(ActionConstraint::any().to_string(), "action");
-    /// assert_eq!(ActionConstraint::is_eq(view.clone()).to_string(), r#"action == Action::"view""#);
-    /// let both = ActionConstraint::is_in([view.clone(), edit.clone()]);
-    /// assert_eq!(both.to_string(), r#"action in [Action::"view",Photos::Action::"edit"]"#);
-    /// assert_eq!(both.as_expr().to_string(), r#"action in [Action::"view", Photos::Action::"edit"]"#);
-    /// // a list is iterated from its end
-    /// assert_eq!(both.iter_euids().collect::<Vec<_>>(), [&edit, &view]);
-    /// assert_eq!(both.iter_entity_type_names().count(), 2);
-    /// ```
+    /// [`Self::any`] has an example.
+    #[must_use]
     pub fn is_in(euids: impl IntoIterator<Item = EntityUID>) -> Self {
         let euids = shared(euids);
         Self::In(euids)
@@ -122,19 +114,8 @@ impl ActionConstraint {
 
     /// Returns the constraint `== euid`. Allocates a shared copy of the uid.
     ///
-    /// ```
-    /// # use cedar_store::{ast::*, entities::*};
-    /// # fn uid(text: &str) -> EntityUID { EntityUID::from_normalized_str(text).unwrap() }
-    /// let (view, edit) = (uid(r#"Action::"view""#), uid(r#"Photos::Action::"edit""#));
-    /// assert_eq!(ActionConstraint::any().to_string(), "action");
-    /// assert_eq!(ActionConstraint::is_eq(view.clone()).to_string(), r#"action == Action::"view""#);
-    /// let both = ActionConstraint::is_in([view.clone(), edit.clone()]);
-    /// assert_eq!(both.to_string(), r#"action in [Action::"view",Photos::Action::"edit"]"#);
-    /// assert_eq!(both.as_expr().to_string(), r#"action in [Action::"view", Photos::Action::"edit"]"#);
-    /// // a list is iterated from its end
-    /// assert_eq!(both.iter_euids().collect::<Vec<_>>(), [&edit, &view]);
-    /// assert_eq!(both.iter_entity_type_names().count(), 2);
-    /// ```
+    /// [`Self::any`] has an example.
+    #[must_use]
     pub fn is_eq(euid: EntityUID) -> Self {
         let euid = Arc::new(euid);
         Self::Eq(euid)
@@ -147,13 +128,15 @@ impl ActionConstraint {
     /// The original has no such function.
     ///
     /// ```
-    /// # use cedar_store::{ast::*, entities::*};
-    /// # fn uid(text: &str) -> EntityUID { EntityUID::from_normalized_str(text).unwrap() }
-    /// # use std::sync::Arc;
-    /// let view = Arc::new(uid(r#"Action::"view""#));
+    /// use cedar_store::ast::ActionConstraint;
+    /// use std::sync::Arc;
+    ///
+    /// let view = Arc::new(r#"Action::"view""#.parse()?);
     /// assert_eq!(ActionConstraint::is_eq_slot().to_string(), "action == ?action");
     /// assert_eq!(ActionConstraint::is_in_slot().with_filled_slot(view).to_string(), r#"action in [Action::"view"]"#);
+    /// # Ok::<(), Box<dyn std::error::Error>>(())
     /// ```
+    #[must_use]
     pub fn is_in_slot() -> Self {
         Self::InSlot(None)
     }
@@ -164,14 +147,8 @@ impl ActionConstraint {
     ///
     /// The original has no such function.
     ///
-    /// ```
-    /// # use cedar_store::{ast::*, entities::*};
-    /// # fn uid(text: &str) -> EntityUID { EntityUID::from_normalized_str(text).unwrap() }
-    /// # use std::sync::Arc;
-    /// let view = Arc::new(uid(r#"Action::"view""#));
-    /// assert_eq!(ActionConstraint::is_eq_slot().to_string(), "action == ?action");
-    /// assert_eq!(ActionConstraint::is_in_slot().with_filled_slot(view).to_string(), r#"action in [Action::"view"]"#);
-    /// ```
+    /// [`Self::is_in_slot`] has an example.
+    #[must_use]
     pub fn is_eq_slot() -> Self {
         Self::EqSlot(None)
     }
@@ -183,14 +160,8 @@ impl ActionConstraint {
     ///
     /// The original has no such function.
     ///
-    /// ```
-    /// # use cedar_store::{ast::*, entities::*};
-    /// # fn uid(text: &str) -> EntityUID { EntityUID::from_normalized_str(text).unwrap() }
-    /// # use std::sync::Arc;
-    /// let view = Arc::new(uid(r#"Action::"view""#));
-    /// assert_eq!(ActionConstraint::is_eq_slot().to_string(), "action == ?action");
-    /// assert_eq!(ActionConstraint::is_in_slot().with_filled_slot(view).to_string(), r#"action in [Action::"view"]"#);
-    /// ```
+    /// [`Self::is_in_slot`] has an example.
+    #[must_use]
     pub fn with_filled_slot(self, euid: Arc<EntityUID>) -> Self {
         match self {
             Self::InSlot(_) => {
@@ -210,19 +181,8 @@ impl ActionConstraint {
     ///
     /// O(n), where n is the number of uids. Allocates O(n).
     ///
-    /// ```
-    /// # use cedar_store::{ast::*, entities::*};
-    /// # fn uid(text: &str) -> EntityUID { EntityUID::from_normalized_str(text).unwrap() }
-    /// let (view, edit) = (uid(r#"Action::"view""#), uid(r#"Photos::Action::"edit""#));
-    /// assert_eq!(ActionConstraint::any().to_string(), "action");
-    /// assert_eq!(ActionConstraint::is_eq(view.clone()).to_string(), r#"action == Action::"view""#);
-    /// let both = ActionConstraint::is_in([view.clone(), edit.clone()]);
-    /// assert_eq!(both.to_string(), r#"action in [Action::"view",Photos::Action::"edit"]"#);
-    /// assert_eq!(both.as_expr().to_string(), r#"action in [Action::"view", Photos::Action::"edit"]"#);
-    /// // a list is iterated from its end
-    /// assert_eq!(both.iter_euids().collect::<Vec<_>>(), [&edit, &view]);
-    /// assert_eq!(both.iter_entity_type_names().count(), 2);
-    /// ```
+    /// [`Self::any`] has an example.
+    #[must_use]
     pub fn as_expr(&self) -> Expr {
         match self {
             Self::Any => Expr::val(Literal::Bool(true)),
@@ -243,19 +203,8 @@ impl ActionConstraint {
     ///
     /// Allocates a list of references if the constraint has a list of uids. Else it does not allocate.
     ///
-    /// ```
-    /// # use cedar_store::{ast::*, entities::*};
-    /// # fn uid(text: &str) -> EntityUID { EntityUID::from_normalized_str(text).unwrap() }
-    /// let (view, edit) = (uid(r#"Action::"view""#), uid(r#"Photos::Action::"edit""#));
-    /// assert_eq!(ActionConstraint::any().to_string(), "action");
-    /// assert_eq!(ActionConstraint::is_eq(view.clone()).to_string(), r#"action == Action::"view""#);
-    /// let both = ActionConstraint::is_in([view.clone(), edit.clone()]);
-    /// assert_eq!(both.to_string(), r#"action in [Action::"view",Photos::Action::"edit"]"#);
-    /// assert_eq!(both.as_expr().to_string(), r#"action in [Action::"view", Photos::Action::"edit"]"#);
-    /// // a list is iterated from its end
-    /// assert_eq!(both.iter_euids().collect::<Vec<_>>(), [&edit, &view]);
-    /// assert_eq!(both.iter_entity_type_names().count(), 2);
-    /// ```
+    /// [`Self::any`] has an example.
+    #[must_use]
     pub fn iter_euids(&self) -> EntityIterator<'_> {
         match self {
             Self::Any => EntityIterator::None,
@@ -271,19 +220,8 @@ impl ActionConstraint {
     ///
     /// As [`ActionConstraint::iter_euids`].
     ///
-    /// ```
-    /// # use cedar_store::{ast::*, entities::*};
-    /// # fn uid(text: &str) -> EntityUID { EntityUID::from_normalized_str(text).unwrap() }
-    /// let (view, edit) = (uid(r#"Action::"view""#), uid(r#"Photos::Action::"edit""#));
-    /// assert_eq!(ActionConstraint::any().to_string(), "action");
-    /// assert_eq!(ActionConstraint::is_eq(view.clone()).to_string(), r#"action == Action::"view""#);
-    /// let both = ActionConstraint::is_in([view.clone(), edit.clone()]);
-    /// assert_eq!(both.to_string(), r#"action in [Action::"view",Photos::Action::"edit"]"#);
-    /// assert_eq!(both.as_expr().to_string(), r#"action in [Action::"view", Photos::Action::"edit"]"#);
-    /// // a list is iterated from its end
-    /// assert_eq!(both.iter_euids().collect::<Vec<_>>(), [&edit, &view]);
-    /// assert_eq!(both.iter_entity_type_names().count(), 2);
-    /// ```
+    /// [`Self::any`] has an example.
+    #[must_use]
     pub fn iter_entity_type_names(&self) -> ActionTypeNames<'_> {
         let euids = self.iter_euids();
         ActionTypeNames::of(euids)
@@ -302,14 +240,15 @@ impl ActionConstraint {
     /// O(n), where n is the number of uids. Allocates only for the error.
     ///
     /// ```
-    /// # use cedar_store::{ast::*, entities::*};
-    /// # fn uid(text: &str) -> EntityUID { EntityUID::from_normalized_str(text).unwrap() }
-    /// let mixed = ActionConstraint::is_in([uid(r#"Action::"view""#), uid(r#"User::"alice""#)]);
+    /// use cedar_store::ast::{ActionConstraint, ActionTypesError};
+    ///
+    /// let mixed = ActionConstraint::is_in([r#"Action::"view""#.parse()?, r#"User::"alice""#.parse()?]);
     /// match mixed.check_action_types() {
-    ///     Err(ActionTypesError::NotActions(uids)) => assert_eq!(*uids.head, uid(r#"User::"alice""#)),
+    ///     Err(ActionTypesError::NotActions(uids)) => assert_eq!(uids.head.to_string(), r#"User::"alice""#),
     ///     Ok(()) => unreachable!("a user is no action"),
     /// }
     /// assert!(ActionConstraint::any().contains_only_action_types().is_ok());
+    /// # Ok::<(), Box<dyn std::error::Error>>(())
     /// ```
     pub fn check_action_types(&self) -> Result<(), ActionTypesError> {
         match self {
@@ -326,16 +265,7 @@ impl ActionConstraint {
     ///
     /// As [`ActionConstraint::check_action_types`]. The constraint is then dropped.
     ///
-    /// ```
-    /// # use cedar_store::{ast::*, entities::*};
-    /// # fn uid(text: &str) -> EntityUID { EntityUID::from_normalized_str(text).unwrap() }
-    /// let mixed = ActionConstraint::is_in([uid(r#"Action::"view""#), uid(r#"User::"alice""#)]);
-    /// match mixed.check_action_types() {
-    ///     Err(ActionTypesError::NotActions(uids)) => assert_eq!(*uids.head, uid(r#"User::"alice""#)),
-    ///     Ok(()) => unreachable!("a user is no action"),
-    /// }
-    /// assert!(ActionConstraint::any().contains_only_action_types().is_ok());
-    /// ```
+    /// [`Self::check_action_types`] has an example.
     pub fn contains_only_action_types(self) -> Result<Self, ActionTypesError> {
         self.check_action_types()?;
         Ok(self)
@@ -357,26 +287,16 @@ impl ActionConstraint {
         match self {
             Self::Any => self.kind().cmp(&other.kind()),
             Self::In(us) => match other {
-                Self::In(vs) => compare_lists(us, vs),
+                Self::In(vs) => us.cmp(vs),
                 _ => self.kind().cmp(&other.kind()),
             },
             Self::Eq(u) => match other {
-                Self::Eq(v) => compare_uids(u, v),
+                Self::Eq(v) => u.cmp(v),
                 _ => self.kind().cmp(&other.kind()),
             },
             Self::InSlot(_) | Self::EqSlot(_) => self.kind().cmp(&other.kind()),
         }
     }
-}
-
-// Compares two lists of uids.
-fn compare_lists(us: &[Arc<EntityUID>], vs: &[Arc<EntityUID>]) -> Ordering {
-    us.cmp(vs)
-}
-
-// Compares two uids, as lists of one uid.
-fn compare_uids(u: &EntityUID, v: &EntityUID) -> Ordering {
-    u.cmp(v)
 }
 
 fn shared(euids: impl IntoIterator<Item = EntityUID>) -> Vec<Arc<EntityUID>> {

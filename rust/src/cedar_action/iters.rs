@@ -32,7 +32,7 @@ impl<'a> Iterator for EntityIterator<'a> {
                 *self = Self::None;
                 Some(euid)
             }
-            Self::Bunch(euids) => pop_last(euids),
+            Self::Bunch(euids) => euids.pop(),
         }
     }
 
@@ -49,11 +49,6 @@ impl<'a> Iterator for EntityIterator<'a> {
 impl ExactSizeIterator for EntityIterator<'_> {}
 
 impl FusedIterator for EntityIterator<'_> {}
-
-// Removes the last uid and returns it.
-fn pop_last<'a>(euids: &mut Vec<&'a EntityUID>) -> Option<&'a EntityUID> {
-    euids.pop()
-}
 
 /// An iterator over the types of the uids of an action constraint, in the order of [`EntityIterator`].
 #[derive(Clone, Debug)]

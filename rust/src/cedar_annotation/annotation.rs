@@ -32,10 +32,12 @@ impl Annotation {
     /// Creates an annotation with this value, or with the empty text for `None`.
     ///
     /// ```
-    /// # use cedar_store::{ast::*, entities::*};
+    /// use cedar_store::ast::Annotation;
+    ///
     /// assert_eq!(Annotation::with_optional_value(Some("x\"y".into()), None).to_string(), r#""x\"y""#);
     /// assert_eq!(Annotation::with_optional_value(None, None).as_ref(), "");
     /// ```
+    #[must_use]
     pub fn with_optional_value(val: Option<String>, loc: Option<Loc>) -> Self {
         match val {
             Some(val) => Self { val, loc },
@@ -91,7 +93,7 @@ impl fmt::Display for Annotation {
 /// Equality, order and hash use the pairs in ascending order of their keys, and ignore locations. `clone` allocates in
 /// proportion to the content. `Display` writes a line `@key("value")` for each pair, by key. A value that is not ASCII
 /// is written as by `str::escape_debug`. Writing does not allocate.
-#[derive(Clone)]
+#[derive(Clone, PartialEq, Eq)]
 pub struct Annotations {
     pairs: BTreeMap<AnyId, Annotation>,
 }
@@ -100,7 +102,8 @@ impl Annotations {
     /// Creates an empty map. Does not allocate.
     ///
     /// ```
-    /// # use cedar_store::{ast::*, entities::*};
+    /// use cedar_store::ast::{Annotation, Annotations, AnyId};
+    ///
     /// assert!(Annotations::new().is_empty());
     /// let pair = |key, value: &str| {
     ///     let key = AnyId::from_normalized_str(key).unwrap();
@@ -113,6 +116,7 @@ impl Annotations {
     /// assert_eq!(all.iter().count(), 2);
     /// # Ok::<(), Box<dyn std::error::Error>>(())
     /// ```
+    #[must_use]
     pub fn new() -> Self {
         Self { pairs: BTreeMap::new() }
     }
@@ -123,22 +127,10 @@ impl Annotations {
     ///
     /// One lookup for each pair. Allocates O(n), where n is the length of the list.
     ///
-    /// ```
-    /// # use cedar_store::{ast::*, entities::*};
-    /// assert!(Annotations::new().is_empty());
-    /// let pair = |key, value: &str| {
-    ///     let key = AnyId::from_normalized_str(key).unwrap();
-    ///     (key, Annotation::with_optional_value(Some(value.into()), None))
-    /// };
-    /// let all = Annotations::try_from_iter([pair("id", "one"), pair("advice", "ask"), pair("id", "two")]);
-    /// // ordered by key; if a key is repeated, the last value is used
-    /// assert_eq!(all.to_string(), "@advice(\"ask\")\n@id(\"two\")\n");
-    /// assert_eq!(all.get(&AnyId::from_normalized_str("id")?).map(AsRef::as_ref), Some("two"));
-    /// assert_eq!(all.iter().count(), 2);
-    /// # Ok::<(), Box<dyn std::error::Error>>(())
-    /// ```
+    /// [`Self::new`] has an example.
+    #[must_use]
     pub fn try_from_iter(pairs: impl IntoIterator<Item = (AnyId, Annotation)>) -> Self {
-        let pairs = collected(pairs);
+        let pairs = pairs.into_iter().collect();
         Self { pairs }
     }
 
@@ -148,40 +140,16 @@ impl Annotations {
     ///
     /// O(log n), where n is the number of annotations. Does not allocate.
     ///
-    /// ```
-    /// # use cedar_store::{ast::*, entities::*};
-    /// assert!(Annotations::new().is_empty());
-    /// let pair = |key, value: &str| {
-    ///     let key = AnyId::from_normalized_str(key).unwrap();
-    ///     (key, Annotation::with_optional_value(Some(value.into()), None))
-    /// };
-    /// let all = Annotations::try_from_iter([pair("id", "one"), pair("advice", "ask"), pair("id", "two")]);
-    /// // ordered by key; if a key is repeated, the last value is used
-    /// assert_eq!(all.to_string(), "@advice(\"ask\")\n@id(\"two\")\n");
-    /// assert_eq!(all.get(&AnyId::from_normalized_str("id")?).map(AsRef::as_ref), Some("two"));
-    /// assert_eq!(all.iter().count(), 2);
-    /// # Ok::<(), Box<dyn std::error::Error>>(())
-    /// ```
+    /// [`Self::new`] has an example.
+    #[must_use]
     pub fn get(&self, key: &AnyId) -> Option<&Annotation> {
         self.pairs.get(key)
     }
 
     /// Iterates over the annotations with their keys, in ascending order of the keys. Does not allocate.
     ///
-    /// ```
-    /// # use cedar_store::{ast::*, entities::*};
-    /// assert!(Annotations::new().is_empty());
-    /// let pair = |key, value: &str| {
-    ///     let key = AnyId::from_normalized_str(key).unwrap();
-    ///     (key, Annotation::with_optional_value(Some(value.into()), None))
-    /// };
-    /// let all = Annotations::try_from_iter([pair("id", "one"), pair("advice", "ask"), pair("id", "two")]);
-    /// // ordered by key; if a key is repeated, the last value is used
-    /// assert_eq!(all.to_string(), "@advice(\"ask\")\n@id(\"two\")\n");
-    /// assert_eq!(all.get(&AnyId::from_normalized_str("id")?).map(AsRef::as_ref), Some("two"));
-    /// assert_eq!(all.iter().count(), 2);
-    /// # Ok::<(), Box<dyn std::error::Error>>(())
-    /// ```
+    /// [`Self::new`] has an example.
+    #[must_use]
     pub fn iter(&self) -> Iter<'_> {
         Iter {
             inner: self.pairs.iter(),
@@ -190,28 +158,11 @@ impl Annotations {
 
     /// Returns whether there are no annotations. Does not allocate.
     ///
-    /// ```
-    /// # use cedar_store::{ast::*, entities::*};
-    /// assert!(Annotations::new().is_empty());
-    /// let pair = |key, value: &str| {
-    ///     let key = AnyId::from_normalized_str(key).unwrap();
-    ///     (key, Annotation::with_optional_value(Some(value.into()), None))
-    /// };
-    /// let all = Annotations::try_from_iter([pair("id", "one"), pair("advice", "ask"), pair("id", "two")]);
-    /// // ordered by key; if a key is repeated, the last value is used
-    /// assert_eq!(all.to_string(), "@advice(\"ask\")\n@id(\"two\")\n");
-    /// assert_eq!(all.get(&AnyId::from_normalized_str("id")?).map(AsRef::as_ref), Some("two"));
-    /// assert_eq!(all.iter().count(), 2);
-    /// # Ok::<(), Box<dyn std::error::Error>>(())
-    /// ```
+    /// [`Self::new`] has an example.
+    #[must_use]
     pub fn is_empty(&self) -> bool {
         self.pairs.is_empty()
     }
-}
-
-// Returns the map of some pairs. The last value of a key is kept.
-fn collected(pairs: impl IntoIterator<Item = (AnyId, Annotation)>) -> BTreeMap<AnyId, Annotation> {
-    pairs.into_iter().collect()
 }
 
 impl From<BTreeMap<AnyId, Annotation>> for Annotations {
@@ -276,14 +227,6 @@ impl Iterator for IntoIter {
 impl ExactSizeIterator for IntoIter {}
 
 impl FusedIterator for IntoIter {}
-
-impl PartialEq for Annotations {
-    fn eq(&self, other: &Self) -> bool {
-        self.pairs == other.pairs
-    }
-}
-
-impl Eq for Annotations {}
 
 impl PartialOrd for Annotations {
     fn partial_cmp(&self, other: &Self) -> Option<Ordering> {

@@ -23,7 +23,7 @@ use crate::cedar_terms::slot::{Slot, SlotId};
 pub fn check_bindings(slots: &[Slot], values: &SlotEnv) -> Result<(), LinkingError> {
     let unbound_values = unbound(slots, values);
     let extra_values = extra(slots, values);
-    if !are_empty(&unbound_values, &extra_values) {
+    if !unbound_values.is_empty() || !extra_values.is_empty() {
         return Err(LinkingError::ArityError {
             unbound_values,
             extra_values,
@@ -33,11 +33,6 @@ pub fn check_bindings(slots: &[Slot], values: &SlotEnv) -> Result<(), LinkingErr
         None => Ok(()),
         Some(uid) => Err(LinkingError::NotAnAction { uid: uid.clone() }),
     }
-}
-
-// Returns whether one of the slots has this id.
-fn has_slot(slots: &[Slot], id: SlotId) -> bool {
-    slots.iter().any(|slot| id == slot.id)
 }
 
 // Returns the slots that are not bound.
@@ -53,7 +48,7 @@ fn unbound(slots: &[Slot], values: &SlotEnv) -> Vec<SlotId> {
 
 // Returns whether an id is bound but is not one of the slots.
 fn is_extra(slots: &[Slot], values: &SlotEnv, id: SlotId) -> bool {
-    !has_slot(slots, id) && is_bound(values, id)
+    !slots.iter().any(|slot| id == slot.id) && is_bound(values, id)
 }
 
 // Returns the bound ids that are not among the slots.
@@ -74,9 +69,4 @@ fn wrong_action(values: &SlotEnv) -> Option<&EntityUID> {
         return None;
     }
     Some(uid)
-}
-
-// Returns whether both lists are empty.
-fn are_empty(unbound: &[SlotId], extra: &[SlotId]) -> bool {
-    unbound.is_empty() && extra.is_empty()
 }

@@ -91,10 +91,5 @@ fn write_next(others: bool, id: SlotId, uid: &EntityUID, f: &mut fmt::Formatter<
     if others {
         f.write_str(",")?;
     }
-    write_binding(id, uid, f)
-}
-
-// Writes one binding.
-fn write_binding(id: SlotId, uid: &EntityUID, f: &mut fmt::Formatter<'_>) -> fmt::Result {
     write!(f, "{id} -> {uid}")
 }

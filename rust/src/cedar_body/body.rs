@@ -21,7 +21,7 @@ use std::sync::Arc;
 ///
 /// Equality and hash use all parts except locations, and do not allocate. `clone` allocates for the id and for a list
 /// of actions, and shares the rest.
-#[derive(Debug)]
+#[derive(Clone, Debug)]
 pub struct TemplateBodyImpl {
     id: PolicyID,
     loc: Option<Loc>,
@@ -49,12 +49,6 @@ impl TemplateBodyImpl {
     }
 }
 
-impl Clone for TemplateBodyImpl {
-    fn clone(&self) -> Self {
-        self.with_id(self.id.clone())
-    }
-}
-
 /// The body of a policy or template. The body of a static policy has no slots.
 ///
 /// Equality and hash use the id, the annotations, the effect, the three constraints and the clause. They ignore
@@ -69,7 +63,7 @@ impl Clone for TemplateBodyImpl {
 /// - `;` if there is no clause, else ` when {`, the clause on its own line, and `};`.
 ///
 /// Text that is not ASCII is written as by `str::escape_debug`. Writing does not allocate.
-#[derive(Debug)]
+#[derive(Clone, Debug, PartialEq, Eq)]
 pub enum TemplateBody {
     /// The body with these parts.
     TemplateBody(TemplateBodyImpl),
@@ -79,7 +73,11 @@ impl TemplateBody {
     /// Creates a body from its parts. Moves the annotations and the clause into shared pointers.
     ///
     /// ```
-    /// # use cedar_store::{ast::*, entities::*};
+    /// use cedar_store::ast::{
+    ///     ActionConstraint, Annotations, AnyId, Effect, PolicyID, PrincipalConstraint, ResourceConstraint,
+    ///     TemplateBody,
+    /// };
+    ///
     /// let body = TemplateBody::new(
     ///     PolicyID::from_string("t"),
     ///     None,
@@ -96,6 +94,7 @@ impl TemplateBody {
     /// assert_eq!(body.new_id(PolicyID::from_string("u")).id().as_ref(), "u");
     /// # Ok::<(), Box<dyn std::error::Error>>(())
     /// ```
+    #[must_use]
     pub fn new(
         id: PolicyID,
         loc: Option<Loc>,
@@ -107,7 +106,7 @@ impl TemplateBody {
         non_scope_constraints: Option<Expr>,
     ) -> Self {
         let annotations = Arc::new(annotations);
-        let non_scope_constraints = shared_clause(non_scope_constraints);
+        let non_scope_constraints = non_scope_constraints.map(Arc::new);
         Self::new_shared(
             id,
             loc,
@@ -123,8 +122,12 @@ impl TemplateBody {
     /// Creates a body from its parts, with annotations and clause that are already shared. Does not allocate.
     ///
     /// ```
-    /// # use cedar_store::{ast::*, entities::*};
-    /// # use std::sync::Arc;
+    /// use cedar_store::ast::{
+    ///     ActionConstraint, Annotations, Effect, Expr, PolicyID, PrincipalConstraint, ResourceConstraint,
+    ///     TemplateBody,
+    /// };
+    /// use std::sync::Arc;
+    ///
     /// let clause = Arc::new(Expr::val(true));
     /// let body = TemplateBody::new_shared(
     ///     PolicyID::from_string("t"),
@@ -143,6 +146,7 @@ impl TemplateBody {
     /// assert_eq!(body.non_scope_constraints(), body.non_scope_constraints_arc().map(|clause| &**clause));
     /// assert_eq!(body.condition().to_string(), "(principal == ?principal) && (true && (true && true))");
     /// ```
+    #[must_use]
     pub fn new_shared(
         id: PolicyID,
         loc: Option<Loc>,
@@ -167,24 +171,8 @@ impl TemplateBody {
 
     /// Returns the id. Does not allocate.
     ///
-    /// ```
-    /// # use cedar_store::{ast::*, entities::*};
-    /// let body = TemplateBody::new(
-    ///     PolicyID::from_string("t"),
-    ///     None,
-    ///     Annotations::new(),
-    ///     Effect::Forbid,
-    ///     PrincipalConstraint::any(),
-    ///     ActionConstraint::any(),
-    ///     ResourceConstraint::any(),
-    ///     None,
-    /// );
-    /// assert_eq!((body.id().as_ref(), body.effect()), ("t", Effect::Forbid));
-    /// assert!(body.loc().is_none() && body.annotation(&AnyId::from_normalized_str("id")?).is_none());
-    /// assert_eq!((body.annotations().count(), body.annotations_arc().is_empty()), (0, true));
-    /// assert_eq!(body.new_id(PolicyID::from_string("u")).id().as_ref(), "u");
-    /// # Ok::<(), Box<dyn std::error::Error>>(())
-    /// ```
+    /// [`Self::new`] has an example.
+    #[must_use]
     pub fn id(&self) -> &PolicyID {
         let Self::TemplateBody(body) = self;
         &body.id
@@ -192,24 +180,8 @@ impl TemplateBody {
 
     /// Returns the location of the whole policy, if it is known. Does not allocate.
     ///
-    /// ```
-    /// # use cedar_store::{ast::*, entities::*};
-    /// let body = TemplateBody::new(
-    ///     PolicyID::from_string("t"),
-    ///     None,
-    ///     Annotations::new(),
-    ///     Effect::Forbid,
-    ///     PrincipalConstraint::any(),
-    ///     ActionConstraint::any(),
-    ///     ResourceConstraint::any(),
-    ///     None,
-    /// );
-    /// assert_eq!((body.id().as_ref(), body.effect()), ("t", Effect::Forbid));
-    /// assert!(body.loc().is_none() && body.annotation(&AnyId::from_normalized_str("id")?).is_none());
-    /// assert_eq!((body.annotations().count(), body.annotations_arc().is_empty()), (0, true));
-    /// assert_eq!(body.new_id(PolicyID::from_string("u")).id().as_ref(), "u");
-    /// # Ok::<(), Box<dyn std::error::Error>>(())
-    /// ```
+    /// [`Self::new`] has an example.
+    #[must_use]
     pub fn loc(&self) -> Option<&Loc> {
         let Self::TemplateBody(body) = self;
         body.loc.as_ref()
@@ -221,24 +193,8 @@ impl TemplateBody {
     ///
     /// Allocates as `clone` does, except for the id.
     ///
-    /// ```
-    /// # use cedar_store::{ast::*, entities::*};
-    /// let body = TemplateBody::new(
-    ///     PolicyID::from_string("t"),
-    ///     None,
-    ///     Annotations::new(),
-    ///     Effect::Forbid,
-    ///     PrincipalConstraint::any(),
-    ///     ActionConstraint::any(),
-    ///     ResourceConstraint::any(),
-    ///     None,
-    /// );
-    /// assert_eq!((body.id().as_ref(), body.effect()), ("t", Effect::Forbid));
-    /// assert!(body.loc().is_none() && body.annotation(&AnyId::from_normalized_str("id")?).is_none());
-    /// assert_eq!((body.annotations().count(), body.annotations_arc().is_empty()), (0, true));
-    /// assert_eq!(body.new_id(PolicyID::from_string("u")).id().as_ref(), "u");
-    /// # Ok::<(), Box<dyn std::error::Error>>(())
-    /// ```
+    /// [`Self::new`] has an example.
+    #[must_use]
     pub fn new_id(&self, id: PolicyID) -> Self {
         let Self::TemplateBody(body) = self;
         Self::TemplateBody(body.with_id(id))
@@ -246,24 +202,8 @@ impl TemplateBody {
 
     /// Returns the effect. Does not allocate.
     ///
-    /// ```
-    /// # use cedar_store::{ast::*, entities::*};
-    /// let body = TemplateBody::new(
-    ///     PolicyID::from_string("t"),
-    ///     None,
-    ///     Annotations::new(),
-    ///     Effect::Forbid,
-    ///     PrincipalConstraint::any(),
-    ///     ActionConstraint::any(),
-    ///     ResourceConstraint::any(),
-    ///     None,
-    /// );
-    /// assert_eq!((body.id().as_ref(), body.effect()), ("t", Effect::Forbid));
-    /// assert!(body.loc().is_none() && body.annotation(&AnyId::from_normalized_str("id")?).is_none());
-    /// assert_eq!((body.annotations().count(), body.annotations_arc().is_empty()), (0, true));
-    /// assert_eq!(body.new_id(PolicyID::from_string("u")).id().as_ref(), "u");
-    /// # Ok::<(), Box<dyn std::error::Error>>(())
-    /// ```
+    /// [`Self::new`] has an example.
+    #[must_use]
     pub fn effect(&self) -> Effect {
         let Self::TemplateBody(body) = self;
         body.effect
@@ -275,24 +215,8 @@ impl TemplateBody {
     ///
     /// O(log n), where n is the number of annotations.
     ///
-    /// ```
-    /// # use cedar_store::{ast::*, entities::*};
-    /// let body = TemplateBody::new(
-    ///     PolicyID::from_string("t"),
-    ///     None,
-    ///     Annotations::new(),
-    ///     Effect::Forbid,
-    ///     PrincipalConstraint::any(),
-    ///     ActionConstraint::any(),
-    ///     ResourceConstraint::any(),
-    ///     None,
-    /// );
-    /// assert_eq!((body.id().as_ref(), body.effect()), ("t", Effect::Forbid));
-    /// assert!(body.loc().is_none() && body.annotation(&AnyId::from_normalized_str("id")?).is_none());
-    /// assert_eq!((body.annotations().count(), body.annotations_arc().is_empty()), (0, true));
-    /// assert_eq!(body.new_id(PolicyID::from_string("u")).id().as_ref(), "u");
-    /// # Ok::<(), Box<dyn std::error::Error>>(())
-    /// ```
+    /// [`Self::new`] has an example.
+    #[must_use]
     pub fn annotation(&self, key: &AnyId) -> Option<&Annotation> {
         let Self::TemplateBody(body) = self;
         body.annotations.get(key)
@@ -300,24 +224,8 @@ impl TemplateBody {
 
     /// Iterates over the annotations with their keys, in ascending order of the keys. Does not allocate.
     ///
-    /// ```
-    /// # use cedar_store::{ast::*, entities::*};
-    /// let body = TemplateBody::new(
-    ///     PolicyID::from_string("t"),
-    ///     None,
-    ///     Annotations::new(),
-    ///     Effect::Forbid,
-    ///     PrincipalConstraint::any(),
-    ///     ActionConstraint::any(),
-    ///     ResourceConstraint::any(),
-    ///     None,
-    /// );
-    /// assert_eq!((body.id().as_ref(), body.effect()), ("t", Effect::Forbid));
-    /// assert!(body.loc().is_none() && body.annotation(&AnyId::from_normalized_str("id")?).is_none());
-    /// assert_eq!((body.annotations().count(), body.annotations_arc().is_empty()), (0, true));
-    /// assert_eq!(body.new_id(PolicyID::from_string("u")).id().as_ref(), "u");
-    /// # Ok::<(), Box<dyn std::error::Error>>(())
-    /// ```
+    /// [`Self::new`] has an example.
+    #[must_use]
     pub fn annotations(&self) -> Iter<'_> {
         let Self::TemplateBody(body) = self;
         body.annotations.iter()
@@ -325,24 +233,8 @@ impl TemplateBody {
 
     /// Returns the shared annotations. Does not allocate.
     ///
-    /// ```
-    /// # use cedar_store::{ast::*, entities::*};
-    /// let body = TemplateBody::new(
-    ///     PolicyID::from_string("t"),
-    ///     None,
-    ///     Annotations::new(),
-    ///     Effect::Forbid,
-    ///     PrincipalConstraint::any(),
-    ///     ActionConstraint::any(),
-    ///     ResourceConstraint::any(),
-    ///     None,
-    /// );
-    /// assert_eq!((body.id().as_ref(), body.effect()), ("t", Effect::Forbid));
-    /// assert!(body.loc().is_none() && body.annotation(&AnyId::from_normalized_str("id")?).is_none());
-    /// assert_eq!((body.annotations().count(), body.annotations_arc().is_empty()), (0, true));
-    /// assert_eq!(body.new_id(PolicyID::from_string("u")).id().as_ref(), "u");
-    /// # Ok::<(), Box<dyn std::error::Error>>(())
-    /// ```
+    /// [`Self::new`] has an example.
+    #[must_use]
     pub fn annotations_arc(&self) -> &Arc<Annotations> {
         let Self::TemplateBody(body) = self;
         &body.annotations
@@ -350,27 +242,8 @@ impl TemplateBody {
 
     /// Returns the constraint on the principal. Does not allocate.
     ///
-    /// ```
-    /// # use cedar_store::{ast::*, entities::*};
-    /// # use std::sync::Arc;
-    /// let clause = Arc::new(Expr::val(true));
-    /// let body = TemplateBody::new_shared(
-    ///     PolicyID::from_string("t"),
-    ///     None,
-    ///     Arc::new(Annotations::new()),
-    ///     Effect::Permit,
-    ///     PrincipalConstraint::is_eq_slot(),
-    ///     ActionConstraint::any(),
-    ///     ResourceConstraint::any(),
-    ///     Some(Arc::clone(&clause)),
-    /// );
-    /// assert_eq!(body.principal_constraint(), &PrincipalConstraint::is_eq_slot());
-    /// assert_eq!(body.principal_constraint_expr().to_string(), "principal == ?principal");
-    /// assert_eq!((body.action_constraint(), body.action_constraint_expr()), (&ActionConstraint::Any, Expr::val(true)));
-    /// assert_eq!(body.resource_constraint_expr(), body.resource_constraint().as_expr());
-    /// assert_eq!(body.non_scope_constraints(), body.non_scope_constraints_arc().map(|clause| &**clause));
-    /// assert_eq!(body.condition().to_string(), "(principal == ?principal) && (true && (true && true))");
-    /// ```
+    /// [`Self::new_shared`] has an example.
+    #[must_use]
     pub fn principal_constraint(&self) -> &PrincipalConstraint {
         let Self::TemplateBody(body) = self;
         &body.principal_constraint
@@ -378,54 +251,16 @@ impl TemplateBody {
 
     /// Returns the constraint on the principal as an expression, as `PrincipalConstraint::as_expr` does.
     ///
-    /// ```
-    /// # use cedar_store::{ast::*, entities::*};
-    /// # use std::sync::Arc;
-    /// let clause = Arc::new(Expr::val(true));
-    /// let body = TemplateBody::new_shared(
-    ///     PolicyID::from_string("t"),
-    ///     None,
-    ///     Arc::new(Annotations::new()),
-    ///     Effect::Permit,
-    ///     PrincipalConstraint::is_eq_slot(),
-    ///     ActionConstraint::any(),
-    ///     ResourceConstraint::any(),
-    ///     Some(Arc::clone(&clause)),
-    /// );
-    /// assert_eq!(body.principal_constraint(), &PrincipalConstraint::is_eq_slot());
-    /// assert_eq!(body.principal_constraint_expr().to_string(), "principal == ?principal");
-    /// assert_eq!((body.action_constraint(), body.action_constraint_expr()), (&ActionConstraint::Any, Expr::val(true)));
-    /// assert_eq!(body.resource_constraint_expr(), body.resource_constraint().as_expr());
-    /// assert_eq!(body.non_scope_constraints(), body.non_scope_constraints_arc().map(|clause| &**clause));
-    /// assert_eq!(body.condition().to_string(), "(principal == ?principal) && (true && (true && true))");
-    /// ```
+    /// [`Self::new_shared`] has an example.
+    #[must_use]
     pub fn principal_constraint_expr(&self) -> Expr {
         self.principal_constraint().as_expr()
     }
 
     /// Returns the constraint on the action. Does not allocate.
     ///
-    /// ```
-    /// # use cedar_store::{ast::*, entities::*};
-    /// # use std::sync::Arc;
-    /// let clause = Arc::new(Expr::val(true));
-    /// let body = TemplateBody::new_shared(
-    ///     PolicyID::from_string("t"),
-    ///     None,
-    ///     Arc::new(Annotations::new()),
-    ///     Effect::Permit,
-    ///     PrincipalConstraint::is_eq_slot(),
-    ///     ActionConstraint::any(),
-    ///     ResourceConstraint::any(),
-    ///     Some(Arc::clone(&clause)),
-    /// );
-    /// assert_eq!(body.principal_constraint(), &PrincipalConstraint::is_eq_slot());
-    /// assert_eq!(body.principal_constraint_expr().to_string(), "principal == ?principal");
-    /// assert_eq!((body.action_constraint(), body.action_constraint_expr()), (&ActionConstraint::Any, Expr::val(true)));
-    /// assert_eq!(body.resource_constraint_expr(), body.resource_constraint().as_expr());
-    /// assert_eq!(body.non_scope_constraints(), body.non_scope_constraints_arc().map(|clause| &**clause));
-    /// assert_eq!(body.condition().to_string(), "(principal == ?principal) && (true && (true && true))");
-    /// ```
+    /// [`Self::new_shared`] has an example.
+    #[must_use]
     pub fn action_constraint(&self) -> &ActionConstraint {
         let Self::TemplateBody(body) = self;
         &body.action_constraint
@@ -433,54 +268,16 @@ impl TemplateBody {
 
     /// Returns the constraint on the action as an expression, as `ActionConstraint::as_expr` does.
     ///
-    /// ```
-    /// # use cedar_store::{ast::*, entities::*};
-    /// # use std::sync::Arc;
-    /// let clause = Arc::new(Expr::val(true));
-    /// let body = TemplateBody::new_shared(
-    ///     PolicyID::from_string("t"),
-    ///     None,
-    ///     Arc::new(Annotations::new()),
-    ///     Effect::Permit,
-    ///     PrincipalConstraint::is_eq_slot(),
-    ///     ActionConstraint::any(),
-    ///     ResourceConstraint::any(),
-    ///     Some(Arc::clone(&clause)),
-    /// );
-    /// assert_eq!(body.principal_constraint(), &PrincipalConstraint::is_eq_slot());
-    /// assert_eq!(body.principal_constraint_expr().to_string(), "principal == ?principal");
-    /// assert_eq!((body.action_constraint(), body.action_constraint_expr()), (&ActionConstraint::Any, Expr::val(true)));
-    /// assert_eq!(body.resource_constraint_expr(), body.resource_constraint().as_expr());
-    /// assert_eq!(body.non_scope_constraints(), body.non_scope_constraints_arc().map(|clause| &**clause));
-    /// assert_eq!(body.condition().to_string(), "(principal == ?principal) && (true && (true && true))");
-    /// ```
+    /// [`Self::new_shared`] has an example.
+    #[must_use]
     pub fn action_constraint_expr(&self) -> Expr {
         self.action_constraint().as_expr()
     }
 
     /// Returns the constraint on the resource. Does not allocate.
     ///
-    /// ```
-    /// # use cedar_store::{ast::*, entities::*};
-    /// # use std::sync::Arc;
-    /// let clause = Arc::new(Expr::val(true));
-    /// let body = TemplateBody::new_shared(
-    ///     PolicyID::from_string("t"),
-    ///     None,
-    ///     Arc::new(Annotations::new()),
-    ///     Effect::Permit,
-    ///     PrincipalConstraint::is_eq_slot(),
-    ///     ActionConstraint::any(),
-    ///     ResourceConstraint::any(),
-    ///     Some(Arc::clone(&clause)),
-    /// );
-    /// assert_eq!(body.principal_constraint(), &PrincipalConstraint::is_eq_slot());
-    /// assert_eq!(body.principal_constraint_expr().to_string(), "principal == ?principal");
-    /// assert_eq!((body.action_constraint(), body.action_constraint_expr()), (&ActionConstraint::Any, Expr::val(true)));
-    /// assert_eq!(body.resource_constraint_expr(), body.resource_constraint().as_expr());
-    /// assert_eq!(body.non_scope_constraints(), body.non_scope_constraints_arc().map(|clause| &**clause));
-    /// assert_eq!(body.condition().to_string(), "(principal == ?principal) && (true && (true && true))");
-    /// ```
+    /// [`Self::new_shared`] has an example.
+    #[must_use]
     pub fn resource_constraint(&self) -> &ResourceConstraint {
         let Self::TemplateBody(body) = self;
         &body.resource_constraint
@@ -488,81 +285,24 @@ impl TemplateBody {
 
     /// Returns the constraint on the resource as an expression, as `ResourceConstraint::as_expr` does.
     ///
-    /// ```
-    /// # use cedar_store::{ast::*, entities::*};
-    /// # use std::sync::Arc;
-    /// let clause = Arc::new(Expr::val(true));
-    /// let body = TemplateBody::new_shared(
-    ///     PolicyID::from_string("t"),
-    ///     None,
-    ///     Arc::new(Annotations::new()),
-    ///     Effect::Permit,
-    ///     PrincipalConstraint::is_eq_slot(),
-    ///     ActionConstraint::any(),
-    ///     ResourceConstraint::any(),
-    ///     Some(Arc::clone(&clause)),
-    /// );
-    /// assert_eq!(body.principal_constraint(), &PrincipalConstraint::is_eq_slot());
-    /// assert_eq!(body.principal_constraint_expr().to_string(), "principal == ?principal");
-    /// assert_eq!((body.action_constraint(), body.action_constraint_expr()), (&ActionConstraint::Any, Expr::val(true)));
-    /// assert_eq!(body.resource_constraint_expr(), body.resource_constraint().as_expr());
-    /// assert_eq!(body.non_scope_constraints(), body.non_scope_constraints_arc().map(|clause| &**clause));
-    /// assert_eq!(body.condition().to_string(), "(principal == ?principal) && (true && (true && true))");
-    /// ```
+    /// [`Self::new_shared`] has an example.
+    #[must_use]
     pub fn resource_constraint_expr(&self) -> Expr {
         self.resource_constraint().as_expr()
     }
 
     /// Returns the clause, if there is one. Does not allocate.
     ///
-    /// ```
-    /// # use cedar_store::{ast::*, entities::*};
-    /// # use std::sync::Arc;
-    /// let clause = Arc::new(Expr::val(true));
-    /// let body = TemplateBody::new_shared(
-    ///     PolicyID::from_string("t"),
-    ///     None,
-    ///     Arc::new(Annotations::new()),
-    ///     Effect::Permit,
-    ///     PrincipalConstraint::is_eq_slot(),
-    ///     ActionConstraint::any(),
-    ///     ResourceConstraint::any(),
-    ///     Some(Arc::clone(&clause)),
-    /// );
-    /// assert_eq!(body.principal_constraint(), &PrincipalConstraint::is_eq_slot());
-    /// assert_eq!(body.principal_constraint_expr().to_string(), "principal == ?principal");
-    /// assert_eq!((body.action_constraint(), body.action_constraint_expr()), (&ActionConstraint::Any, Expr::val(true)));
-    /// assert_eq!(body.resource_constraint_expr(), body.resource_constraint().as_expr());
-    /// assert_eq!(body.non_scope_constraints(), body.non_scope_constraints_arc().map(|clause| &**clause));
-    /// assert_eq!(body.condition().to_string(), "(principal == ?principal) && (true && (true && true))");
-    /// ```
+    /// [`Self::new_shared`] has an example.
+    #[must_use]
     pub fn non_scope_constraints(&self) -> Option<&Expr> {
         self.non_scope_constraints_arc().map(|clause| &**clause)
     }
 
     /// Returns the shared clause, if there is one. Does not allocate.
     ///
-    /// ```
-    /// # use cedar_store::{ast::*, entities::*};
-    /// # use std::sync::Arc;
-    /// let clause = Arc::new(Expr::val(true));
-    /// let body = TemplateBody::new_shared(
-    ///     PolicyID::from_string("t"),
-    ///     None,
-    ///     Arc::new(Annotations::new()),
-    ///     Effect::Permit,
-    ///     PrincipalConstraint::is_eq_slot(),
-    ///     ActionConstraint::any(),
-    ///     ResourceConstraint::any(),
-    ///     Some(Arc::clone(&clause)),
-    /// );
-    /// assert_eq!(body.principal_constraint(), &PrincipalConstraint::is_eq_slot());
-    /// assert_eq!(body.principal_constraint_expr().to_string(), "principal == ?principal");
-    /// assert_eq!((body.action_constraint(), body.action_constraint_expr()), (&ActionConstraint::Any, Expr::val(true)));
-    /// assert_eq!(body.resource_constraint_expr(), body.resource_constraint().as_expr());
-    /// assert_eq!(body.non_scope_constraints(), body.non_scope_constraints_arc().map(|clause| &**clause));
-    /// assert_eq!(body.condition().to_string(), "(principal == ?principal) && (true && (true && true))");
-    /// ```
+    /// [`Self::new_shared`] has an example.
+    #[must_use]
     pub fn non_scope_constraints_arc(&self) -> Option<&Arc<Expr>> {
         let Self::TemplateBody(body) = self;
         body.non_scope_constraints.as_ref()
@@ -578,27 +318,8 @@ impl TemplateBody {
     ///
     /// O(n), where n is the number of uids in the action constraint. Allocates the new nodes and shares the clause.
     ///
-    /// ```
-    /// # use cedar_store::{ast::*, entities::*};
-    /// # use std::sync::Arc;
-    /// let clause = Arc::new(Expr::val(true));
-    /// let body = TemplateBody::new_shared(
-    ///     PolicyID::from_string("t"),
-    ///     None,
-    ///     Arc::new(Annotations::new()),
-    ///     Effect::Permit,
-    ///     PrincipalConstraint::is_eq_slot(),
-    ///     ActionConstraint::any(),
-    ///     ResourceConstraint::any(),
-    ///     Some(Arc::clone(&clause)),
-    /// );
-    /// assert_eq!(body.principal_constraint(), &PrincipalConstraint::is_eq_slot());
-    /// assert_eq!(body.principal_constraint_expr().to_string(), "principal == ?principal");
-    /// assert_eq!((body.action_constraint(), body.action_constraint_expr()), (&ActionConstraint::Any, Expr::val(true)));
-    /// assert_eq!(body.resource_constraint_expr(), body.resource_constraint().as_expr());
-    /// assert_eq!(body.non_scope_constraints(), body.non_scope_constraints_arc().map(|clause| &**clause));
-    /// assert_eq!(body.condition().to_string(), "(principal == ?principal) && (true && (true && true))");
-    /// ```
+    /// [`Self::new_shared`] has an example.
+    #[must_use]
     pub fn condition(&self) -> Expr {
         let rest = self.clause_expr();
         let rest = self.resource_and(rest);
@@ -640,17 +361,6 @@ impl TemplateBody {
     }
 }
 
-fn shared_clause(clause: Option<Expr>) -> Option<Arc<Expr>> {
-    clause.map(Arc::new)
-}
-
-impl Clone for TemplateBody {
-    fn clone(&self) -> Self {
-        let Self::TemplateBody(body) = self;
-        Self::TemplateBody(body.clone())
-    }
-}
-
 impl PartialEq for TemplateBodyImpl {
     fn eq(&self, other: &Self) -> bool {
         self.id == other.id
@@ -676,16 +386,6 @@ impl Hash for TemplateBodyImpl {
         self.non_scope_constraints.hash(state);
     }
 }
-
-impl PartialEq for TemplateBody {
-    fn eq(&self, other: &Self) -> bool {
-        let Self::TemplateBody(a) = self;
-        let Self::TemplateBody(b) = other;
-        a == b
-    }
-}
-
-impl Eq for TemplateBody {}
 
 impl Hash for TemplateBody {
     fn hash<H: Hasher>(&self, state: &mut H) {

@@ -5,7 +5,7 @@
 use crate::cedar_children::walk::walk;
 use crate::cedar_entity::entity::Entity;
 use crate::cedar_uid_sets::SharedUid;
-use std::collections::{HashMap, HashSet};
+use crate::shared_map::{SharedMap, SharedSet};
 use std::fmt;
 use std::hash::BuildHasher;
 
@@ -18,11 +18,12 @@ use std::hash::BuildHasher;
 /// # Differences from cedar-policy-core
 ///
 /// The original has no such index.
-pub struct Children<S: BuildHasher> {
-    pub(crate) sets: HashMap<SharedUid, HashSet<SharedUid, S>, S>,
+#[derive(Clone)]
+pub struct Children<S> {
+    pub(crate) sets: SharedMap<SharedUid, SharedSet<SharedUid, S>, S>,
 }
 
-impl<S: BuildHasher> fmt::Debug for Children<S> {
+impl<S> fmt::Debug for Children<S> {
     /// Writes the children of each parent, in the order of the map.
     fn fmt(&self, f: &mut fmt::Formatter<'_>) -> fmt::Result {
         f.debug_struct("Children").field("sets", &self.sets).finish()
@@ -33,7 +34,7 @@ impl<S: BuildHasher> Children<S> {
     /// Creates an index without children. It hashes uids with hashers of `hasher`. Does not allocate.
     pub fn with_hasher(hasher: S) -> Self {
         Self {
-            sets: HashMap::with_hasher(hasher),
+            sets: SharedMap::with_hasher(hasher),
         }
     }
 }
@@ -82,7 +83,7 @@ impl<S: BuildHasher + Clone> Children<S> {
 
     // Adds a child to a parent that has no children yet.
     fn insert_first_child(&mut self, parent: &SharedUid, child: &SharedUid) {
-        let mut set = HashSet::with_hasher(self.sets.hasher().clone());
+        let mut set = SharedSet::with_hasher(self.sets.hasher().clone());
         set.insert(child.clone());
         self.sets.insert(parent.clone(), set);
     }
@@ -104,7 +105,7 @@ impl<S: BuildHasher + Clone> Children<S> {
     ///
     /// Looks up each result once, and each again for each of its parents in the result. Allocates in proportion to the
     /// result.
-    pub fn below(&self, uids: &HashSet<SharedUid, S>) -> HashSet<SharedUid, S> {
+    pub fn below(&self, uids: &SharedSet<SharedUid, S>) -> SharedSet<SharedUid, S> {
         walk(&self.sets, uids)
     }
 }

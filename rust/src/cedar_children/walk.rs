@@ -3,11 +3,11 @@
 //! The search for all descendants of some uids.
 
 use crate::cedar_uid_sets::SharedUid;
-use std::collections::{HashMap, HashSet};
+use crate::shared_map::{SharedMap, SharedSet};
 use std::hash::BuildHasher;
 
 // Marks a uid as seen. If it is new, it is also queued, so that its children are visited later.
-fn see<S: BuildHasher>(seen: &mut HashSet<SharedUid, S>, todo: &mut Vec<SharedUid>, uid: &SharedUid) {
+fn see<S: BuildHasher>(seen: &mut SharedSet<SharedUid, S>, todo: &mut Vec<SharedUid>, uid: &SharedUid) {
     if seen.contains(uid) {
         return;
     }
@@ -16,14 +16,18 @@ fn see<S: BuildHasher>(seen: &mut HashSet<SharedUid, S>, todo: &mut Vec<SharedUi
 }
 
 // Marks each of the uids as seen.
-fn see_all<S: BuildHasher>(seen: &mut HashSet<SharedUid, S>, todo: &mut Vec<SharedUid>, uids: &[SharedUid]) {
+fn see_all<S: BuildHasher>(seen: &mut SharedSet<SharedUid, S>, todo: &mut Vec<SharedUid>, uids: &[SharedUid]) {
     for uid in uids {
         see(seen, todo, uid);
     }
 }
 
 // Marks each uid of a set as seen.
-fn see_each<S: BuildHasher>(seen: &mut HashSet<SharedUid, S>, todo: &mut Vec<SharedUid>, uids: &HashSet<SharedUid, S>) {
+fn see_each<S: BuildHasher>(
+    seen: &mut SharedSet<SharedUid, S>,
+    todo: &mut Vec<SharedUid>,
+    uids: &SharedSet<SharedUid, S>,
+) {
     for uid in uids {
         see(seen, todo, uid);
     }
@@ -31,9 +35,9 @@ fn see_each<S: BuildHasher>(seen: &mut HashSet<SharedUid, S>, todo: &mut Vec<Sha
 
 // Marks the children of a uid as seen.
 fn see_children<S: BuildHasher>(
-    seen: &mut HashSet<SharedUid, S>,
+    seen: &mut SharedSet<SharedUid, S>,
     todo: &mut Vec<SharedUid>,
-    sets: &HashMap<SharedUid, HashSet<SharedUid, S>, S>,
+    sets: &SharedMap<SharedUid, SharedSet<SharedUid, S>, S>,
     uid: &SharedUid,
 ) {
     if let Some(set) = sets.get(uid) {
@@ -46,17 +50,17 @@ fn see_children<S: BuildHasher>(
 /// # Complexity
 ///
 /// O(n), where n is the number of uids. Allocates the list.
-pub fn listed<S: BuildHasher>(uids: &HashSet<SharedUid, S>) -> Vec<SharedUid> {
+pub fn listed<S: BuildHasher>(uids: &SharedSet<SharedUid, S>) -> Vec<SharedUid> {
     uids.iter().cloned().collect()
 }
 
 // Returns the uids and all of their descendants.
 pub(crate) fn walk<S: BuildHasher + Clone>(
-    sets: &HashMap<SharedUid, HashSet<SharedUid, S>, S>,
-    uids: &HashSet<SharedUid, S>,
-) -> HashSet<SharedUid, S> {
+    sets: &SharedMap<SharedUid, SharedSet<SharedUid, S>, S>,
+    uids: &SharedSet<SharedUid, S>,
+) -> SharedSet<SharedUid, S> {
     let from = listed(uids);
-    let mut seen = HashSet::with_hasher(uids.hasher().clone());
+    let mut seen = SharedSet::with_hasher(uids.hasher().clone());
     let mut todo = Vec::new();
     see_all(&mut seen, &mut todo, &from);
     while let Some(uid) = todo.pop() {

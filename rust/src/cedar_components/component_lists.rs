@@ -3,7 +3,7 @@
 //! The lists of numbers that the members of each component reach.
 
 use crate::cedar_components::links::{Arcs, make_links};
-use crate::cedar_components::list_order::{Order, SHORT, append_with, ranks, sort_marked};
+use crate::cedar_components::list_order::{Order, SHORT, append_with, is_sorted_from, sort_marked};
 use crate::cedar_components::place_bits::{WORDS, push_words};
 use crate::cedar_components::window_lists::{first_window, set_component};
 
@@ -21,10 +21,12 @@ pub(crate) struct Members<'a> {
     pub(crate) numbers: usize,
 }
 
-// The lists of all components, one after another. The list of component `p` begins at index `start[p]`.
+// The lists of all components, one after another. The list of component `p` begins at index `start[p]`. If `ordered`
+// is true, each list is in the given order.
 pub(crate) struct Lists {
     pub(crate) start: Vec<usize>,
     pub(crate) lists: Vec<usize>,
+    pub(crate) ordered: bool,
 }
 
 // Pushes a number onto the list and marks it.
@@ -104,37 +106,43 @@ fn only_target(p: usize, members: &Members, arcs: &Arcs) -> Option<usize> {
 //   list, which is already in order.
 // - All numbers of the list are close together in the order. The list is built as bits and read from them.
 // - Otherwise the list is collected with marks and then put in order.
-fn append_list(r: &mut Lists, s: &mut Marks, order: &Order, p: usize, members: &Members, arcs: &Arcs) {
+//
+// Returns whether the list is known to be in the given order without a check.
+fn append_list(r: &mut Lists, s: &mut Marks, order: &Order, p: usize, members: &Members, arcs: &Arcs) -> bool {
     if let Some(w) = only_target(p, members, arcs) {
         let below = members.component[w];
-        append_with(&mut r.lists, r.start[below], r.start[below + 1], order, w);
-        return;
+        let ordered = append_with(&mut r.lists, r.start[below], r.start[below + 1], order, w);
+        return ordered;
     }
     let near = first_window(order.places, p, members, arcs);
     let mut words = [0; WORDS];
     if set_component(&mut words, &near, members, r, arcs) {
         push_words(&mut r.lists, order.numbers, near.base, &words);
-        return;
+        return false;
     }
     s.list.clear();
     add_component(s, p, members, r, arcs);
     sort_marked(&mut s.list, &s.stamp, order, p, members.numbers);
     r.lists.extend_from_slice(&s.list);
+    false
+}
+
+// Returns whether the lists are known to be in the given order. The last list begins at index `first`. If it is not
+// `known` to be in order, its places are compared.
+fn keeps_order(r: &Lists, known: bool, places: &[usize], first: usize) -> bool {
+    r.ordered && (known || is_sorted_from(&r.lists, places, first))
 }
 
 // Appends the list of component `p`, and records the index after its end.
 fn add_list(r: &mut Lists, s: &mut Marks, order: &Order, p: usize, members: &Members, arcs: &Arcs) {
-    append_list(r, s, order, p, members, arcs);
+    let first = r.lists.len();
+    let known = append_list(r, s, order, p, members, arcs);
+    r.ordered = keeps_order(r, known, order.places, first);
     r.start.push(r.lists.len());
 }
 
 // Returns the lists of numbers that the members of each component reach, each in the given order.
-pub(crate) fn make_lists(arcs: &Arcs, component: &[usize], order: &[usize], count: usize, n: usize) -> Lists {
-    let places = ranks(order, n);
-    let order = Order {
-        numbers: order,
-        places: &places,
-    };
+pub(crate) fn make_lists(arcs: &Arcs, component: &[usize], order: &Order, count: usize, n: usize) -> Lists {
     let links = make_links(component, count + 1);
     let members = Members {
         component,
@@ -145,6 +153,7 @@ pub(crate) fn make_lists(arcs: &Arcs, component: &[usize], order: &[usize], coun
     let mut r = Lists {
         start: Vec::with_capacity(count + 2),
         lists: Vec::with_capacity(arcs.to.len()),
+        ordered: true,
     };
     r.start.push(0);
     r.start.push(0);
@@ -153,7 +162,7 @@ pub(crate) fn make_lists(arcs: &Arcs, component: &[usize], order: &[usize], coun
         stamp: vec![0; n],
     };
     for q in 0..count {
-        add_list(&mut r, &mut s, &order, q + 1, &members, arcs);
+        add_list(&mut r, &mut s, order, q + 1, &members, arcs);
     }
     r
 }

@@ -5,6 +5,7 @@
 use crate::cedar_components::component_lists::{Lists, make_lists};
 use crate::cedar_components::components::{Searched, make_components};
 use crate::cedar_components::links::{Arcs, make_links};
+use crate::cedar_components::list_order::{Order, ranks};
 use crate::cedar_components::search::finish_order;
 use crate::cedar_components::single::single_components;
 
@@ -27,6 +28,10 @@ pub struct Reached {
     pub start: Vec<usize>,
     /// All lists, one after another.
     pub lists: Vec<usize>,
+    /// The place of each number in the order of the lists.
+    pub places: Vec<usize>,
+    /// Whether each list is known to be in this order.
+    pub ordered: bool,
 }
 
 // Returns the component of each number, from the order in which a search finished them.
@@ -49,7 +54,8 @@ fn components_of<'a>(from: &'a [usize], to: &'a [usize], finished: &'a [usize], 
 }
 
 /// Returns the numbers that each number below `count` reaches over one or more arcs. The arc `k` leads from `from[k]`
-/// to `to[k]`. A number reaches itself only if it is on a cycle. Each list is in the order of `order`.
+/// to `to[k]`. A number reaches itself only if it is on a cycle. Each list is in the order of `order` if the result says
+/// that it is `ordered`.
 ///
 /// The caller must ensure that `from` and `to` have equal lengths and contain only numbers below `count`. `order` must
 /// contain each number below `count` once.
@@ -82,10 +88,17 @@ pub fn reach(from: &[usize], to: &[usize], count: usize, order: &[usize]) -> Rea
     let finished = finish_order(&forward, count);
     let last = finished.len();
     let component = components_of(from, to, &finished, count);
-    let Lists { start, lists } = make_lists(&forward, &component, order, last, count);
+    let places = ranks(order, count);
+    let ranked = Order {
+        numbers: order,
+        places: &places,
+    };
+    let Lists { start, lists, ordered } = make_lists(&forward, &component, &ranked, last, count);
     Reached {
         component,
         start,
         lists,
+        places,
+        ordered,
     }
 }

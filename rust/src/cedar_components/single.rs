@@ -11,21 +11,11 @@ fn places_after(order: &[usize], n: usize) -> Vec<usize> {
     component
 }
 
-// Returns whether no arc leads to a number with a higher component.
-fn none_leads_up(from: &[usize], to: &[usize], component: &[usize]) -> bool {
-    for k in 0..from.len() {
-        if component[to[k]] > component[from[k]] {
-            return false;
-        }
-    }
-    true
-}
-
 // Returns the components in the order of a search, if no arc leads to a number that was finished later. Then each
 // number is a component of its own. Else returns `None`.
 pub(crate) fn single_components(from: &[usize], to: &[usize], order: &[usize], n: usize) -> Option<Vec<usize>> {
     let component = places_after(order, n);
-    if none_leads_up(from, to, &component) {
+    if (0..from.len()).all(|k| component[to[k]] <= component[from[k]]) {
         return Some(component);
     }
     None

@@ -2,7 +2,7 @@
 
 //! Dry runs of edits of a store of entities: whether an edit would fail, and with which error. Nothing is changed.
 
-mod requested;
+pub mod requested;
 pub mod would;
 
 pub use would::{have_no_indirect, would_add, would_upsert};

@@ -19,8 +19,16 @@ fn push_uid_and_parents(uids: &mut Vec<EntityUID>, entity: &Entity) {
     push_parents(uids, entity);
 }
 
-// Returns the uids of the entities and of their parents.
-pub(crate) fn uids_and_parents(list: &[Arc<Entity>]) -> Vec<EntityUID> {
+/// Returns the uids of the entities of a list and of their parents, in the order of the list, with repetitions.
+///
+/// # Complexity
+///
+/// O(n), where n is the number of these uids. Copies each uid.
+///
+/// # Differences from cedar-policy-core
+///
+/// The original has no such function.
+pub fn uids_and_parents(list: &[Arc<Entity>]) -> Vec<EntityUID> {
     let mut uids = Vec::new();
     for entity in list {
         push_uid_and_parents(&mut uids, entity);

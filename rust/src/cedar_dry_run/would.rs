@@ -31,22 +31,24 @@ fn part_for<S: BuildHasher + Clone>(store: &Entities<S>, list: &[Arc<Entity>]) -
 /// The cost depends on the list and on its ancestors, and not on the size of the store.
 ///
 /// ```
-/// # use cedar_store::{ast::*, entities::*};
-/// # fn uid(text: &str) -> EntityUID { EntityUID::from_normalized_str(text).unwrap() }
-/// # fn entity_with(own: &str, parents: &[&str]) -> Entity {
-/// #     let mut entity = Entity::with_uid(uid(own));
-/// #     parents.iter().for_each(|parent| entity.add_parent(uid(parent)));
-/// #     entity
-/// # }
+/// use cedar_store::ast::{Entity, EntityUID};
+/// use cedar_store::entities::{Entities, EntitiesError, TCComputation};
 /// use cedar_store::{have_no_indirect, would_add, would_upsert};
-/// # use std::sync::Arc;
-/// let store = Entities::from_entities([entity_with(r#"A::"a""#, &[r#"A::"b""#])], TCComputation::ComputeNow)?;
-/// let other = [Arc::new(entity_with(r#"A::"a""#, &[r#"A::"c""#]))];
+/// use std::sync::Arc;
+///
+/// let alice: EntityUID = r#"User::"alice""#.parse()?;
+/// let (staff, guests): (EntityUID, EntityUID) = (r#"Group::"staff""#.parse()?, r#"Group::"guests""#.parse()?);
+/// let mut stored = Entity::with_uid(alice.clone());
+/// stored.add_parent(staff.clone());
+/// let store = Entities::from_entities([stored], TCComputation::ComputeNow)?;
+/// let mut other = Entity::with_uid(alice.clone());
+/// other.add_parent(guests);
+/// let other = [Arc::new(other)];
 /// assert!(have_no_indirect(&other));
 /// // another entity with this uid is stored, and would be replaced
 /// assert!(matches!(would_add(&store, &other), Err(EntitiesError::Duplicate(_))));
 /// assert!(would_upsert(&store, &other).is_ok());
-/// assert!(store.stored(&uid(r#"A::"a""#)).is_some_and(|entity| entity.is_child_of(&uid(r#"A::"b""#))));
+/// assert!(store.stored(&alice).is_some_and(|entity| entity.is_child_of(&staff)));
 /// # Ok::<(), Box<dyn std::error::Error>>(())
 /// ```
 pub fn would_add<S: BuildHasher + Clone>(store: &Entities<S>, list: &[Arc<Entity>]) -> Result<(), EntitiesError> {
@@ -65,25 +67,7 @@ pub fn would_add<S: BuildHasher + Clone>(store: &Entities<S>, list: &[Arc<Entity
 ///
 /// The errors of [`would_add`], except duplicates.
 ///
-/// ```
-/// # use cedar_store::{ast::*, entities::*};
-/// # fn uid(text: &str) -> EntityUID { EntityUID::from_normalized_str(text).unwrap() }
-/// # fn entity_with(own: &str, parents: &[&str]) -> Entity {
-/// #     let mut entity = Entity::with_uid(uid(own));
-/// #     parents.iter().for_each(|parent| entity.add_parent(uid(parent)));
-/// #     entity
-/// # }
-/// use cedar_store::{have_no_indirect, would_add, would_upsert};
-/// # use std::sync::Arc;
-/// let store = Entities::from_entities([entity_with(r#"A::"a""#, &[r#"A::"b""#])], TCComputation::ComputeNow)?;
-/// let other = [Arc::new(entity_with(r#"A::"a""#, &[r#"A::"c""#]))];
-/// assert!(have_no_indirect(&other));
-/// // another entity with this uid is stored, and would be replaced
-/// assert!(matches!(would_add(&store, &other), Err(EntitiesError::Duplicate(_))));
-/// assert!(would_upsert(&store, &other).is_ok());
-/// assert!(store.stored(&uid(r#"A::"a""#)).is_some_and(|entity| entity.is_child_of(&uid(r#"A::"b""#))));
-/// # Ok::<(), Box<dyn std::error::Error>>(())
-/// ```
+/// [`would_add`] has an example.
 pub fn would_upsert<S: BuildHasher + Clone>(store: &Entities<S>, list: &[Arc<Entity>]) -> Result<(), EntitiesError> {
     let part = part_for(store, list);
     let again = share_all(list);
@@ -93,38 +77,11 @@ pub fn would_upsert<S: BuildHasher + Clone>(store: &Entities<S>, list: &[Arc<Ent
     }
 }
 
-// Checks whether an entity has no indirect ancestors.
-fn has_no_indirect(entity: &Entity) -> bool {
-    entity.indirect_ancestors().next().is_none()
-}
-
 /// Returns whether no entity of a list has indirect ancestors. The results of the dry runs are exact only for such
 /// lists. Does not allocate.
 ///
-/// ```
-/// # use cedar_store::{ast::*, entities::*};
-/// # fn uid(text: &str) -> EntityUID { EntityUID::from_normalized_str(text).unwrap() }
-/// # fn entity_with(own: &str, parents: &[&str]) -> Entity {
-/// #     let mut entity = Entity::with_uid(uid(own));
-/// #     parents.iter().for_each(|parent| entity.add_parent(uid(parent)));
-/// #     entity
-/// # }
-/// use cedar_store::{have_no_indirect, would_add, would_upsert};
-/// # use std::sync::Arc;
-/// let store = Entities::from_entities([entity_with(r#"A::"a""#, &[r#"A::"b""#])], TCComputation::ComputeNow)?;
-/// let other = [Arc::new(entity_with(r#"A::"a""#, &[r#"A::"c""#]))];
-/// assert!(have_no_indirect(&other));
-/// // another entity with this uid is stored, and would be replaced
-/// assert!(matches!(would_add(&store, &other), Err(EntitiesError::Duplicate(_))));
-/// assert!(would_upsert(&store, &other).is_ok());
-/// assert!(store.stored(&uid(r#"A::"a""#)).is_some_and(|entity| entity.is_child_of(&uid(r#"A::"b""#))));
-/// # Ok::<(), Box<dyn std::error::Error>>(())
-/// ```
+/// [`would_add`] has an example.
+#[must_use]
 pub fn have_no_indirect(list: &[Arc<Entity>]) -> bool {
-    for entity in list {
-        if !has_no_indirect(entity) {
-            return false;
-        }
-    }
-    true
+    list.iter().all(|entity| entity.indirect_ancestors().next().is_none())
 }

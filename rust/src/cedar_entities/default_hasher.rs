@@ -12,23 +12,22 @@ impl Entities {
     /// Creates a store without entities, not partial. Does not allocate.
     ///
     /// ```
-    /// # use cedar_store::{ast::*, entities::*};
-    /// # fn uid(text: &str) -> EntityUID { EntityUID::from_normalized_str(text).unwrap() }
-    /// # fn entity_with(own: &str, parents: &[&str]) -> Entity {
-    /// #     let mut entity = Entity::with_uid(uid(own));
-    /// #     parents.iter().for_each(|parent| entity.add_parent(uid(parent)));
-    /// #     entity
-    /// # }
-    /// # use std::sync::Arc;
-    /// let one = Arc::new(entity_with(r#"User::"alice""#, &[r#"Group::"staff""#]));
-    /// let store = Entities::new().add_entities([Arc::clone(&one)], TCComputation::ComputeNow)?;
+    /// use cedar_store::ast::Entity;
+    /// use cedar_store::entities::{Entities, TCComputation};
+    /// use std::sync::Arc;
+    ///
+    /// let mut alice = Entity::with_uid(r#"User::"alice""#.parse()?);
+    /// let other = Arc::new(alice.clone());
+    /// alice.add_parent(r#"Group::"staff""#.parse()?);
+    /// let alice = Arc::new(alice);
+    /// let store = Entities::new().add_entities([Arc::clone(&alice)], TCComputation::ComputeNow)?;
     /// // an equal entity changes nothing, and a different one is an error
-    /// let store = store.add_entities([one], TCComputation::ComputeNow)?;
-    /// let other = Arc::new(entity_with(r#"User::"alice""#, &[]));
+    /// let store = store.add_entities([alice], TCComputation::ComputeNow)?;
     /// let error = store.add_entities([other], TCComputation::ComputeNow).unwrap_err();
     /// assert_eq!(error.to_string(), r#"duplicate entity `User::"alice"`"#);
     /// # Ok::<(), Box<dyn std::error::Error>>(())
     /// ```
+    #[must_use]
     pub fn new() -> Self {
         Self::with_hasher(KeyedState::default())
     }
@@ -40,21 +39,19 @@ impl Entities {
     /// The errors of [`Entities::add_entities`].
     ///
     /// ```
-    /// # use cedar_store::{ast::*, entities::*};
-    /// # fn uid(text: &str) -> EntityUID { EntityUID::from_normalized_str(text).unwrap() }
-    /// # fn entity_with(own: &str, parents: &[&str]) -> Entity {
-    /// #     let mut entity = Entity::with_uid(uid(own));
-    /// #     parents.iter().for_each(|parent| entity.add_parent(uid(parent)));
-    /// #     entity
-    /// # }
-    /// let store = Entities::from_entities(
-    ///     [entity_with(r#"User::"alice""#, &[r#"Group::"staff""#]), entity_with(r#"Group::"staff""#, &[r#"Group::"all""#])],
-    ///     TCComputation::ComputeNow,
-    /// )?;
+    /// use cedar_store::ast::{Entity, EntityUID};
+    /// use cedar_store::entities::{Dereference, Entities, TCComputation};
+    ///
+    /// let mut alice = Entity::with_uid(r#"User::"alice""#.parse()?);
+    /// alice.add_parent(r#"Group::"staff""#.parse()?);
+    /// let mut staff = Entity::with_uid(r#"Group::"staff""#.parse()?);
+    /// staff.add_parent(r#"Group::"all""#.parse()?);
+    /// let store = Entities::from_entities([alice, staff], TCComputation::ComputeNow)?;
     /// assert_eq!((store.len(), store.is_empty()), (2, false));
-    /// let alice = store.stored(&uid(r#"User::"alice""#)).expect("it is present");
-    /// assert!(alice.is_descendant_of(&uid(r#"Group::"all""#)));
-    /// assert!(matches!(store.entity(&uid(r#"Group::"all""#)), Dereference::NoSuchEntity));
+    /// let alice = store.stored(&r#"User::"alice""#.parse()?).expect("it is present");
+    /// let all: EntityUID = r#"Group::"all""#.parse()?;
+    /// assert!(alice.is_descendant_of(&all));
+    /// assert!(matches!(store.entity(&all), Dereference::NoSuchEntity));
     /// # Ok::<(), Box<dyn std::error::Error>>(())
     /// ```
     pub fn from_entities(

@@ -31,19 +31,17 @@ impl<'a, T> Dereference<'a, T> {
     /// Where nothing was found, or where what was found is a residual.
     ///
     /// ```
-    /// # use cedar_store::{ast::*, entities::*};
-    /// # fn uid(text: &str) -> EntityUID { EntityUID::from_normalized_str(text).unwrap() }
-    /// # fn entity_with(own: &str, parents: &[&str]) -> Entity {
-    /// #     let mut entity = Entity::with_uid(uid(own));
-    /// #     parents.iter().for_each(|parent| entity.add_parent(uid(parent)));
-    /// #     entity
-    /// # }
-    /// let store = Entities::from_entities([entity_with(r#"A::"a""#, &[])], TCComputation::ComputeNow)?;
-    /// let a = uid(r#"A::"a""#);
-    /// assert_eq!(store.entity(&a).unwrap().uid(), store.entity(&a).expect("it is present").uid());
+    /// use cedar_store::ast::{Entity, EntityUID};
+    /// use cedar_store::entities::{Entities, TCComputation};
+    ///
+    /// let alice: EntityUID = r#"User::"alice""#.parse()?;
+    /// let store = Entities::from_entities([Entity::with_uid(alice.clone())], TCComputation::ComputeNow)?;
+    /// assert_eq!(store.entity(&alice).unwrap().uid(), &alice);
+    /// assert_eq!(store.entity(&alice).expect("it is present").uid(), &alice);
     /// # Ok::<(), Box<dyn std::error::Error>>(())
     /// ```
     #[track_caller]
+    #[must_use]
     pub fn unwrap(self) -> &'a T {
         match self {
             Self::Data(found) => found,
@@ -59,20 +57,9 @@ impl<'a, T> Dereference<'a, T> {
     ///
     /// Where nothing was found, or where what was found is a residual.
     ///
-    /// ```
-    /// # use cedar_store::{ast::*, entities::*};
-    /// # fn uid(text: &str) -> EntityUID { EntityUID::from_normalized_str(text).unwrap() }
-    /// # fn entity_with(own: &str, parents: &[&str]) -> Entity {
-    /// #     let mut entity = Entity::with_uid(uid(own));
-    /// #     parents.iter().for_each(|parent| entity.add_parent(uid(parent)));
-    /// #     entity
-    /// # }
-    /// let store = Entities::from_entities([entity_with(r#"A::"a""#, &[])], TCComputation::ComputeNow)?;
-    /// let a = uid(r#"A::"a""#);
-    /// assert_eq!(store.entity(&a).unwrap().uid(), store.entity(&a).expect("it is present").uid());
-    /// # Ok::<(), Box<dyn std::error::Error>>(())
-    /// ```
+    /// [`Self::unwrap`] has an example.
     #[track_caller]
+    #[must_use]
     pub fn expect(self, msg: &str) -> &'a T {
         match self {
             Self::Data(found) => found,
@@ -82,7 +69,7 @@ impl<'a, T> Dereference<'a, T> {
     }
 }
 
-impl<'a, T> Clone for Dereference<'a, T> {
+impl<T> Clone for Dereference<'_, T> {
     /// Returns a copy. A found value is not copied, because it is a reference. The expression of a residual is copied.
     fn clone(&self) -> Self {
         match self {

@@ -16,7 +16,7 @@ use crate::cedar_entity_maps::index::{Index, affected_by, join, list_if_it_pays,
 use crate::cedar_entity_maps::modes::{EditRules, computes, rules_compute, rules_of, with_repair};
 use crate::cedar_ids::entity::EntityUID;
 use crate::cedar_uid_sets::{SharedUid, UidSet};
-use std::collections::{HashMap, HashSet};
+use crate::shared_map::{SharedMap, SharedSet};
 use std::hash::BuildHasher;
 
 // The uids of the entities to remove, the entities to insert, and the uids of both.
@@ -28,9 +28,9 @@ struct Change {
 
 // The facts that an edit reads before it changes anything: its uids, each once, the affected entities, and their stale
 // ancestors.
-pub(crate) struct Reading<S: BuildHasher> {
+pub(crate) struct Reading<S> {
     pub(crate) uids: Vec<SharedUid>,
-    pub(crate) affected: HashSet<SharedUid, S>,
+    pub(crate) affected: SharedSet<SharedUid, S>,
     pub(crate) stale: Vec<StaleAncestors>,
 }
 
@@ -39,31 +39,22 @@ pub(crate) struct Reading<S: BuildHasher> {
 // and whether there is a cycle, is the same as after removing only stale ancestors. All ancestors are written again,
 // because the repair reports cycles or nothing is inserted that could create one.
 fn renews<S: BuildHasher>(index: &Index<S>, incoming: &[Incoming], row: EditRules) -> bool {
-    if !index.plain {
-        return false;
-    }
-    if !row.repairs {
-        return false;
-    }
-    rules_compute(row) || incoming.is_empty()
+    index.plain && row.repairs && (rules_compute(row) || incoming.is_empty())
 }
 
 // Returns whether an addition removes all indirect ancestors of the affected entities, for the same reason.
 pub(crate) fn renews_adding<S: BuildHasher>(index: &Index<S>, row: EditRules) -> bool {
-    if !index.plain {
-        return false;
-    }
-    rules_compute(row)
+    index.plain && rules_compute(row)
 }
 
 // Reads the facts for an edit of the uids. Lists the children in the index if that pays.
 fn read<S: BuildHasher + Clone>(
-    entities: &HashMap<SharedUid, SharedEntity, S>,
+    entities: &SharedMap<SharedUid, SharedEntity, S>,
     index: &mut Index<S>,
     uids: Vec<SharedUid>,
     recompute_all: bool,
 ) -> Reading<S> {
-    let mut applied = HashSet::with_hasher(entities.hasher().clone());
+    let mut applied = SharedSet::with_hasher(entities.hasher().clone());
     insert_uids(&mut applied, uids);
     list_if_it_pays(entities, index, applied.len());
     let affected = affected_by(entities, index, &applied);
@@ -73,33 +64,28 @@ fn read<S: BuildHasher + Clone>(
 }
 
 // Inserts an entity, or replaces the entity with its uid.
-fn overwrite<S: BuildHasher>(entities: &mut HashMap<SharedUid, SharedEntity, S>, incoming: Incoming) {
+fn overwrite<S: BuildHasher>(entities: &mut SharedMap<SharedUid, SharedEntity, S>, incoming: Incoming) {
     let Incoming { uid: key, entity } = incoming;
     entities.insert(key, SharedEntity(entity));
 }
 
 // Inserts the entities one after another. Each replaces the entity with its uid.
-pub(crate) fn overwrite_all<S: BuildHasher>(entities: &mut HashMap<SharedUid, SharedEntity, S>, list: Vec<Incoming>) {
+pub(crate) fn overwrite_all<S: BuildHasher>(entities: &mut SharedMap<SharedUid, SharedEntity, S>, list: Vec<Incoming>) {
     for entity in list {
         overwrite(entities, entity);
     }
 }
 
-// Removes the entity with a uid, if there is one.
-fn remove_at<S: BuildHasher>(entities: &mut HashMap<SharedUid, SharedEntity, S>, uid: &SharedUid) {
-    entities.remove(uid);
-}
-
 // Removes the entities with the uids.
-fn remove_each<S: BuildHasher>(entities: &mut HashMap<SharedUid, SharedEntity, S>, removed: Vec<SharedUid>) {
+fn remove_each<S: BuildHasher>(entities: &mut SharedMap<SharedUid, SharedEntity, S>, removed: Vec<SharedUid>) {
     for uid in removed {
-        remove_at(entities, &uid);
+        entities.remove(&uid);
     }
 }
 
 // Removes stale ancestors, removes entities, and inserts entities.
 fn write<S: BuildHasher>(
-    entities: &mut HashMap<SharedUid, SharedEntity, S>,
+    entities: &mut SharedMap<SharedUid, SharedEntity, S>,
     stale: Vec<StaleAncestors>,
     removed: UidSet,
     incoming: Vec<Incoming>,
@@ -111,7 +97,7 @@ fn write<S: BuildHasher>(
 
 // Makes an edit and finalizes it by the edit rules. After an error the map must not be used.
 fn edit<S: BuildHasher + Clone>(
-    entities: &mut HashMap<SharedUid, SharedEntity, S>,
+    entities: &mut SharedMap<SharedUid, SharedEntity, S>,
     index: &mut Index<S>,
     change: Change,
     row: EditRules,
@@ -133,7 +119,7 @@ fn edit<S: BuildHasher + Clone>(
 // Overwrites entities, and finalizes the edit by the edit rules of the mode. If the store is known to be plain and no
 // parents change, no ancestor changes, and there is nothing to finalize.
 pub(crate) fn overwrite_and_finalize<S: BuildHasher + Clone>(
-    entities: &mut HashMap<SharedUid, SharedEntity, S>,
+    entities: &mut SharedMap<SharedUid, SharedEntity, S>,
     index: &mut Index<S>,
     incoming: Vec<Incoming>,
     tc_computation: TCComputation,
@@ -154,7 +140,7 @@ pub(crate) fn overwrite_and_finalize<S: BuildHasher + Clone>(
 
 // Removes entities, also as parents, and finalizes the edit by the edit rules of the mode.
 pub(crate) fn remove_and_finalize<S: BuildHasher + Clone>(
-    entities: &mut HashMap<SharedUid, SharedEntity, S>,
+    entities: &mut SharedMap<SharedUid, SharedEntity, S>,
     index: &mut Index<S>,
     list: impl IntoIterator<Item = EntityUID>,
     tc_computation: TCComputation,

@@ -2,7 +2,7 @@
 
 //! The store of entities.
 
-use crate::cedar_children::listed;
+use crate::cedar_children::{Children, listed};
 use crate::cedar_entities::dereference::{Dereference, unknown_of};
 use crate::cedar_entities::edits::{overwrite_and_finalize, remove_and_finalize, renews_adding};
 use crate::cedar_entities::incoming::{Incoming, shared_all, stays_plain, uids_in, with_uids};
@@ -20,8 +20,7 @@ use crate::cedar_entity_maps::modes::rules_of;
 use crate::cedar_ids::entity::EntityUID;
 use crate::cedar_keyed_hash::KeyedState;
 use crate::cedar_uid_sets::SharedUid;
-use std::collections::hash_map::Entry;
-use std::collections::{HashMap, HashSet};
+use crate::shared_map::{SharedMap, SharedSet};
 use std::hash::BuildHasher;
 use std::sync::Arc;
 
@@ -29,7 +28,9 @@ pub use crate::cedar_entity_maps::TCComputation;
 /// A store of entities, keyed by uid. A store is partial or not. In a partial store, an entity that is absent is
 /// unknown; otherwise it does not exist.
 ///
-/// Entities are shared: a copy of a store copies no entity.
+/// A copy of a store shares the entities, the map and the list of children. For n entities it costs O(n / 128): one
+/// pointer for each 128 entities. An edit of either store costs what it changes. In addition it copies each part of
+/// the map that it changes for the first time, of up to 128 pointers.
 ///
 /// # Complexity
 ///
@@ -40,8 +41,7 @@ pub use crate::cedar_entity_maps::TCComputation;
 /// without indirect ancestors, or removals. Such a store is known to be plain: its ancestors are exactly what the
 /// parents imply. After sixteen scans it lists the children of each uid. A scan for more uids counts more: an edit of
 /// 64 uids lists the children at once. From then on an edit searches down from its own uids. The list needs 8 to 16
-/// bytes for each parent of each entity, and a set for each uid that is a parent. A copy of the store has no list at
-/// first.
+/// bytes for each parent of each entity, and a set for each uid that is a parent.
 ///
 /// In such a store, an edit that overwrites entities with the same parents changes no ancestor. It copies the pointers
 /// to the ancestors of these entities, and affects no other entity. In every store, an affected entity none of whose
@@ -51,8 +51,9 @@ pub use crate::cedar_entity_maps::TCComputation;
 ///
 /// The map, and the sets of its calls, hash uids with hashers of `S`. The default hasher has a key that is drawn once
 /// for the process. [`Entities::with_hasher`] takes another. The choice of hasher never changes a result.
-pub struct Entities<S: BuildHasher = KeyedState> {
-    pub(crate) entities: HashMap<SharedUid, SharedEntity, S>,
+#[derive(Clone)]
+pub struct Entities<S = KeyedState> {
+    pub(crate) entities: SharedMap<SharedUid, SharedEntity, S>,
     pub(crate) partial: bool,
     pub(crate) index: Index<S>,
 }
@@ -60,27 +61,19 @@ pub struct Entities<S: BuildHasher = KeyedState> {
 // Inserts an entity if its uid is new. Otherwise the existing entity must be deeply equal to it. If it is not, the new
 // entity is returned.
 fn insert_if_new<S: BuildHasher>(
-    entities: &mut HashMap<SharedUid, SharedEntity, S>,
+    entities: &mut SharedMap<SharedUid, SharedEntity, S>,
     incoming: Incoming,
 ) -> Option<Arc<Entity>> {
     let Incoming { uid, entity } = incoming;
-    match entities.entry(uid) {
-        Entry::Occupied(place) => {
-            if place.get().0.deep_eq(&entity) {
-                return None;
-            }
-            Some(entity)
-        }
-        Entry::Vacant(place) => {
-            place.insert(SharedEntity(entity));
-            None
-        }
+    match entities.insert_new(uid, SharedEntity(entity)) {
+        Some((stored, other)) if !stored.0.deep_eq(&other.0) => Some(other.0),
+        _ => None,
     }
 }
 
 // Inserts the entities one after another.
 fn insert_each<S: BuildHasher>(
-    entities: &mut HashMap<SharedUid, SharedEntity, S>,
+    entities: &mut SharedMap<SharedUid, SharedEntity, S>,
     list: Vec<Incoming>,
 ) -> Result<(), EntitiesError> {
     for entity in list {
@@ -91,18 +84,13 @@ fn insert_each<S: BuildHasher>(
     Ok(())
 }
 
-// Reserves space for `count` more entities.
-fn make_room<S: BuildHasher>(entities: &mut HashMap<SharedUid, SharedEntity, S>, count: usize) {
-    entities.reserve(count);
-}
-
 // Adds entities to an empty map. All of them are affected.
 fn fill<S: BuildHasher + Clone>(
-    entities: &mut HashMap<SharedUid, SharedEntity, S>,
+    entities: &mut SharedMap<SharedUid, SharedEntity, S>,
     list: Vec<Incoming>,
     tc_computation: TCComputation,
 ) -> Result<(), EntitiesError> {
-    make_room(entities, list.len());
+    entities.reserve(list.len());
     insert_each(entities, list)?;
     finalize_all(entities, tc_computation)
 }
@@ -110,14 +98,14 @@ fn fill<S: BuildHasher + Clone>(
 // Adds entities, and finalizes the affected entities. In a plain store, all indirect ancestors of the affected entities
 // are removed first and recomputed from the parents.
 fn add_to<S: BuildHasher + Clone>(
-    entities: &mut HashMap<SharedUid, SharedEntity, S>,
+    entities: &mut SharedMap<SharedUid, SharedEntity, S>,
     index: &mut Index<S>,
     list: Vec<Incoming>,
     tc_computation: TCComputation,
 ) -> Result<(), EntitiesError> {
     let uids = uids_in(&list);
     let fresh = absent_uids(entities, uids);
-    let mut inserted = HashSet::with_hasher(entities.hasher().clone());
+    let mut inserted = SharedSet::with_hasher(entities.hasher().clone());
     insert_uids(&mut inserted, fresh);
     let joining = listed(&inserted);
     list_if_it_pays(entities, index, inserted.len());
@@ -131,7 +119,7 @@ fn add_to<S: BuildHasher + Clone>(
 
 // Adds entities.
 fn add_all<S: BuildHasher + Clone>(
-    entities: &mut HashMap<SharedUid, SharedEntity, S>,
+    entities: &mut SharedMap<SharedUid, SharedEntity, S>,
     index: &mut Index<S>,
     list: Vec<Incoming>,
     tc_computation: TCComputation,
@@ -151,23 +139,21 @@ impl<S: BuildHasher + Clone> Entities<S> {
     /// The original has a fixed hasher.
     ///
     /// ```
-    /// # use cedar_store::{ast::*, entities::*};
-    /// # fn uid(text: &str) -> EntityUID { EntityUID::from_normalized_str(text).unwrap() }
-    /// # fn entity_with(own: &str, parents: &[&str]) -> Entity {
-    /// #     let mut entity = Entity::with_uid(uid(own));
-    /// #     parents.iter().for_each(|parent| entity.add_parent(uid(parent)));
-    /// #     entity
-    /// # }
+    /// use cedar_store::ast::Entity;
+    /// use cedar_store::entities::{Entities, TCComputation};
     /// use cedar_store::KeyedState;
+    ///
     /// let store = Entities::with_hasher(KeyedState::with_keys(1, 2));
     /// let hasher = store.hasher().clone();
-    /// let one = Entities::from_entities_with_hasher(hasher, [entity_with(r#"A::"a""#, &[])], TCComputation::ComputeNow)?;
+    /// let alice = Entity::with_uid(r#"User::"alice""#.parse()?);
+    /// let one = Entities::from_entities_with_hasher(hasher, [alice], TCComputation::ComputeNow)?;
     /// assert_eq!(one.len(), 1);
     /// # Ok::<(), Box<dyn std::error::Error>>(())
     /// ```
+    #[must_use]
     pub fn with_hasher(hasher: S) -> Self {
         Self {
-            entities: HashMap::with_hasher(hasher),
+            entities: SharedMap::with_hasher(hasher),
             partial: false,
             index: Index::unlisted(true),
         }
@@ -175,21 +161,8 @@ impl<S: BuildHasher + Clone> Entities<S> {
 
     /// Returns the hasher builder of the store. Does not allocate.
     ///
-    /// ```
-    /// # use cedar_store::{ast::*, entities::*};
-    /// # fn uid(text: &str) -> EntityUID { EntityUID::from_normalized_str(text).unwrap() }
-    /// # fn entity_with(own: &str, parents: &[&str]) -> Entity {
-    /// #     let mut entity = Entity::with_uid(uid(own));
-    /// #     parents.iter().for_each(|parent| entity.add_parent(uid(parent)));
-    /// #     entity
-    /// # }
-    /// use cedar_store::KeyedState;
-    /// let store = Entities::with_hasher(KeyedState::with_keys(1, 2));
-    /// let hasher = store.hasher().clone();
-    /// let one = Entities::from_entities_with_hasher(hasher, [entity_with(r#"A::"a""#, &[])], TCComputation::ComputeNow)?;
-    /// assert_eq!(one.len(), 1);
-    /// # Ok::<(), Box<dyn std::error::Error>>(())
-    /// ```
+    /// [`Self::with_hasher`] has an example.
+    #[must_use]
     pub fn hasher(&self) -> &S {
         self.entities.hasher()
     }
@@ -197,15 +170,17 @@ impl<S: BuildHasher + Clone> Entities<S> {
     /// Returns the store with the same entities, now partial. Does not allocate.
     ///
     /// ```
-    /// # use cedar_store::{ast::*, entities::*};
-    /// # fn uid(text: &str) -> EntityUID { EntityUID::from_normalized_str(text).unwrap() }
+    /// use cedar_store::entities::{Dereference, Entities};
+    ///
     /// let store = Entities::new().partial();
     /// assert!(store.is_partial());
-    /// match store.entity(&uid(r#"A::"a""#)) {
+    /// match store.entity(&r#"A::"a""#.parse()?) {
     ///     Dereference::Residual(unknown) => assert_eq!(unknown.to_string(), r#"unknown("A::\"a\"")"#),
     ///     _ => unreachable!("what a partial store lacks is not known"),
     /// }
+    /// # Ok::<(), Box<dyn std::error::Error>>(())
     /// ```
+    #[must_use]
     pub fn partial(self) -> Self {
         Self {
             entities: self.entities,
@@ -231,18 +206,29 @@ impl<S: BuildHasher + Clone> Entities<S> {
 
     /// Returns whether the store is partial. Does not allocate.
     ///
-    /// ```
-    /// # use cedar_store::{ast::*, entities::*};
-    /// # fn uid(text: &str) -> EntityUID { EntityUID::from_normalized_str(text).unwrap() }
-    /// let store = Entities::new().partial();
-    /// assert!(store.is_partial());
-    /// match store.entity(&uid(r#"A::"a""#)) {
-    ///     Dereference::Residual(unknown) => assert_eq!(unknown.to_string(), r#"unknown("A::\"a\"")"#),
-    ///     _ => unreachable!("what a partial store lacks is not known"),
-    /// }
-    /// ```
+    /// [`Self::partial`] has an example.
+    #[must_use]
     pub fn is_partial(&self) -> bool {
         self.partial
+    }
+
+    /// Returns whether the store is known to be plain: whether its ancestors are known to be exactly what the parents
+    /// imply. Does not allocate.
+    ///
+    /// # Differences from cedar-policy-core
+    ///
+    /// The original has no such function.
+    pub(crate) fn is_known_plain(&self) -> bool {
+        self.index.plain
+    }
+
+    /// Returns the index of the children of each uid, if the store has one. Does not allocate.
+    ///
+    /// # Differences from cedar-policy-core
+    ///
+    /// The original has no such function.
+    pub(crate) fn children(&self) -> Option<&Children<S>> {
+        self.index.children.as_ref()
     }
 
     /// Creates a store with these entities, not partial. It hashes uids with hashers of `hasher`. The result is the
@@ -252,21 +238,7 @@ impl<S: BuildHasher + Clone> Entities<S> {
     ///
     /// The errors of [`Entities::add_entities`].
     ///
-    /// ```
-    /// # use cedar_store::{ast::*, entities::*};
-    /// # fn uid(text: &str) -> EntityUID { EntityUID::from_normalized_str(text).unwrap() }
-    /// # fn entity_with(own: &str, parents: &[&str]) -> Entity {
-    /// #     let mut entity = Entity::with_uid(uid(own));
-    /// #     parents.iter().for_each(|parent| entity.add_parent(uid(parent)));
-    /// #     entity
-    /// # }
-    /// use cedar_store::KeyedState;
-    /// let store = Entities::with_hasher(KeyedState::with_keys(1, 2));
-    /// let hasher = store.hasher().clone();
-    /// let one = Entities::from_entities_with_hasher(hasher, [entity_with(r#"A::"a""#, &[])], TCComputation::ComputeNow)?;
-    /// assert_eq!(one.len(), 1);
-    /// # Ok::<(), Box<dyn std::error::Error>>(())
-    /// ```
+    /// [`Self::with_hasher`] has an example.
     pub fn from_entities_with_hasher(
         hasher: S,
         list: impl IntoIterator<Item = Entity>,
@@ -296,24 +268,7 @@ impl<S: BuildHasher + Clone> Entities<S> {
     /// checks the whole store. An empty store is closed as a whole. If the store is known to be plain and the mode
     /// computes, only the parents of affected stored entities are read, and their indirect ancestors are recomputed.
     ///
-    /// ```
-    /// # use cedar_store::{ast::*, entities::*};
-    /// # fn uid(text: &str) -> EntityUID { EntityUID::from_normalized_str(text).unwrap() }
-    /// # fn entity_with(own: &str, parents: &[&str]) -> Entity {
-    /// #     let mut entity = Entity::with_uid(uid(own));
-    /// #     parents.iter().for_each(|parent| entity.add_parent(uid(parent)));
-    /// #     entity
-    /// # }
-    /// # use std::sync::Arc;
-    /// let one = Arc::new(entity_with(r#"User::"alice""#, &[r#"Group::"staff""#]));
-    /// let store = Entities::new().add_entities([Arc::clone(&one)], TCComputation::ComputeNow)?;
-    /// // an equal entity changes nothing, and a different one is an error
-    /// let store = store.add_entities([one], TCComputation::ComputeNow)?;
-    /// let other = Arc::new(entity_with(r#"User::"alice""#, &[]));
-    /// let error = store.add_entities([other], TCComputation::ComputeNow).unwrap_err();
-    /// assert_eq!(error.to_string(), r#"duplicate entity `User::"alice"`"#);
-    /// # Ok::<(), Box<dyn std::error::Error>>(())
-    /// ```
+    /// [`Self::new`] has an example.
     pub fn add_entities(
         self,
         list: impl IntoIterator<Item = Arc<Entity>>,
@@ -362,20 +317,23 @@ impl<S: BuildHasher + Clone> Entities<S> {
     /// The original takes a schema and extensions.
     ///
     /// ```
-    /// # use cedar_store::{ast::*, entities::*};
-    /// # fn uid(text: &str) -> EntityUID { EntityUID::from_normalized_str(text).unwrap() }
-    /// # fn entity_with(own: &str, parents: &[&str]) -> Entity {
-    /// #     let mut entity = Entity::with_uid(uid(own));
-    /// #     parents.iter().for_each(|parent| entity.add_parent(uid(parent)));
-    /// #     entity
-    /// # }
-    /// # use std::sync::Arc;
-    /// let store = Entities::from_entities([entity_with(r#"A::"a""#, &[r#"A::"b""#])], TCComputation::ComputeNow)?;
+    /// use cedar_store::ast::Entity;
+    /// use cedar_store::entities::{Entities, TCComputation};
+    /// use std::sync::Arc;
+    ///
+    /// let mut alice = Entity::with_uid(r#"User::"alice""#.parse()?);
+    /// alice.add_parent(r#"Group::"staff""#.parse()?);
+    /// let store = Entities::from_entities([alice], TCComputation::ComputeNow)?;
     /// // the last entity with a uid is used, and its descendants are updated
-    /// let versions = [entity_with(r#"A::"b""#, &[r#"A::"c""#]), entity_with(r#"A::"b""#, &[r#"A::"d""#])].map(Arc::new);
+    /// let versions = [r#"Group::"a""#.parse()?, r#"Group::"b""#.parse()?].map(|parent| {
+    ///     let mut staff = Entity::with_uid(r#"Group::"staff""#.parse().expect("a uid"));
+    ///     staff.add_parent(parent);
+    ///     Arc::new(staff)
+    /// });
     /// let store = store.upsert_entities(versions, TCComputation::ComputeNow)?;
-    /// let above: Vec<_> = store.stored(&uid(r#"A::"a""#)).unwrap().ancestors().map(ToString::to_string).collect();
-    /// assert_eq!(above, [r#"A::"b""#, r#"A::"d""#]);
+    /// let alice = store.stored(&r#"User::"alice""#.parse()?).expect("it is present");
+    /// let ancestors: Vec<_> = alice.ancestors().map(ToString::to_string).collect();
+    /// assert_eq!(ancestors, [r#"Group::"staff""#, r#"Group::"b""#]);
     /// # Ok::<(), Box<dyn std::error::Error>>(())
     /// ```
     pub fn upsert_entities(
@@ -418,17 +376,17 @@ impl<S: BuildHasher + Clone> Entities<S> {
     /// then checks the whole store.
     ///
     /// ```
-    /// # use cedar_store::{ast::*, entities::*};
-    /// # fn uid(text: &str) -> EntityUID { EntityUID::from_normalized_str(text).unwrap() }
-    /// # fn entity_with(own: &str, parents: &[&str]) -> Entity {
-    /// #     let mut entity = Entity::with_uid(uid(own));
-    /// #     parents.iter().for_each(|parent| entity.add_parent(uid(parent)));
-    /// #     entity
-    /// # }
-    /// let chain = [entity_with(r#"A::"a""#, &[r#"A::"b""#]), entity_with(r#"A::"b""#, &[r#"A::"c""#])];
-    /// let store = Entities::from_entities(chain, TCComputation::ComputeNow)?;
-    /// let store = store.remove_entities([uid(r#"A::"b""#)], TCComputation::ComputeNow)?;
-    /// assert_eq!(store.stored(&uid(r#"A::"a""#)).unwrap().ancestors().count(), 0);
+    /// use cedar_store::ast::Entity;
+    /// use cedar_store::entities::{Entities, TCComputation};
+    ///
+    /// let mut alice = Entity::with_uid(r#"User::"alice""#.parse()?);
+    /// alice.add_parent(r#"Group::"staff""#.parse()?);
+    /// let mut staff = Entity::with_uid(r#"Group::"staff""#.parse()?);
+    /// staff.add_parent(r#"Group::"all""#.parse()?);
+    /// let store = Entities::from_entities([alice, staff], TCComputation::ComputeNow)?;
+    /// let store = store.remove_entities([r#"Group::"staff""#.parse()?], TCComputation::ComputeNow)?;
+    /// let alice = store.stored(&r#"User::"alice""#.parse()?).expect("it is present");
+    /// assert_eq!(alice.ancestors().count(), 0);
     /// # Ok::<(), Box<dyn std::error::Error>>(())
     /// ```
     pub fn remove_entities(
@@ -451,48 +409,16 @@ impl<S: BuildHasher + Clone> Entities<S> {
 
     /// Returns the number of entities. Does not allocate.
     ///
-    /// ```
-    /// # use cedar_store::{ast::*, entities::*};
-    /// # fn uid(text: &str) -> EntityUID { EntityUID::from_normalized_str(text).unwrap() }
-    /// # fn entity_with(own: &str, parents: &[&str]) -> Entity {
-    /// #     let mut entity = Entity::with_uid(uid(own));
-    /// #     parents.iter().for_each(|parent| entity.add_parent(uid(parent)));
-    /// #     entity
-    /// # }
-    /// let store = Entities::from_entities(
-    ///     [entity_with(r#"User::"alice""#, &[r#"Group::"staff""#]), entity_with(r#"Group::"staff""#, &[r#"Group::"all""#])],
-    ///     TCComputation::ComputeNow,
-    /// )?;
-    /// assert_eq!((store.len(), store.is_empty()), (2, false));
-    /// let alice = store.stored(&uid(r#"User::"alice""#)).expect("it is present");
-    /// assert!(alice.is_descendant_of(&uid(r#"Group::"all""#)));
-    /// assert!(matches!(store.entity(&uid(r#"Group::"all""#)), Dereference::NoSuchEntity));
-    /// # Ok::<(), Box<dyn std::error::Error>>(())
-    /// ```
+    /// [`Self::from_entities`] has an example.
+    #[must_use]
     pub fn len(&self) -> usize {
         self.entities.len()
     }
 
     /// Returns whether the store has no entities. Does not allocate.
     ///
-    /// ```
-    /// # use cedar_store::{ast::*, entities::*};
-    /// # fn uid(text: &str) -> EntityUID { EntityUID::from_normalized_str(text).unwrap() }
-    /// # fn entity_with(own: &str, parents: &[&str]) -> Entity {
-    /// #     let mut entity = Entity::with_uid(uid(own));
-    /// #     parents.iter().for_each(|parent| entity.add_parent(uid(parent)));
-    /// #     entity
-    /// # }
-    /// let store = Entities::from_entities(
-    ///     [entity_with(r#"User::"alice""#, &[r#"Group::"staff""#]), entity_with(r#"Group::"staff""#, &[r#"Group::"all""#])],
-    ///     TCComputation::ComputeNow,
-    /// )?;
-    /// assert_eq!((store.len(), store.is_empty()), (2, false));
-    /// let alice = store.stored(&uid(r#"User::"alice""#)).expect("it is present");
-    /// assert!(alice.is_descendant_of(&uid(r#"Group::"all""#)));
-    /// assert!(matches!(store.entity(&uid(r#"Group::"all""#)), Dereference::NoSuchEntity));
-    /// # Ok::<(), Box<dyn std::error::Error>>(())
-    /// ```
+    /// [`Self::from_entities`] has an example.
+    #[must_use]
     pub fn is_empty(&self) -> bool {
         self.len() == 0
     }
@@ -503,24 +429,8 @@ impl<S: BuildHasher + Clone> Entities<S> {
     ///
     /// The original has no such function.
     ///
-    /// ```
-    /// # use cedar_store::{ast::*, entities::*};
-    /// # fn uid(text: &str) -> EntityUID { EntityUID::from_normalized_str(text).unwrap() }
-    /// # fn entity_with(own: &str, parents: &[&str]) -> Entity {
-    /// #     let mut entity = Entity::with_uid(uid(own));
-    /// #     parents.iter().for_each(|parent| entity.add_parent(uid(parent)));
-    /// #     entity
-    /// # }
-    /// let store = Entities::from_entities(
-    ///     [entity_with(r#"User::"alice""#, &[r#"Group::"staff""#]), entity_with(r#"Group::"staff""#, &[r#"Group::"all""#])],
-    ///     TCComputation::ComputeNow,
-    /// )?;
-    /// assert_eq!((store.len(), store.is_empty()), (2, false));
-    /// let alice = store.stored(&uid(r#"User::"alice""#)).expect("it is present");
-    /// assert!(alice.is_descendant_of(&uid(r#"Group::"all""#)));
-    /// assert!(matches!(store.entity(&uid(r#"Group::"all""#)), Dereference::NoSuchEntity));
-    /// # Ok::<(), Box<dyn std::error::Error>>(())
-    /// ```
+    /// [`Self::from_entities`] has an example.
+    #[must_use]
     pub fn stored(&self, uid: &EntityUID) -> Option<&Entity> {
         self.entities.get(uid).map(|node| &*node.0)
     }
@@ -528,24 +438,8 @@ impl<S: BuildHasher + Clone> Entities<S> {
     /// Looks up the entity with a uid. If there is none, the result is `NoSuchEntity`, or in a partial store a
     /// residual. The residual is an unknown whose name is the printed uid and whose type is the entity type.
     ///
-    /// ```
-    /// # use cedar_store::{ast::*, entities::*};
-    /// # fn uid(text: &str) -> EntityUID { EntityUID::from_normalized_str(text).unwrap() }
-    /// # fn entity_with(own: &str, parents: &[&str]) -> Entity {
-    /// #     let mut entity = Entity::with_uid(uid(own));
-    /// #     parents.iter().for_each(|parent| entity.add_parent(uid(parent)));
-    /// #     entity
-    /// # }
-    /// let store = Entities::from_entities(
-    ///     [entity_with(r#"User::"alice""#, &[r#"Group::"staff""#]), entity_with(r#"Group::"staff""#, &[r#"Group::"all""#])],
-    ///     TCComputation::ComputeNow,
-    /// )?;
-    /// assert_eq!((store.len(), store.is_empty()), (2, false));
-    /// let alice = store.stored(&uid(r#"User::"alice""#)).expect("it is present");
-    /// assert!(alice.is_descendant_of(&uid(r#"Group::"all""#)));
-    /// assert!(matches!(store.entity(&uid(r#"Group::"all""#)), Dereference::NoSuchEntity));
-    /// # Ok::<(), Box<dyn std::error::Error>>(())
-    /// ```
+    /// [`Self::from_entities`] has an example.
+    #[must_use]
     pub fn entity(&self, uid: &EntityUID) -> Dereference<'_, Entity> {
         match self.stored(uid) {
             Some(entity) => Dereference::Data(entity),
@@ -561,22 +455,19 @@ impl<S: BuildHasher + Clone> Entities<S> {
     /// Iterates over the entities, each once, in no specified order. Does not allocate.
     ///
     /// ```
-    /// # use cedar_store::{ast::*, entities::*};
-    /// # fn uid(text: &str) -> EntityUID { EntityUID::from_normalized_str(text).unwrap() }
-    /// # fn entity_with(own: &str, parents: &[&str]) -> Entity {
-    /// #     let mut entity = Entity::with_uid(uid(own));
-    /// #     parents.iter().for_each(|parent| entity.add_parent(uid(parent)));
-    /// #     entity
-    /// # }
-    /// let both = || [entity_with(r#"A::"a""#, &[]), entity_with(r#"A::"b""#, &[r#"A::"a""#])];
-    /// let (store, other) = (
-    ///     Entities::from_entities(both(), TCComputation::ComputeNow)?,
-    ///     Entities::from_entities(both(), TCComputation::AssumeAlreadyComputed)?,
-    /// );
+    /// use cedar_store::ast::Entity;
+    /// use cedar_store::entities::{Entities, TCComputation};
+    ///
+    /// let staff = Entity::with_uid(r#"Group::"staff""#.parse()?);
+    /// let mut alice = Entity::with_uid(r#"User::"alice""#.parse()?);
+    /// alice.add_parent(staff.uid().clone());
+    /// let store = Entities::from_entities([alice.clone(), staff.clone()], TCComputation::ComputeNow)?;
+    /// let other = Entities::from_entities([alice, staff], TCComputation::AssumeAlreadyComputed)?;
     /// assert_eq!(store.iter().filter(|entity| entity.ancestors().count() == 0).count(), 1);
     /// assert!(store.deep_eq(&other));
     /// # Ok::<(), Box<dyn std::error::Error>>(())
     /// ```
+    #[must_use]
     pub fn iter(&self) -> Iter<'_> {
         Iter::of(&self.entities)
     }
@@ -584,31 +475,12 @@ impl<S: BuildHasher + Clone> Entities<S> {
     /// Returns whether both stores are partial or neither is, and both have the same uids with entities that are equal
     /// by [`Entity::deep_eq`]. Looks up each uid of one store in the other. Does not allocate.
     ///
-    /// ```
-    /// # use cedar_store::{ast::*, entities::*};
-    /// # fn uid(text: &str) -> EntityUID { EntityUID::from_normalized_str(text).unwrap() }
-    /// # fn entity_with(own: &str, parents: &[&str]) -> Entity {
-    /// #     let mut entity = Entity::with_uid(uid(own));
-    /// #     parents.iter().for_each(|parent| entity.add_parent(uid(parent)));
-    /// #     entity
-    /// # }
-    /// let both = || [entity_with(r#"A::"a""#, &[]), entity_with(r#"A::"b""#, &[r#"A::"a""#])];
-    /// let (store, other) = (
-    ///     Entities::from_entities(both(), TCComputation::ComputeNow)?,
-    ///     Entities::from_entities(both(), TCComputation::AssumeAlreadyComputed)?,
-    /// );
-    /// assert_eq!(store.iter().filter(|entity| entity.ancestors().count() == 0).count(), 1);
-    /// assert!(store.deep_eq(&other));
-    /// # Ok::<(), Box<dyn std::error::Error>>(())
-    /// ```
+    /// [`Self::iter`] has an example.
+    #[must_use]
     pub fn deep_eq(&self, other: &Self) -> bool {
-        if self.partial != other.partial {
-            return false;
-        }
-        if !have_deep_equals(&self.entities, &other.entities) {
-            return false;
-        }
-        have_keys_of(&self.entities, &other.entities)
+        self.partial == other.partial
+            && have_deep_equals(&self.entities, &other.entities)
+            && have_keys_of(&self.entities, &other.entities)
     }
 
     /// Returns the store itself if it is valid.
@@ -632,17 +504,14 @@ impl<S: BuildHasher + Clone> Entities<S> {
     /// If several entities are invalid, the original reports any of them.
     ///
     /// ```
-    /// # use cedar_store::{ast::*, entities::*};
-    /// # fn uid(text: &str) -> EntityUID { EntityUID::from_normalized_str(text).unwrap() }
-    /// # fn entity_with(own: &str, parents: &[&str]) -> Entity {
-    /// #     let mut entity = Entity::with_uid(uid(own));
-    /// #     parents.iter().for_each(|parent| entity.add_parent(uid(parent)));
-    /// #     entity
-    /// # }
-    /// let own = entity_with(r#"Action::"view""#, &[r#"User::"alice""#]);
-    /// let store = Entities::from_entities([own], TCComputation::ComputeNow)?;
+    /// use cedar_store::ast::Entity;
+    /// use cedar_store::entities::{Entities, EntitiesError, TCComputation};
+    ///
+    /// let mut view = Entity::with_uid(r#"Action::"view""#.parse()?);
+    /// view.add_parent(r#"User::"alice""#.parse()?);
+    /// let store = Entities::from_entities([view], TCComputation::ComputeNow)?;
     /// match store.try_validate() {
-    ///     Err(EntitiesError::ActionParentIsNotAction { parent, .. }) => assert_eq!(parent, uid(r#"User::"alice""#)),
+    ///     Err(EntitiesError::ActionParentIsNotAction { parent, .. }) => assert_eq!(parent.to_string(), r#"User::"alice""#),
     ///     other => panic!("{other:?}"),
     /// }
     /// # Ok::<(), Box<dyn std::error::Error>>(())
@@ -655,13 +524,9 @@ impl<S: BuildHasher + Clone> Entities<S> {
 
     // Checks whether both have the same uids and are both partial or both not.
     fn has_same_uids(&self, other: &Self) -> bool {
-        if other.partial != self.partial {
-            return false;
-        }
-        if !have_keys_of(&self.entities, &other.entities) {
-            return false;
-        }
-        have_keys_of(&other.entities, &self.entities)
+        other.partial == self.partial
+            && have_keys_of(&self.entities, &other.entities)
+            && have_keys_of(&other.entities, &self.entities)
     }
 }
 
@@ -674,17 +539,6 @@ impl<S: BuildHasher + Clone> PartialEq for Entities<S> {
 }
 
 impl<S: BuildHasher + Clone> Eq for Entities<S> {}
-
-impl<S: BuildHasher + Clone> Clone for Entities<S> {
-    /// Returns a copy that shares the entities.
-    fn clone(&self) -> Self {
-        Self {
-            entities: self.entities.clone(),
-            partial: self.partial,
-            index: Index::unlisted(self.index.plain),
-        }
-    }
-}
 
 impl<S: BuildHasher + Clone> IntoIterator for Entities<S> {
     type Item = Entity;

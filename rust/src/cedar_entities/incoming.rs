@@ -41,21 +41,8 @@ pub(crate) fn has_no_indirect(entity: &Entity) -> bool {
     entity.indirect_ancestors().next().is_none()
 }
 
-// Checks whether none of the entities has indirect ancestors.
-fn have_no_indirect(list: &[Incoming]) -> bool {
-    for incoming in list {
-        if !has_no_indirect(&incoming.entity) {
-            return false;
-        }
-    }
-    true
-}
-
 // Returns `true` only if adding or overwriting the entities keeps a plain store plain: the mode computes the closure,
 // and no entity has indirect ancestors.
 pub(crate) fn stays_plain(tc_computation: TCComputation, list: &[Incoming]) -> bool {
-    if !computes(tc_computation) {
-        return false;
-    }
-    have_no_indirect(list)
+    computes(tc_computation) && list.iter().all(|incoming| has_no_indirect(&incoming.entity))
 }

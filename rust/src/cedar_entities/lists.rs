@@ -5,7 +5,7 @@
 use crate::cedar_entity::node::SharedEntity;
 use crate::cedar_ids::entity::EntityUID;
 use crate::cedar_uid_sets::{SharedUid, UidSet};
-use std::collections::HashMap;
+use crate::shared_map::SharedMap;
 use std::hash::BuildHasher;
 
 // Lists the shared uids of a set.
@@ -16,7 +16,7 @@ pub(crate) fn pointers_of(uids: &UidSet) -> Vec<SharedUid> {
 
 // Returns the uids of a list that the map contains, in order, as shared uids.
 pub(crate) fn held_uids<S: BuildHasher>(
-    entities: &HashMap<SharedUid, SharedEntity, S>,
+    entities: &SharedMap<SharedUid, SharedEntity, S>,
     list: impl IntoIterator<Item = EntityUID>,
 ) -> Vec<SharedUid> {
     let mut kept = Vec::new();
@@ -30,7 +30,7 @@ pub(crate) fn held_uids<S: BuildHasher>(
 
 // Returns the uids of a list that the map does not contain, in order.
 pub(crate) fn absent_uids<S: BuildHasher>(
-    entities: &HashMap<SharedUid, SharedEntity, S>,
+    entities: &SharedMap<SharedUid, SharedEntity, S>,
     list: Vec<SharedUid>,
 ) -> Vec<SharedUid> {
     let mut kept = Vec::new();

@@ -14,7 +14,7 @@ mod store_same;
 mod store_text;
 mod store_valid;
 
-pub use crate::cedar_entity::{EntitiesError, Entity, SharedUid, SharedUids};
+pub use crate::cedar_entity::{EntitiesError, Entity, Pairs, SharedUid, SharedUids, UidSet, Uids};
 
 pub use dereference::Dereference;
 

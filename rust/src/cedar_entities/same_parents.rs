@@ -4,56 +4,42 @@
 
 use crate::cedar_entities::edits::overwrite_all;
 use crate::cedar_entities::incoming::{Incoming, has_no_indirect};
-use crate::cedar_entity::entity::Entity;
 use crate::cedar_entity::node::SharedEntity;
 use crate::cedar_entity_maps::merging::insert_ancestors_at;
 use crate::cedar_uid_sets::{SharedUid, UidSet};
-use std::collections::HashMap;
+use crate::shared_map::SharedMap;
 use std::hash::BuildHasher;
 use std::sync::Arc;
 
 // Returns whether the map has an entity with the uid and the parents of an entity, which has no indirect ancestors.
-fn keeps_parents<S: BuildHasher>(entities: &HashMap<SharedUid, SharedEntity, S>, incoming: &Incoming) -> bool {
-    match entities.get(&incoming.uid) {
-        Some(node) => incoming.entity.has_same_parents(&node.0) && has_no_indirect(&incoming.entity),
-        None => false,
-    }
+fn keeps_parents<S: BuildHasher>(entities: &SharedMap<SharedUid, SharedEntity, S>, incoming: &Incoming) -> bool {
+    entities
+        .get(&incoming.uid)
+        .is_some_and(|node| incoming.entity.has_same_parents(&node.0) && has_no_indirect(&incoming.entity))
 }
 
 // Returns whether overwriting with these entities changes no parents.
-pub(crate) fn keep_parents<S: BuildHasher>(entities: &HashMap<SharedUid, SharedEntity, S>, list: &[Incoming]) -> bool {
-    for incoming in list {
-        if !keeps_parents(entities, incoming) {
-            return false;
-        }
-    }
-    true
-}
-
-// Inserts the uids of a row into the ancestors of an entity. A shared entity is copied first.
-fn widen(entity: &mut Arc<Entity>, row: UidSet) {
-    Arc::make_mut(entity).add_ancestor_set(row);
+pub(crate) fn keep_parents<S: BuildHasher>(
+    entities: &SharedMap<SharedUid, SharedEntity, S>,
+    list: &[Incoming],
+) -> bool {
+    list.iter().all(|incoming| keeps_parents(entities, incoming))
 }
 
 // Gives an entity the ancestors of the entity that the map has at its uid, in addition to its own.
-fn with_row<S: BuildHasher>(entities: &HashMap<SharedUid, SharedEntity, S>, incoming: Incoming) -> Incoming {
+fn with_row<S: BuildHasher>(entities: &SharedMap<SharedUid, SharedEntity, S>, incoming: Incoming) -> Incoming {
     let Incoming { uid, mut entity } = incoming;
     let mut row = UidSet::new();
     insert_ancestors_at(entities, &uid, &mut row);
-    widen(&mut entity, row);
+    Arc::make_mut(&mut entity).add_ancestor_set(row);
     Incoming { uid, entity }
-}
-
-// Gives each entity the ancestors of the entity that the map has at its uid.
-fn with_rows<S: BuildHasher>(entities: &HashMap<SharedUid, SharedEntity, S>, list: Vec<Incoming>) -> Vec<Incoming> {
-    list.into_iter().map(|incoming| with_row(entities, incoming)).collect()
 }
 
 // Overwrites entities, and gives each the ancestors of the entity that it replaces.
 pub(crate) fn overwrite_in_place<S: BuildHasher>(
-    entities: &mut HashMap<SharedUid, SharedEntity, S>,
+    entities: &mut SharedMap<SharedUid, SharedEntity, S>,
     list: Vec<Incoming>,
 ) {
-    let list = with_rows(entities, list);
+    let list = list.into_iter().map(|incoming| with_row(entities, incoming)).collect();
     overwrite_all(entities, list);
 }

@@ -5,7 +5,8 @@
 use crate::cedar_entity::entity::Entity;
 use crate::cedar_entity::node::SharedEntity;
 use crate::cedar_uid_sets::SharedUid;
-use std::collections::{HashMap, hash_map};
+use crate::shared_map;
+use crate::shared_map::SharedMap;
 use std::hash::BuildHasher;
 use std::iter::FusedIterator;
 use std::sync::Arc;
@@ -13,11 +14,11 @@ use std::sync::Arc;
 /// An iterator over the entities of a store, each once, in no specified order.
 #[derive(Clone, Debug)]
 pub struct Iter<'a> {
-    inner: hash_map::Iter<'a, SharedUid, SharedEntity>,
+    inner: shared_map::Iter<'a, SharedUid, SharedEntity>,
 }
 
 impl<'a> Iter<'a> {
-    pub(crate) fn of<S: BuildHasher>(entities: &'a HashMap<SharedUid, SharedEntity, S>) -> Self {
+    pub(crate) fn of<S: BuildHasher>(entities: &'a SharedMap<SharedUid, SharedEntity, S>) -> Self {
         Self { inner: entities.iter() }
     }
 }
@@ -43,11 +44,11 @@ impl FusedIterator for Iter<'_> {}
 /// copied.
 #[derive(Debug)]
 pub struct IntoIter {
-    inner: hash_map::IntoIter<SharedUid, SharedEntity>,
+    inner: shared_map::IntoIter<SharedUid, SharedEntity>,
 }
 
 impl IntoIter {
-    pub(crate) fn of<S: BuildHasher>(entities: HashMap<SharedUid, SharedEntity, S>) -> Self {
+    pub(crate) fn of<S: BuildHasher>(entities: SharedMap<SharedUid, SharedEntity, S>) -> Self {
         Self {
             inner: entities.into_iter(),
         }

@@ -5,43 +5,30 @@
 use crate::cedar_entity::entity::Entity;
 use crate::cedar_entity::node::SharedEntity;
 use crate::cedar_uid_sets::SharedUid;
-use std::collections::HashMap;
+use crate::shared_map::SharedMap;
 use std::hash::BuildHasher;
 
 // Checks whether the map has a deeply equal entity at a uid.
 fn has_deep_equal_at<S: BuildHasher>(
     entity: &Entity,
     uid: &SharedUid,
-    other: &HashMap<SharedUid, SharedEntity, S>,
+    other: &SharedMap<SharedUid, SharedEntity, S>,
 ) -> bool {
-    match other.get(uid) {
-        Some(node) => entity.deep_eq(&node.0),
-        None => false,
-    }
+    other.get(uid).is_some_and(|node| entity.deep_eq(&node.0))
 }
 
 // Checks whether `other` has a deeply equal entity for each entity of `one`.
 pub(crate) fn have_deep_equals<S: BuildHasher>(
-    one: &HashMap<SharedUid, SharedEntity, S>,
-    other: &HashMap<SharedUid, SharedEntity, S>,
+    one: &SharedMap<SharedUid, SharedEntity, S>,
+    other: &SharedMap<SharedUid, SharedEntity, S>,
 ) -> bool {
-    for (uid, node) in one {
-        if !has_deep_equal_at(&node.0, uid, other) {
-            return false;
-        }
-    }
-    true
+    one.iter().all(|(uid, node)| has_deep_equal_at(&node.0, uid, other))
 }
 
 // Checks whether `one` has each uid of `other`.
 pub(crate) fn have_keys_of<S: BuildHasher>(
-    one: &HashMap<SharedUid, SharedEntity, S>,
-    other: &HashMap<SharedUid, SharedEntity, S>,
+    one: &SharedMap<SharedUid, SharedEntity, S>,
+    other: &SharedMap<SharedUid, SharedEntity, S>,
 ) -> bool {
-    for uid in other.keys() {
-        if !one.contains_key(uid) {
-            return false;
-        }
-    }
-    true
+    other.keys().all(|uid| one.contains_key(uid))
 }

@@ -6,7 +6,7 @@ use crate::cedar_entity::entity::Entity;
 use crate::cedar_entity::err::EntitiesError;
 use crate::cedar_entity::node::SharedEntity;
 use crate::cedar_uid_sets::SharedUid;
-use std::collections::HashMap;
+use crate::shared_map::SharedMap;
 use std::hash::BuildHasher;
 
 // Returns the lesser of an invalid entity and the least one so far.
@@ -27,7 +27,7 @@ fn min_faulty<'a>(entity: &'a Entity, least: Option<&'a Entity>) -> Option<&'a E
 }
 
 // Returns the invalid entity with the least uid.
-fn first_faulty<S: BuildHasher>(entities: &HashMap<SharedUid, SharedEntity, S>) -> Option<&Entity> {
+fn first_faulty<S: BuildHasher>(entities: &SharedMap<SharedUid, SharedEntity, S>) -> Option<&Entity> {
     let mut least = None;
     for node in entities.values() {
         least = min_faulty(&node.0, least);
@@ -36,7 +36,9 @@ fn first_faulty<S: BuildHasher>(entities: &HashMap<SharedUid, SharedEntity, S>) 
 }
 
 // Returns the fault of the invalid entity with the least uid, if there is one.
-pub(crate) fn check_each<S: BuildHasher>(entities: &HashMap<SharedUid, SharedEntity, S>) -> Result<(), EntitiesError> {
+pub(crate) fn check_each<S: BuildHasher>(
+    entities: &SharedMap<SharedUid, SharedEntity, S>,
+) -> Result<(), EntitiesError> {
     match first_faulty(entities) {
         None => Ok(()),
         Some(entity) => entity.validate(),

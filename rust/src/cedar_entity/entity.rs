@@ -19,26 +19,13 @@ use std::hash::{Hash, Hasher};
 ///
 /// A lookup of a key takes O(log n), where n is the number of keys. A lookup of a uid in a set compares with each uid
 /// if there are at most sixteen, and takes O(log n) otherwise. The iterators return references and copy nothing.
-#[derive(Debug)]
+#[derive(Clone, Debug)]
 pub struct Entity {
     uid: EntityUID,
     attrs: BTreeMap<String, PartialValue>,
     pub(crate) indirect_ancestors: UidSet,
     pub(crate) parents: UidSet,
     tags: BTreeMap<String, PartialValue>,
-}
-
-impl Clone for Entity {
-    /// Returns a copy.
-    fn clone(&self) -> Self {
-        Self {
-            uid: self.uid.clone(),
-            attrs: self.attrs.clone(),
-            indirect_ancestors: self.indirect_ancestors.clone(),
-            parents: self.parents.clone(),
-            tags: self.tags.clone(),
-        }
-    }
 }
 
 impl PartialEq for Entity {
@@ -93,15 +80,15 @@ impl Entity {
     /// Makes one lookup for each pair, and sorts the uids of both sets.
     ///
     /// ```
-    /// # use cedar_store::{ast::*, entities::*};
-    /// # fn uid(text: &str) -> EntityUID { EntityUID::from_normalized_str(text).unwrap() }
-    /// # use std::collections::HashSet;
+    /// use cedar_store::ast::{Entity, PartialValue, Value};
+    /// use std::collections::HashSet;
+    ///
     /// let pair = |key: &str, value: i64| (key.to_string(), PartialValue::from(Value::from(value)));
     /// let entity = Entity::new_with_attr_partial_value(
-    ///     uid(r#"User::"alice""#),
+    ///     r#"User::"alice""#.parse()?,
     ///     [pair("age", 40), pair("level", 2), pair("age", 41)],
     ///     HashSet::new(),
-    ///     HashSet::from([uid(r#"Group::"staff""#)]),
+    ///     HashSet::from([r#"Group::"staff""#.parse()?]),
     ///     [pair("team", 7)],
     /// );
     /// // if a key is repeated, the last value is used
@@ -111,7 +98,9 @@ impl Entity {
     /// assert_eq!(entity.tag_keys().collect::<Vec<_>>(), ["team"]);
     /// assert!(entity.get_tag("team").is_some() && entity.get_tag("age").is_none());
     /// assert_eq!((entity.attrs().count(), entity.tags().count()), (2, 1));
+    /// # Ok::<(), Box<dyn std::error::Error>>(())
     /// ```
+    #[must_use]
     pub fn new_with_attr_partial_value(
         uid: EntityUID,
         attrs: impl IntoIterator<Item = (String, PartialValue)>,
@@ -133,19 +122,22 @@ impl Entity {
     /// Creates an entity with a uid and nothing else. Does not allocate.
     ///
     /// ```
-    /// # use cedar_store::{ast::*, entities::*};
-    /// # fn uid(text: &str) -> EntityUID { EntityUID::from_normalized_str(text).unwrap() }
-    /// let mut entity = Entity::with_uid(uid(r#"A::"a""#));
-    /// entity.add_indirect_ancestor(uid(r#"A::"b""#));
-    /// entity.add_indirect_ancestor(uid(r#"A::"c""#));
+    /// use cedar_store::ast::{Entity, EntityUID};
+    ///
+    /// let (a, b, c): (EntityUID, EntityUID, EntityUID) = (r#"A::"a""#.parse()?, r#"A::"b""#.parse()?, r#"A::"c""#.parse()?);
+    /// let mut entity = Entity::with_uid(a.clone());
+    /// entity.add_indirect_ancestor(b.clone());
+    /// entity.add_indirect_ancestor(c.clone());
     /// // a parent is not an indirect ancestor
-    /// entity.add_parent(uid(r#"A::"c""#));
-    /// assert_eq!(entity.uid(), &uid(r#"A::"a""#));
-    /// assert_eq!(entity.parents().collect::<Vec<_>>(), [&uid(r#"A::"c""#)]);
-    /// assert_eq!(entity.indirect_ancestors().collect::<Vec<_>>(), [&uid(r#"A::"b""#)]);
-    /// assert_eq!(entity.ancestors().collect::<Vec<_>>(), [&uid(r#"A::"c""#), &uid(r#"A::"b""#)]);
-    /// assert_eq!(entity.ancestors_in_order().collect::<Vec<_>>(), [&uid(r#"A::"b""#), &uid(r#"A::"c""#)]);
+    /// entity.add_parent(c.clone());
+    /// assert_eq!(entity.uid(), &a);
+    /// assert_eq!(entity.parents().collect::<Vec<_>>(), [&c]);
+    /// assert_eq!(entity.indirect_ancestors().collect::<Vec<_>>(), [&b]);
+    /// assert_eq!(entity.ancestors().collect::<Vec<_>>(), [&c, &b]);
+    /// assert_eq!(entity.ancestors_in_order().collect::<Vec<_>>(), [&b, &c]);
+    /// # Ok::<(), Box<dyn std::error::Error>>(())
     /// ```
+    #[must_use]
     pub fn with_uid(uid: EntityUID) -> Self {
         let parents = UidSet::new();
         Self {
@@ -158,7 +150,6 @@ impl Entity {
     }
 
     /// Creates an entity with a uid and parents, and nothing else. Takes constant time. Does not allocate.
-    ///
     /// Differs from cedar-policy-core: the original has no such function.
     pub(crate) fn with_parent_set(uid: EntityUID, parents: UidSet) -> Self {
         Self {
@@ -172,124 +163,40 @@ impl Entity {
 
     /// Returns the uid. Does not allocate.
     ///
-    /// ```
-    /// # use cedar_store::{ast::*, entities::*};
-    /// # fn uid(text: &str) -> EntityUID { EntityUID::from_normalized_str(text).unwrap() }
-    /// let mut entity = Entity::with_uid(uid(r#"A::"a""#));
-    /// entity.add_indirect_ancestor(uid(r#"A::"b""#));
-    /// entity.add_indirect_ancestor(uid(r#"A::"c""#));
-    /// // a parent is not an indirect ancestor
-    /// entity.add_parent(uid(r#"A::"c""#));
-    /// assert_eq!(entity.uid(), &uid(r#"A::"a""#));
-    /// assert_eq!(entity.parents().collect::<Vec<_>>(), [&uid(r#"A::"c""#)]);
-    /// assert_eq!(entity.indirect_ancestors().collect::<Vec<_>>(), [&uid(r#"A::"b""#)]);
-    /// assert_eq!(entity.ancestors().collect::<Vec<_>>(), [&uid(r#"A::"c""#), &uid(r#"A::"b""#)]);
-    /// assert_eq!(entity.ancestors_in_order().collect::<Vec<_>>(), [&uid(r#"A::"b""#), &uid(r#"A::"c""#)]);
-    /// ```
+    /// [`Self::with_uid`] has an example.
+    #[must_use]
     pub fn uid(&self) -> &EntityUID {
         &self.uid
     }
 
     /// Returns the attribute with a key. Does not allocate.
     ///
-    /// ```
-    /// # use cedar_store::{ast::*, entities::*};
-    /// # fn uid(text: &str) -> EntityUID { EntityUID::from_normalized_str(text).unwrap() }
-    /// # use std::collections::HashSet;
-    /// let pair = |key: &str, value: i64| (key.to_string(), PartialValue::from(Value::from(value)));
-    /// let entity = Entity::new_with_attr_partial_value(
-    ///     uid(r#"User::"alice""#),
-    ///     [pair("age", 40), pair("level", 2), pair("age", 41)],
-    ///     HashSet::new(),
-    ///     HashSet::from([uid(r#"Group::"staff""#)]),
-    ///     [pair("team", 7)],
-    /// );
-    /// // if a key is repeated, the last value is used
-    /// assert_eq!(entity.get("age"), Some(&PartialValue::from(Value::from(41))));
-    /// assert_eq!((entity.attrs_len(), entity.tags_len()), (2, 1));
-    /// assert_eq!(entity.keys().collect::<Vec<_>>(), ["age", "level"]);
-    /// assert_eq!(entity.tag_keys().collect::<Vec<_>>(), ["team"]);
-    /// assert!(entity.get_tag("team").is_some() && entity.get_tag("age").is_none());
-    /// assert_eq!((entity.attrs().count(), entity.tags().count()), (2, 1));
-    /// ```
+    /// [`Self::new_with_attr_partial_value`] has an example.
+    #[must_use]
     pub fn get(&self, key: &str) -> Option<&PartialValue> {
         self.attrs.get(key)
     }
 
     /// Returns the tag with a key. Does not allocate.
     ///
-    /// ```
-    /// # use cedar_store::{ast::*, entities::*};
-    /// # fn uid(text: &str) -> EntityUID { EntityUID::from_normalized_str(text).unwrap() }
-    /// # use std::collections::HashSet;
-    /// let pair = |key: &str, value: i64| (key.to_string(), PartialValue::from(Value::from(value)));
-    /// let entity = Entity::new_with_attr_partial_value(
-    ///     uid(r#"User::"alice""#),
-    ///     [pair("age", 40), pair("level", 2), pair("age", 41)],
-    ///     HashSet::new(),
-    ///     HashSet::from([uid(r#"Group::"staff""#)]),
-    ///     [pair("team", 7)],
-    /// );
-    /// // if a key is repeated, the last value is used
-    /// assert_eq!(entity.get("age"), Some(&PartialValue::from(Value::from(41))));
-    /// assert_eq!((entity.attrs_len(), entity.tags_len()), (2, 1));
-    /// assert_eq!(entity.keys().collect::<Vec<_>>(), ["age", "level"]);
-    /// assert_eq!(entity.tag_keys().collect::<Vec<_>>(), ["team"]);
-    /// assert!(entity.get_tag("team").is_some() && entity.get_tag("age").is_none());
-    /// assert_eq!((entity.attrs().count(), entity.tags().count()), (2, 1));
-    /// ```
+    /// [`Self::new_with_attr_partial_value`] has an example.
+    #[must_use]
     pub fn get_tag(&self, key: &str) -> Option<&PartialValue> {
         self.tags.get(key)
     }
 
     /// Returns the number of attributes. Does not allocate.
     ///
-    /// ```
-    /// # use cedar_store::{ast::*, entities::*};
-    /// # fn uid(text: &str) -> EntityUID { EntityUID::from_normalized_str(text).unwrap() }
-    /// # use std::collections::HashSet;
-    /// let pair = |key: &str, value: i64| (key.to_string(), PartialValue::from(Value::from(value)));
-    /// let entity = Entity::new_with_attr_partial_value(
-    ///     uid(r#"User::"alice""#),
-    ///     [pair("age", 40), pair("level", 2), pair("age", 41)],
-    ///     HashSet::new(),
-    ///     HashSet::from([uid(r#"Group::"staff""#)]),
-    ///     [pair("team", 7)],
-    /// );
-    /// // if a key is repeated, the last value is used
-    /// assert_eq!(entity.get("age"), Some(&PartialValue::from(Value::from(41))));
-    /// assert_eq!((entity.attrs_len(), entity.tags_len()), (2, 1));
-    /// assert_eq!(entity.keys().collect::<Vec<_>>(), ["age", "level"]);
-    /// assert_eq!(entity.tag_keys().collect::<Vec<_>>(), ["team"]);
-    /// assert!(entity.get_tag("team").is_some() && entity.get_tag("age").is_none());
-    /// assert_eq!((entity.attrs().count(), entity.tags().count()), (2, 1));
-    /// ```
+    /// [`Self::new_with_attr_partial_value`] has an example.
+    #[must_use]
     pub fn attrs_len(&self) -> usize {
         self.attrs.len()
     }
 
     /// Returns the number of tags. Does not allocate.
     ///
-    /// ```
-    /// # use cedar_store::{ast::*, entities::*};
-    /// # fn uid(text: &str) -> EntityUID { EntityUID::from_normalized_str(text).unwrap() }
-    /// # use std::collections::HashSet;
-    /// let pair = |key: &str, value: i64| (key.to_string(), PartialValue::from(Value::from(value)));
-    /// let entity = Entity::new_with_attr_partial_value(
-    ///     uid(r#"User::"alice""#),
-    ///     [pair("age", 40), pair("level", 2), pair("age", 41)],
-    ///     HashSet::new(),
-    ///     HashSet::from([uid(r#"Group::"staff""#)]),
-    ///     [pair("team", 7)],
-    /// );
-    /// // if a key is repeated, the last value is used
-    /// assert_eq!(entity.get("age"), Some(&PartialValue::from(Value::from(41))));
-    /// assert_eq!((entity.attrs_len(), entity.tags_len()), (2, 1));
-    /// assert_eq!(entity.keys().collect::<Vec<_>>(), ["age", "level"]);
-    /// assert_eq!(entity.tag_keys().collect::<Vec<_>>(), ["team"]);
-    /// assert!(entity.get_tag("team").is_some() && entity.get_tag("age").is_none());
-    /// assert_eq!((entity.attrs().count(), entity.tags().count()), (2, 1));
-    /// ```
+    /// [`Self::new_with_attr_partial_value`] has an example.
+    #[must_use]
     pub fn tags_len(&self) -> usize {
         self.tags.len()
     }
@@ -297,68 +204,39 @@ impl Entity {
     /// Returns whether a uid is a parent. Makes one lookup. Does not allocate.
     ///
     /// ```
-    /// # use cedar_store::{ast::*, entities::*};
-    /// # fn uid(text: &str) -> EntityUID { EntityUID::from_normalized_str(text).unwrap() }
-    /// # fn entity_with(own: &str, parents: &[&str]) -> Entity {
-    /// #     let mut entity = Entity::with_uid(uid(own));
-    /// #     parents.iter().for_each(|parent| entity.add_parent(uid(parent)));
-    /// #     entity
-    /// # }
-    /// let mut entity = entity_with(r#"A::"a""#, &[r#"A::"b""#]);
-    /// entity.add_indirect_ancestor(uid(r#"A::"c""#));
-    /// let (b, c) = (uid(r#"A::"b""#), uid(r#"A::"c""#));
-    /// assert!(entity.is_descendant_of(&b) && entity.is_descendant_of(&c));
-    /// assert!(entity.is_child_of(&b) && !entity.is_child_of(&c));
-    /// assert!(!entity.is_indirect_descendant_of(&b) && entity.is_indirect_descendant_of(&c));
+    /// use cedar_store::ast::{Entity, EntityUID};
+    ///
+    /// let (staff, all): (EntityUID, EntityUID) = (r#"Group::"staff""#.parse()?, r#"Group::"all""#.parse()?);
+    /// let mut alice = Entity::with_uid(r#"User::"alice""#.parse()?);
+    /// alice.add_parent(staff.clone());
+    /// alice.add_indirect_ancestor(all.clone());
+    /// assert!(alice.is_descendant_of(&staff) && alice.is_descendant_of(&all));
+    /// assert!(alice.is_child_of(&staff) && !alice.is_child_of(&all));
+    /// assert!(!alice.is_indirect_descendant_of(&staff) && alice.is_indirect_descendant_of(&all));
+    /// # Ok::<(), Box<dyn std::error::Error>>(())
     /// ```
+    #[must_use]
     pub fn is_child_of(&self, other: &EntityUID) -> bool {
         self.parents.contains(other)
     }
 
     /// Returns whether a uid is an indirect ancestor. Makes one lookup. Does not allocate.
     ///
-    /// ```
-    /// # use cedar_store::{ast::*, entities::*};
-    /// # fn uid(text: &str) -> EntityUID { EntityUID::from_normalized_str(text).unwrap() }
-    /// # fn entity_with(own: &str, parents: &[&str]) -> Entity {
-    /// #     let mut entity = Entity::with_uid(uid(own));
-    /// #     parents.iter().for_each(|parent| entity.add_parent(uid(parent)));
-    /// #     entity
-    /// # }
-    /// let mut entity = entity_with(r#"A::"a""#, &[r#"A::"b""#]);
-    /// entity.add_indirect_ancestor(uid(r#"A::"c""#));
-    /// let (b, c) = (uid(r#"A::"b""#), uid(r#"A::"c""#));
-    /// assert!(entity.is_descendant_of(&b) && entity.is_descendant_of(&c));
-    /// assert!(entity.is_child_of(&b) && !entity.is_child_of(&c));
-    /// assert!(!entity.is_indirect_descendant_of(&b) && entity.is_indirect_descendant_of(&c));
-    /// ```
+    /// [`Self::is_child_of`] has an example.
+    #[must_use]
     pub fn is_indirect_descendant_of(&self, other: &EntityUID) -> bool {
         self.indirect_ancestors.contains(other)
     }
 
     /// Returns whether a uid is a parent or an indirect ancestor. Makes at most two lookups. Does not allocate.
     ///
-    /// ```
-    /// # use cedar_store::{ast::*, entities::*};
-    /// # fn uid(text: &str) -> EntityUID { EntityUID::from_normalized_str(text).unwrap() }
-    /// # fn entity_with(own: &str, parents: &[&str]) -> Entity {
-    /// #     let mut entity = Entity::with_uid(uid(own));
-    /// #     parents.iter().for_each(|parent| entity.add_parent(uid(parent)));
-    /// #     entity
-    /// # }
-    /// let mut entity = entity_with(r#"A::"a""#, &[r#"A::"b""#]);
-    /// entity.add_indirect_ancestor(uid(r#"A::"c""#));
-    /// let (b, c) = (uid(r#"A::"b""#), uid(r#"A::"c""#));
-    /// assert!(entity.is_descendant_of(&b) && entity.is_descendant_of(&c));
-    /// assert!(entity.is_child_of(&b) && !entity.is_child_of(&c));
-    /// assert!(!entity.is_indirect_descendant_of(&b) && entity.is_indirect_descendant_of(&c));
-    /// ```
+    /// [`Self::is_child_of`] has an example.
+    #[must_use]
     pub fn is_descendant_of(&self, other: &EntityUID) -> bool {
         self.is_child_of(other) || self.is_indirect_descendant_of(other)
     }
 
-    /// Returns whether a shared uid is a parent or an indirect ancestor. Its lookups are cheaper than the lookups of
-    /// [`Entity::is_descendant_of`]. Does not allocate.
+    /// Returns what [`Entity::is_descendant_of`] does, for a shared uid and by cheaper lookups. Does not allocate.
     #[inline(always)]
     pub(crate) fn is_descendant_of_shared(&self, other: &SharedUid) -> bool {
         UidSet::either_contains(&self.parents, &self.indirect_ancestors, other)
@@ -366,152 +244,53 @@ impl Entity {
 
     // Returns `false` only if the entity has no ancestor. Does not allocate.
     pub(crate) fn has_ancestors(&self) -> bool {
-        if !self.parents.is_empty() {
-            return true;
-        }
-        !self.indirect_ancestors.is_empty()
+        !self.parents.is_empty() || !self.indirect_ancestors.is_empty()
     }
 
     /// Iterates over the keys of the attributes, in byte order. Does not allocate.
     ///
-    /// ```
-    /// # use cedar_store::{ast::*, entities::*};
-    /// # fn uid(text: &str) -> EntityUID { EntityUID::from_normalized_str(text).unwrap() }
-    /// # use std::collections::HashSet;
-    /// let pair = |key: &str, value: i64| (key.to_string(), PartialValue::from(Value::from(value)));
-    /// let entity = Entity::new_with_attr_partial_value(
-    ///     uid(r#"User::"alice""#),
-    ///     [pair("age", 40), pair("level", 2), pair("age", 41)],
-    ///     HashSet::new(),
-    ///     HashSet::from([uid(r#"Group::"staff""#)]),
-    ///     [pair("team", 7)],
-    /// );
-    /// // if a key is repeated, the last value is used
-    /// assert_eq!(entity.get("age"), Some(&PartialValue::from(Value::from(41))));
-    /// assert_eq!((entity.attrs_len(), entity.tags_len()), (2, 1));
-    /// assert_eq!(entity.keys().collect::<Vec<_>>(), ["age", "level"]);
-    /// assert_eq!(entity.tag_keys().collect::<Vec<_>>(), ["team"]);
-    /// assert!(entity.get_tag("team").is_some() && entity.get_tag("age").is_none());
-    /// assert_eq!((entity.attrs().count(), entity.tags().count()), (2, 1));
-    /// ```
+    /// [`Self::new_with_attr_partial_value`] has an example.
+    #[must_use]
     pub fn keys(&self) -> Keys<'_> {
         Keys::of(&self.attrs)
     }
 
     /// Iterates over the keys of the tags, in byte order. Does not allocate.
     ///
-    /// ```
-    /// # use cedar_store::{ast::*, entities::*};
-    /// # fn uid(text: &str) -> EntityUID { EntityUID::from_normalized_str(text).unwrap() }
-    /// # use std::collections::HashSet;
-    /// let pair = |key: &str, value: i64| (key.to_string(), PartialValue::from(Value::from(value)));
-    /// let entity = Entity::new_with_attr_partial_value(
-    ///     uid(r#"User::"alice""#),
-    ///     [pair("age", 40), pair("level", 2), pair("age", 41)],
-    ///     HashSet::new(),
-    ///     HashSet::from([uid(r#"Group::"staff""#)]),
-    ///     [pair("team", 7)],
-    /// );
-    /// // if a key is repeated, the last value is used
-    /// assert_eq!(entity.get("age"), Some(&PartialValue::from(Value::from(41))));
-    /// assert_eq!((entity.attrs_len(), entity.tags_len()), (2, 1));
-    /// assert_eq!(entity.keys().collect::<Vec<_>>(), ["age", "level"]);
-    /// assert_eq!(entity.tag_keys().collect::<Vec<_>>(), ["team"]);
-    /// assert!(entity.get_tag("team").is_some() && entity.get_tag("age").is_none());
-    /// assert_eq!((entity.attrs().count(), entity.tags().count()), (2, 1));
-    /// ```
+    /// [`Self::new_with_attr_partial_value`] has an example.
+    #[must_use]
     pub fn tag_keys(&self) -> Keys<'_> {
         Keys::of(&self.tags)
     }
 
     /// Iterates over the attributes with their keys, in byte order of the keys. Does not allocate.
     ///
-    /// ```
-    /// # use cedar_store::{ast::*, entities::*};
-    /// # fn uid(text: &str) -> EntityUID { EntityUID::from_normalized_str(text).unwrap() }
-    /// # use std::collections::HashSet;
-    /// let pair = |key: &str, value: i64| (key.to_string(), PartialValue::from(Value::from(value)));
-    /// let entity = Entity::new_with_attr_partial_value(
-    ///     uid(r#"User::"alice""#),
-    ///     [pair("age", 40), pair("level", 2), pair("age", 41)],
-    ///     HashSet::new(),
-    ///     HashSet::from([uid(r#"Group::"staff""#)]),
-    ///     [pair("team", 7)],
-    /// );
-    /// // if a key is repeated, the last value is used
-    /// assert_eq!(entity.get("age"), Some(&PartialValue::from(Value::from(41))));
-    /// assert_eq!((entity.attrs_len(), entity.tags_len()), (2, 1));
-    /// assert_eq!(entity.keys().collect::<Vec<_>>(), ["age", "level"]);
-    /// assert_eq!(entity.tag_keys().collect::<Vec<_>>(), ["team"]);
-    /// assert!(entity.get_tag("team").is_some() && entity.get_tag("age").is_none());
-    /// assert_eq!((entity.attrs().count(), entity.tags().count()), (2, 1));
-    /// ```
+    /// [`Self::new_with_attr_partial_value`] has an example.
+    #[must_use]
     pub fn attrs(&self) -> Pairs<'_> {
         Pairs::of(&self.attrs)
     }
 
     /// Iterates over the tags with their keys, in byte order of the keys. Does not allocate.
     ///
-    /// ```
-    /// # use cedar_store::{ast::*, entities::*};
-    /// # fn uid(text: &str) -> EntityUID { EntityUID::from_normalized_str(text).unwrap() }
-    /// # use std::collections::HashSet;
-    /// let pair = |key: &str, value: i64| (key.to_string(), PartialValue::from(Value::from(value)));
-    /// let entity = Entity::new_with_attr_partial_value(
-    ///     uid(r#"User::"alice""#),
-    ///     [pair("age", 40), pair("level", 2), pair("age", 41)],
-    ///     HashSet::new(),
-    ///     HashSet::from([uid(r#"Group::"staff""#)]),
-    ///     [pair("team", 7)],
-    /// );
-    /// // if a key is repeated, the last value is used
-    /// assert_eq!(entity.get("age"), Some(&PartialValue::from(Value::from(41))));
-    /// assert_eq!((entity.attrs_len(), entity.tags_len()), (2, 1));
-    /// assert_eq!(entity.keys().collect::<Vec<_>>(), ["age", "level"]);
-    /// assert_eq!(entity.tag_keys().collect::<Vec<_>>(), ["team"]);
-    /// assert!(entity.get_tag("team").is_some() && entity.get_tag("age").is_none());
-    /// assert_eq!((entity.attrs().count(), entity.tags().count()), (2, 1));
-    /// ```
+    /// [`Self::new_with_attr_partial_value`] has an example.
+    #[must_use]
     pub fn tags(&self) -> Pairs<'_> {
         Pairs::of(&self.tags)
     }
 
     /// Iterates over the parents: each once, in ascending order of uid. Does not allocate.
     ///
-    /// ```
-    /// # use cedar_store::{ast::*, entities::*};
-    /// # fn uid(text: &str) -> EntityUID { EntityUID::from_normalized_str(text).unwrap() }
-    /// let mut entity = Entity::with_uid(uid(r#"A::"a""#));
-    /// entity.add_indirect_ancestor(uid(r#"A::"b""#));
-    /// entity.add_indirect_ancestor(uid(r#"A::"c""#));
-    /// // a parent is not an indirect ancestor
-    /// entity.add_parent(uid(r#"A::"c""#));
-    /// assert_eq!(entity.uid(), &uid(r#"A::"a""#));
-    /// assert_eq!(entity.parents().collect::<Vec<_>>(), [&uid(r#"A::"c""#)]);
-    /// assert_eq!(entity.indirect_ancestors().collect::<Vec<_>>(), [&uid(r#"A::"b""#)]);
-    /// assert_eq!(entity.ancestors().collect::<Vec<_>>(), [&uid(r#"A::"c""#), &uid(r#"A::"b""#)]);
-    /// assert_eq!(entity.ancestors_in_order().collect::<Vec<_>>(), [&uid(r#"A::"b""#), &uid(r#"A::"c""#)]);
-    /// ```
+    /// [`Self::with_uid`] has an example.
+    #[must_use]
     pub fn parents(&self) -> Uids<'_> {
         self.parents.iter()
     }
 
     /// Iterates over the indirect ancestors: each once, in ascending order of uid. Does not allocate.
     ///
-    /// ```
-    /// # use cedar_store::{ast::*, entities::*};
-    /// # fn uid(text: &str) -> EntityUID { EntityUID::from_normalized_str(text).unwrap() }
-    /// let mut entity = Entity::with_uid(uid(r#"A::"a""#));
-    /// entity.add_indirect_ancestor(uid(r#"A::"b""#));
-    /// entity.add_indirect_ancestor(uid(r#"A::"c""#));
-    /// // a parent is not an indirect ancestor
-    /// entity.add_parent(uid(r#"A::"c""#));
-    /// assert_eq!(entity.uid(), &uid(r#"A::"a""#));
-    /// assert_eq!(entity.parents().collect::<Vec<_>>(), [&uid(r#"A::"c""#)]);
-    /// assert_eq!(entity.indirect_ancestors().collect::<Vec<_>>(), [&uid(r#"A::"b""#)]);
-    /// assert_eq!(entity.ancestors().collect::<Vec<_>>(), [&uid(r#"A::"c""#), &uid(r#"A::"b""#)]);
-    /// assert_eq!(entity.ancestors_in_order().collect::<Vec<_>>(), [&uid(r#"A::"b""#), &uid(r#"A::"c""#)]);
-    /// ```
+    /// [`Self::with_uid`] has an example.
+    #[must_use]
     pub fn indirect_ancestors(&self) -> Uids<'_> {
         self.indirect_ancestors.iter()
     }
@@ -519,26 +298,13 @@ impl Entity {
     /// Iterates over the parents and then over the indirect ancestors. Each of the two groups is in ascending order of
     /// uid. A uid that is in both groups is returned twice. Does not allocate.
     ///
-    /// ```
-    /// # use cedar_store::{ast::*, entities::*};
-    /// # fn uid(text: &str) -> EntityUID { EntityUID::from_normalized_str(text).unwrap() }
-    /// let mut entity = Entity::with_uid(uid(r#"A::"a""#));
-    /// entity.add_indirect_ancestor(uid(r#"A::"b""#));
-    /// entity.add_indirect_ancestor(uid(r#"A::"c""#));
-    /// // a parent is not an indirect ancestor
-    /// entity.add_parent(uid(r#"A::"c""#));
-    /// assert_eq!(entity.uid(), &uid(r#"A::"a""#));
-    /// assert_eq!(entity.parents().collect::<Vec<_>>(), [&uid(r#"A::"c""#)]);
-    /// assert_eq!(entity.indirect_ancestors().collect::<Vec<_>>(), [&uid(r#"A::"b""#)]);
-    /// assert_eq!(entity.ancestors().collect::<Vec<_>>(), [&uid(r#"A::"c""#), &uid(r#"A::"b""#)]);
-    /// assert_eq!(entity.ancestors_in_order().collect::<Vec<_>>(), [&uid(r#"A::"b""#), &uid(r#"A::"c""#)]);
-    /// ```
+    /// [`Self::with_uid`] has an example.
+    #[must_use]
     pub fn ancestors(&self) -> Ancestors<'_> {
         Ancestors::of(&self.parents, &self.indirect_ancestors)
     }
 
     /// Iterates over the parents as shared uids: each once, in ascending order of uid. Does not allocate.
-    ///
     /// Differs from cedar-policy-core: the original has no such function.
     pub(crate) fn shared_parents(&self) -> SharedUids<'_> {
         SharedUids::of(self.parents.pointers(), &[])
@@ -546,7 +312,6 @@ impl Entity {
 
     /// Iterates over the parents and then over the indirect ancestors, as shared uids. Each of the two groups is in
     /// ascending order of uid. A uid that is in both groups is returned twice. Does not allocate.
-    ///
     /// Differs from cedar-policy-core: the original has no such function.
     pub(crate) fn shared_ancestors(&self) -> SharedUids<'_> {
         SharedUids::of(self.parents.pointers(), self.indirect_ancestors.pointers())
@@ -560,23 +325,10 @@ impl Entity {
 
     /// Iterates over the parents and the indirect ancestors together: each once, in ascending order of uid. Makes one
     /// or two comparisons per uid. Does not allocate.
-    ///
     /// Differs from cedar-policy-core: the original has no such function.
     ///
-    /// ```
-    /// # use cedar_store::{ast::*, entities::*};
-    /// # fn uid(text: &str) -> EntityUID { EntityUID::from_normalized_str(text).unwrap() }
-    /// let mut entity = Entity::with_uid(uid(r#"A::"a""#));
-    /// entity.add_indirect_ancestor(uid(r#"A::"b""#));
-    /// entity.add_indirect_ancestor(uid(r#"A::"c""#));
-    /// // a parent is not an indirect ancestor
-    /// entity.add_parent(uid(r#"A::"c""#));
-    /// assert_eq!(entity.uid(), &uid(r#"A::"a""#));
-    /// assert_eq!(entity.parents().collect::<Vec<_>>(), [&uid(r#"A::"c""#)]);
-    /// assert_eq!(entity.indirect_ancestors().collect::<Vec<_>>(), [&uid(r#"A::"b""#)]);
-    /// assert_eq!(entity.ancestors().collect::<Vec<_>>(), [&uid(r#"A::"c""#), &uid(r#"A::"b""#)]);
-    /// assert_eq!(entity.ancestors_in_order().collect::<Vec<_>>(), [&uid(r#"A::"b""#), &uid(r#"A::"c""#)]);
-    /// ```
+    /// [`Self::with_uid`] has an example.
+    #[must_use]
     pub fn ancestors_in_order(&self) -> Union<'_> {
         self.parents.union(&self.indirect_ancestors)
     }
@@ -590,36 +342,26 @@ impl Entity {
     /// parents. Iterates over the ancestors of both once, in order. Does not allocate.
     ///
     /// ```
-    /// # use cedar_store::{ast::*, entities::*};
-    /// # fn uid(text: &str) -> EntityUID { EntityUID::from_normalized_str(text).unwrap() }
-    /// # fn entity_with(own: &str, parents: &[&str]) -> Entity {
-    /// #     let mut entity = Entity::with_uid(uid(own));
-    /// #     parents.iter().for_each(|parent| entity.add_parent(uid(parent)));
-    /// #     entity
-    /// # }
-    /// let mut one = entity_with(r#"A::"a""#, &[r#"A::"b""#]);
-    /// let mut other = Entity::with_uid(uid(r#"A::"a""#));
-    /// other.add_indirect_ancestor(uid(r#"A::"b""#));
+    /// use cedar_store::ast::{Entity, EntityUID};
+    ///
+    /// let (a, b, c): (EntityUID, EntityUID, EntityUID) = (r#"A::"a""#.parse()?, r#"A::"b""#.parse()?, r#"A::"c""#.parse()?);
+    /// let mut one = Entity::with_uid(a.clone());
+    /// one.add_parent(b.clone());
+    /// let mut other = Entity::with_uid(a.clone());
+    /// other.add_indirect_ancestor(b);
     /// // `deep_eq` does not compare which ancestors are parents, and `==` compares only the uid
     /// assert!(one.deep_eq(&other));
-    /// one.add_parent(uid(r#"A::"c""#));
+    /// one.add_parent(c);
     /// assert!(one == other && !one.deep_eq(&other));
     /// let (own, attributes, indirect_ancestors, parents, tags) = one.into_inner();
-    /// assert_eq!((own, parents.len(), indirect_ancestors.len()), (uid(r#"A::"a""#), 2, 0));
+    /// assert_eq!((own, parents.len(), indirect_ancestors.len()), (a, 2, 0));
     /// assert!(attributes.is_empty() && tags.is_empty());
+    /// # Ok::<(), Box<dyn std::error::Error>>(())
     /// ```
+    #[must_use]
     pub fn deep_eq(&self, other: &Self) -> bool {
         let same = self.uid == other.uid;
-        if !same {
-            return false;
-        }
-        if self.attrs != other.attrs {
-            return false;
-        }
-        if self.tags != other.tags {
-            return false;
-        }
-        self.has_same_ancestors(other)
+        same && self.attrs == other.attrs && self.tags == other.tags && self.has_same_ancestors(other)
     }
 
     /// Returns the uid, the attributes, the indirect ancestors, the parents and the tags. Does not allocate.
@@ -628,25 +370,8 @@ impl Entity {
     ///
     /// The original returns hash sets.
     ///
-    /// ```
-    /// # use cedar_store::{ast::*, entities::*};
-    /// # fn uid(text: &str) -> EntityUID { EntityUID::from_normalized_str(text).unwrap() }
-    /// # fn entity_with(own: &str, parents: &[&str]) -> Entity {
-    /// #     let mut entity = Entity::with_uid(uid(own));
-    /// #     parents.iter().for_each(|parent| entity.add_parent(uid(parent)));
-    /// #     entity
-    /// # }
-    /// let mut one = entity_with(r#"A::"a""#, &[r#"A::"b""#]);
-    /// let mut other = Entity::with_uid(uid(r#"A::"a""#));
-    /// other.add_indirect_ancestor(uid(r#"A::"b""#));
-    /// // `deep_eq` does not compare which ancestors are parents, and `==` compares only the uid
-    /// assert!(one.deep_eq(&other));
-    /// one.add_parent(uid(r#"A::"c""#));
-    /// assert!(one == other && !one.deep_eq(&other));
-    /// let (own, attributes, indirect_ancestors, parents, tags) = one.into_inner();
-    /// assert_eq!((own, parents.len(), indirect_ancestors.len()), (uid(r#"A::"a""#), 2, 0));
-    /// assert!(attributes.is_empty() && tags.is_empty());
-    /// ```
+    /// [`Self::deep_eq`] has an example.
+    #[must_use]
     pub fn into_inner(
         self,
     ) -> (
@@ -671,8 +396,7 @@ impl Entity {
         least_common(&self.parents, &self.indirect_ancestors)
     }
 
-    // Returns the least parent that is not an action. If there is none, returns the least indirect ancestor that is not
-    // an action.
+    // Returns the least parent that is not an action, or else the least indirect ancestor that is not an action.
     fn least_non_action_ancestor(&self) -> Option<&EntityUID> {
         match least_non_action(&self.parents) {
             Some(parent) => Some(parent),
@@ -680,8 +404,7 @@ impl Entity {
         }
     }
 
-    // Returns the ancestor that an error for an action names: an ancestor that is not an action. Returns `None` if the
-    // entity is not an action.
+    // Returns the ancestor that an error for an action names: one that is not an action. `None` for other entities.
     fn invalid_action_ancestor(&self) -> Option<&EntityUID> {
         if !self.uid.is_action() {
             return None;
@@ -759,17 +482,18 @@ impl Entity {
     /// If several uids violate a rule, the original names any of them.
     ///
     /// ```
-    /// # use cedar_store::{ast::*, entities::*};
-    /// # fn uid(text: &str) -> EntityUID { EntityUID::from_normalized_str(text).unwrap() }
-    /// # fn entity_with(own: &str, parents: &[&str]) -> Entity {
-    /// #     let mut entity = Entity::with_uid(uid(own));
-    /// #     parents.iter().for_each(|parent| entity.add_parent(uid(parent)));
-    /// #     entity
-    /// # }
-    /// let own = entity_with(r#"A::"a""#, &[r#"A::"a""#]);
+    /// use cedar_store::ast::{Entity, EntityUID};
+    /// use cedar_store::entities::EntitiesError;
+    ///
+    /// let (a, b): (EntityUID, EntityUID) = (r#"A::"a""#.parse()?, r#"A::"b""#.parse()?);
+    /// let mut own = Entity::with_uid(a.clone());
+    /// own.add_parent(a.clone());
     /// assert!(!own.is_valid());
     /// assert!(matches!(own.validate(), Err(EntitiesError::SelfAncestor { .. })));
-    /// assert!(entity_with(r#"A::"a""#, &[r#"A::"b""#]).try_validate().is_ok());
+    /// let mut below = Entity::with_uid(a);
+    /// below.add_parent(b);
+    /// assert!(below.try_validate().is_ok());
+    /// # Ok::<(), Box<dyn std::error::Error>>(())
     /// ```
     pub fn validate(&self) -> Result<(), EntitiesError> {
         match self.fault() {
@@ -779,22 +503,10 @@ impl Entity {
     }
 
     /// Returns whether [`Entity::validate`] finds no fault. Recurses into values as that does. Does not allocate.
-    ///
     /// Differs from cedar-policy-core: the original has no such function.
     ///
-    /// ```
-    /// # use cedar_store::{ast::*, entities::*};
-    /// # fn uid(text: &str) -> EntityUID { EntityUID::from_normalized_str(text).unwrap() }
-    /// # fn entity_with(own: &str, parents: &[&str]) -> Entity {
-    /// #     let mut entity = Entity::with_uid(uid(own));
-    /// #     parents.iter().for_each(|parent| entity.add_parent(uid(parent)));
-    /// #     entity
-    /// # }
-    /// let own = entity_with(r#"A::"a""#, &[r#"A::"a""#]);
-    /// assert!(!own.is_valid());
-    /// assert!(matches!(own.validate(), Err(EntitiesError::SelfAncestor { .. })));
-    /// assert!(entity_with(r#"A::"a""#, &[r#"A::"b""#]).try_validate().is_ok());
-    /// ```
+    /// [`Self::validate`] has an example.
+    #[must_use]
     pub fn is_valid(&self) -> bool {
         self.fault().is_none()
     }
@@ -805,19 +517,7 @@ impl Entity {
     ///
     /// Returns the error of [`Entity::validate`]. The entity is then dropped.
     ///
-    /// ```
-    /// # use cedar_store::{ast::*, entities::*};
-    /// # fn uid(text: &str) -> EntityUID { EntityUID::from_normalized_str(text).unwrap() }
-    /// # fn entity_with(own: &str, parents: &[&str]) -> Entity {
-    /// #     let mut entity = Entity::with_uid(uid(own));
-    /// #     parents.iter().for_each(|parent| entity.add_parent(uid(parent)));
-    /// #     entity
-    /// # }
-    /// let own = entity_with(r#"A::"a""#, &[r#"A::"a""#]);
-    /// assert!(!own.is_valid());
-    /// assert!(matches!(own.validate(), Err(EntitiesError::SelfAncestor { .. })));
-    /// assert!(entity_with(r#"A::"a""#, &[r#"A::"b""#]).try_validate().is_ok());
-    /// ```
+    /// [`Self::validate`] has an example.
     pub fn try_validate(self) -> Result<Self, EntitiesError> {
         self.validate()?;
         Ok(self)
@@ -838,29 +538,20 @@ impl Entity {
         self.indirect_ancestors.extend_ascending(added.into_pointers());
     }
 
-    // Inserts shared uids as indirect ancestors. None of them may be an ancestor already, so they are not compared with
-    // the parents.
+    // Inserts shared uids as indirect ancestors. None may be an ancestor, so they are not compared with the parents.
     pub(crate) fn add_new_ancestors(&mut self, shared: Vec<SharedUid>) {
         let added = UidSet::from_pointers(shared).into_pointers();
         self.indirect_ancestors.extend_ascending(added);
     }
 
+    // Inserts shared uids as indirect ancestors. They must ascend, and none of them may be an ancestor already.
+    pub(crate) fn add_ascending_ancestors(&mut self, shared: Vec<SharedUid>) {
+        self.indirect_ancestors.extend_ascending(shared);
+    }
+
     /// Inserts an indirect ancestor. A uid that is a parent or an indirect ancestor already has no effect.
     ///
-    /// ```
-    /// # use cedar_store::{ast::*, entities::*};
-    /// # fn uid(text: &str) -> EntityUID { EntityUID::from_normalized_str(text).unwrap() }
-    /// let mut entity = Entity::with_uid(uid(r#"A::"a""#));
-    /// entity.add_indirect_ancestor(uid(r#"A::"b""#));
-    /// entity.add_indirect_ancestor(uid(r#"A::"c""#));
-    /// // a parent is not an indirect ancestor
-    /// entity.add_parent(uid(r#"A::"c""#));
-    /// assert_eq!(entity.uid(), &uid(r#"A::"a""#));
-    /// assert_eq!(entity.parents().collect::<Vec<_>>(), [&uid(r#"A::"c""#)]);
-    /// assert_eq!(entity.indirect_ancestors().collect::<Vec<_>>(), [&uid(r#"A::"b""#)]);
-    /// assert_eq!(entity.ancestors().collect::<Vec<_>>(), [&uid(r#"A::"c""#), &uid(r#"A::"b""#)]);
-    /// assert_eq!(entity.ancestors_in_order().collect::<Vec<_>>(), [&uid(r#"A::"b""#), &uid(r#"A::"c""#)]);
-    /// ```
+    /// [`Self::with_uid`] has an example.
     pub fn add_indirect_ancestor(&mut self, uid: EntityUID) {
         let shared = SharedUid::new(uid);
         self.add_shared_ancestor(shared);
@@ -868,20 +559,7 @@ impl Entity {
 
     /// Inserts a parent. Removes it from the indirect ancestors.
     ///
-    /// ```
-    /// # use cedar_store::{ast::*, entities::*};
-    /// # fn uid(text: &str) -> EntityUID { EntityUID::from_normalized_str(text).unwrap() }
-    /// let mut entity = Entity::with_uid(uid(r#"A::"a""#));
-    /// entity.add_indirect_ancestor(uid(r#"A::"b""#));
-    /// entity.add_indirect_ancestor(uid(r#"A::"c""#));
-    /// // a parent is not an indirect ancestor
-    /// entity.add_parent(uid(r#"A::"c""#));
-    /// assert_eq!(entity.uid(), &uid(r#"A::"a""#));
-    /// assert_eq!(entity.parents().collect::<Vec<_>>(), [&uid(r#"A::"c""#)]);
-    /// assert_eq!(entity.indirect_ancestors().collect::<Vec<_>>(), [&uid(r#"A::"b""#)]);
-    /// assert_eq!(entity.ancestors().collect::<Vec<_>>(), [&uid(r#"A::"c""#), &uid(r#"A::"b""#)]);
-    /// assert_eq!(entity.ancestors_in_order().collect::<Vec<_>>(), [&uid(r#"A::"b""#), &uid(r#"A::"c""#)]);
-    /// ```
+    /// [`Self::with_uid`] has an example.
     pub fn add_parent(&mut self, uid: EntityUID) {
         let shared = SharedUid::new(uid);
         self.add_shared_parent(shared);
@@ -896,23 +574,7 @@ impl Entity {
 
     /// Removes a uid from the indirect ancestors. The parents do not change. Does not allocate.
     ///
-    /// ```
-    /// # use cedar_store::{ast::*, entities::*};
-    /// # fn uid(text: &str) -> EntityUID { EntityUID::from_normalized_str(text).unwrap() }
-    /// # fn entity_with(own: &str, parents: &[&str]) -> Entity {
-    /// #     let mut entity = Entity::with_uid(uid(own));
-    /// #     parents.iter().for_each(|parent| entity.add_parent(uid(parent)));
-    /// #     entity
-    /// # }
-    /// let mut entity = entity_with(r#"A::"a""#, &[r#"A::"b""#]);
-    /// entity.add_indirect_ancestor(uid(r#"A::"c""#));
-    /// entity.add_indirect_ancestor(uid(r#"A::"d""#));
-    /// entity.remove_parent(&uid(r#"A::"b""#));
-    /// entity.remove_indirect_ancestor(&uid(r#"A::"c""#));
-    /// assert_eq!(entity.ancestors().collect::<Vec<_>>(), [&uid(r#"A::"d""#)]);
-    /// entity.remove_all_indirect_ancestors();
-    /// assert_eq!(entity.ancestors().count(), 0);
-    /// ```
+    /// [`Self::remove_parent`] has an example.
     pub fn remove_indirect_ancestor(&mut self, uid: &EntityUID) {
         self.indirect_ancestors.remove(uid);
     }
@@ -920,37 +582,31 @@ impl Entity {
     /// Removes a uid from the parents. The indirect ancestors do not change. Does not allocate.
     ///
     /// ```
-    /// # use cedar_store::{ast::*, entities::*};
-    /// # fn uid(text: &str) -> EntityUID { EntityUID::from_normalized_str(text).unwrap() }
-    /// # fn entity_with(own: &str, parents: &[&str]) -> Entity {
-    /// #     let mut entity = Entity::with_uid(uid(own));
-    /// #     parents.iter().for_each(|parent| entity.add_parent(uid(parent)));
-    /// #     entity
-    /// # }
-    /// let mut entity = entity_with(r#"A::"a""#, &[r#"A::"b""#]);
-    /// entity.add_indirect_ancestor(uid(r#"A::"c""#));
-    /// entity.add_indirect_ancestor(uid(r#"A::"d""#));
-    /// entity.remove_parent(&uid(r#"A::"b""#));
-    /// entity.remove_indirect_ancestor(&uid(r#"A::"c""#));
-    /// assert_eq!(entity.ancestors().collect::<Vec<_>>(), [&uid(r#"A::"d""#)]);
+    /// use cedar_store::ast::{Entity, EntityUID};
+    ///
+    /// let (b, c, d): (EntityUID, EntityUID, EntityUID) = (r#"A::"b""#.parse()?, r#"A::"c""#.parse()?, r#"A::"d""#.parse()?);
+    /// let mut entity = Entity::with_uid(r#"A::"a""#.parse()?);
+    /// entity.add_parent(b.clone());
+    /// entity.add_indirect_ancestor(c.clone());
+    /// entity.add_indirect_ancestor(d.clone());
+    /// entity.remove_parent(&b);
+    /// entity.remove_indirect_ancestor(&c);
+    /// assert_eq!(entity.ancestors().collect::<Vec<_>>(), [&d]);
     /// entity.remove_all_indirect_ancestors();
     /// assert_eq!(entity.ancestors().count(), 0);
+    /// # Ok::<(), Box<dyn std::error::Error>>(())
     /// ```
     pub fn remove_parent(&mut self, uid: &EntityUID) {
         self.parents.remove(uid);
     }
 
-    /// Removes the uids of a set from the indirect ancestors; see [`UidSet::difference`]. The parents do not change.
-    /// Does not allocate.
-    ///
+    /// Removes the uids of a set from the indirect ancestors. The parents do not change. Does not allocate.
     /// Differs from cedar-policy-core: the original has no such function.
     pub(crate) fn remove_ancestors_of(&mut self, uids: &UidSet) {
         self.indirect_ancestors.difference(uids);
     }
 
-    /// Removes the uids of a set from the parents; see [`UidSet::difference`]. The indirect ancestors do not change.
-    /// Does not allocate.
-    ///
+    /// Removes the uids of a set from the parents. The indirect ancestors do not change. Does not allocate.
     /// Differs from cedar-policy-core: the original has no such function.
     pub(crate) fn remove_parents_of(&mut self, uids: &UidSet) {
         self.parents.difference(uids);
@@ -958,23 +614,7 @@ impl Entity {
 
     /// Removes all indirect ancestors. The parents do not change. Does not allocate.
     ///
-    /// ```
-    /// # use cedar_store::{ast::*, entities::*};
-    /// # fn uid(text: &str) -> EntityUID { EntityUID::from_normalized_str(text).unwrap() }
-    /// # fn entity_with(own: &str, parents: &[&str]) -> Entity {
-    /// #     let mut entity = Entity::with_uid(uid(own));
-    /// #     parents.iter().for_each(|parent| entity.add_parent(uid(parent)));
-    /// #     entity
-    /// # }
-    /// let mut entity = entity_with(r#"A::"a""#, &[r#"A::"b""#]);
-    /// entity.add_indirect_ancestor(uid(r#"A::"c""#));
-    /// entity.add_indirect_ancestor(uid(r#"A::"d""#));
-    /// entity.remove_parent(&uid(r#"A::"b""#));
-    /// entity.remove_indirect_ancestor(&uid(r#"A::"c""#));
-    /// assert_eq!(entity.ancestors().collect::<Vec<_>>(), [&uid(r#"A::"d""#)]);
-    /// entity.remove_all_indirect_ancestors();
-    /// assert_eq!(entity.ancestors().count(), 0);
-    /// ```
+    /// [`Self::remove_parent`] has an example.
     pub fn remove_all_indirect_ancestors(&mut self) {
         self.indirect_ancestors.clear();
     }

@@ -7,9 +7,8 @@ use crate::cedar_terms::PartialValue;
 use crate::cedar_uid_sets::{SharedUid, UidSet};
 use std::collections::{BTreeMap, btree_map};
 use std::iter::FusedIterator;
-use std::slice;
+use std::{mem, slice};
 
-pub use crate::cedar_uid_sets::Uids;
 /// An iterator over the keys of attributes or tags, in byte order.
 #[derive(Clone, Debug)]
 pub struct Keys<'a> {
@@ -103,15 +102,15 @@ impl<'a> Iterator for SharedUids<'a> {
 /// An iterator over the uids of two sets, one after the other, each in ascending order of uid.
 #[derive(Clone, Debug)]
 pub struct Ancestors<'a> {
-    parents: Uids<'a>,
-    indirect: Uids<'a>,
+    current: slice::Iter<'a, SharedUid>,
+    later: &'a [SharedUid],
 }
 
 impl<'a> Ancestors<'a> {
     pub(crate) fn of(parents: &'a UidSet, indirect: &'a UidSet) -> Self {
         Self {
-            parents: parents.iter(),
-            indirect: indirect.iter(),
+            current: parents.pointers().iter(),
+            later: indirect.pointers(),
         }
     }
 }
@@ -120,14 +119,20 @@ impl<'a> Iterator for Ancestors<'a> {
     type Item = &'a EntityUID;
 
     fn next(&mut self) -> Option<&'a EntityUID> {
-        if let Some(uid) = self.parents.next() {
-            return Some(uid);
+        if let Some(shared) = self.current.next() {
+            return Some(shared.uid());
         }
-        self.indirect.next()
+        self.current = mem::take(&mut self.later).iter();
+        self.current.next().map(SharedUid::uid)
+    }
+
+    fn fold<B, F: FnMut(B, &'a EntityUID) -> B>(self, init: B, mut f: F) -> B {
+        let all = self.current.as_slice().iter().chain(self.later);
+        all.fold(init, |folded, shared| f(folded, shared.uid()))
     }
 
     fn size_hint(&self) -> (usize, Option<usize>) {
-        let count = self.parents.len() + self.indirect.len();
+        let count = self.current.len() + self.later.len();
         (count, Some(count))
     }
 }

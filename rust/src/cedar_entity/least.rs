@@ -5,23 +5,19 @@
 use crate::cedar_ids::entity::EntityUID;
 use crate::cedar_uid_sets::{SharedUid, UidSet};
 
-// Returns the first of the uids that is also in the other set.
-fn first_common<'a>(uids: &'a [SharedUid], other: &UidSet) -> Option<&'a SharedUid> {
-    uids.iter().find(|shared| other.contains_shared(shared))
-}
-
-// Returns the first of the uids that is not an action.
-fn first_non_action(uids: &[SharedUid]) -> Option<&SharedUid> {
-    uids.iter().find(|shared| !shared.uid().is_action())
-}
-
 // Returns the least uid that is in both sets. The uids of `one` are ascending, so the first one that is in `other` is
 // the least.
 pub(crate) fn least_common<'a>(one: &'a UidSet, other: &UidSet) -> Option<&'a EntityUID> {
-    first_common(one.pointers(), other).map(|shared| shared.uid())
+    one.pointers()
+        .iter()
+        .find(|shared| other.contains_shared(shared))
+        .map(SharedUid::uid)
 }
 
 // Returns the least uid of a set that is not an action.
 pub(crate) fn least_non_action(uids: &UidSet) -> Option<&EntityUID> {
-    first_non_action(uids.pointers()).map(|shared| shared.uid())
+    uids.pointers()
+        .iter()
+        .find(|shared| !shared.uid().is_action())
+        .map(SharedUid::uid)
 }

@@ -13,7 +13,7 @@ mod reserved;
 mod rows;
 mod shared_node;
 
-pub use crate::cedar_uid_sets::SharedUid;
+pub use crate::cedar_uid_sets::{SharedUid, UidSet, Uids};
 
 pub use entity::Entity;
 

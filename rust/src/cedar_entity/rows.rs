@@ -7,11 +7,13 @@ use crate::cedar_uid_sets::UidSet;
 
 impl Entity {
     /// Returns the number of ancestors.
+    #[must_use]
     pub fn ancestors_len(&self) -> usize {
         self.parents.len().saturating_add(self.indirect_ancestors.len())
     }
 
     /// Returns whether another entity has the same parents. Makes at most one comparison per parent. Does not allocate.
+    #[must_use]
     pub fn has_same_parents(&self, other: &Self) -> bool {
         self.parents == other.parents
     }

@@ -45,6 +45,12 @@ fn add_new_row(entity: &mut Entity, keys: &mut Vec<SharedUid>) {
     entity.add_new_ancestors(keys);
 }
 
+// Inserts the keys of a vector as indirect ancestors. They must ascend, and none of them may be an ancestor already.
+fn add_ascending_row(entity: &mut Entity, keys: &mut Vec<SharedUid>) {
+    let keys = taken(keys);
+    entity.add_ascending_ancestors(keys);
+}
+
 impl TCNode<SharedUid> for SharedEntity {
     /// Returns a copy of the uid, as a shared uid.
     fn get_key(&self) -> SharedUid {
@@ -96,6 +102,12 @@ impl TCNode<SharedUid> for SharedEntity {
         order(keys)
     }
 
+    /// Returns whether the uids at the positions in `numbers` ascend. Each number must be below `keys.len()`. Compares
+    /// neighbours. Does not allocate.
+    fn are_ascending(keys: &[SharedUid], numbers: &[usize]) -> bool {
+        (1..numbers.len()).all(|k| keys[numbers[k - 1]].cmp(&keys[numbers[k]]).is_lt())
+    }
+
     /// Inserts the uids as indirect ancestors, except parents. Ascending uids are inserted in one pass. If the entity
     /// is shared, it is copied first.
     fn add_edges_to(&mut self, keys: &mut Vec<SharedUid>) {
@@ -106,5 +118,11 @@ impl TCNode<SharedUid> for SharedEntity {
     /// compared with the parents. Ascending uids are inserted in one pass. If the entity is shared, it is copied first.
     fn add_new_edges_to(&mut self, keys: &mut Vec<SharedUid>) {
         add_new_row(Arc::make_mut(&mut self.0), keys);
+    }
+
+    /// Inserts the uids as indirect ancestors. The caller must ensure that they ascend and that none of them is an
+    /// ancestor, so they are not compared. If the entity is shared, it is copied first.
+    fn add_ascending_edges_to(&mut self, keys: &mut Vec<SharedUid>) {
+        add_ascending_row(Arc::make_mut(&mut self.0), keys);
     }
 }

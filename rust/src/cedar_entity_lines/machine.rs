@@ -23,7 +23,7 @@ use std::sync::Arc;
 ///
 /// The original has no such type.
 #[derive(Debug)]
-pub struct LineStore<S: BuildHasher = KeyedState> {
+pub struct LineStore<S = KeyedState> {
     waiting: Vec<Arc<Entity>>,
     store: Entities<S>,
 }
@@ -49,7 +49,7 @@ fn push_refusal(out: &mut Vec<u8>, error: &EntitiesError) {
         | EntitiesError::SelfAncestor { .. }
         | EntitiesError::DuplicateAncestor { .. }
         | EntitiesError::ActionParentIsNotAction { .. }
-        | EntitiesError::ReservedKey(_) => unreachable!(),
+        | EntitiesError::ReservedKey(_) => unreachable!("edits with computed ancestors return no other error"),
     }
 }
 

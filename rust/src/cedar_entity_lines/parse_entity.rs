@@ -6,23 +6,13 @@ use crate::cedar_entities::Entity;
 use crate::cedar_entity_lines::parent_fields::{KnownUids, parent_of_text, parents_of_fields};
 use crate::cedar_ids::entity::EntityUID;
 use crate::cedar_lines::known_types::uid_of_text;
-use crate::cedar_uid_sets::{SharedUid, UidSet};
+use crate::cedar_uid_sets::UidSet;
 use std::sync::Arc;
 
 // Creates the shared entity with this uid and these parents.
 #[inline(always)]
 pub(crate) fn shared_entity(uid: EntityUID, parents: UidSet) -> Arc<Entity> {
     Arc::new(Entity::with_parent_set(uid, parents))
-}
-
-// Reads the uid of an entity, and creates the entity with these parents. Returns nothing if the text is not a uid.
-fn entity_of_text(known: &mut KnownUids, text: &str, parents: UidSet) -> Option<Arc<Entity>> {
-    uid_of_text(&mut known.types, text).map(|uid| shared_entity(uid, parents))
-}
-
-// Creates the set with one parent.
-fn set_of_one(parent: SharedUid) -> UidSet {
-    UidSet::from_ascending(vec![parent])
 }
 
 // Reads each field as a parent, and creates the set of parents. Returns nothing if one is not a uid. Most entities have
@@ -33,7 +23,7 @@ fn parent_set(known: &mut KnownUids, fields: &[&str]) -> Option<UidSet> {
     };
     if rest.is_empty() {
         let parent = parent_of_text(known, first)?;
-        return Some(set_of_one(parent));
+        return Some(UidSet::from_ascending(vec![parent]));
     }
     let parents = parents_of_fields(known, fields)?;
     Some(UidSet::from_pointers(parents))
@@ -44,5 +34,5 @@ fn parent_set(known: &mut KnownUids, fields: &[&str]) -> Option<UidSet> {
 pub(crate) fn entity_of_fields(known: &mut KnownUids, fields: &[&str]) -> Option<Arc<Entity>> {
     let (first, rest) = fields.split_first()?;
     let parents = parent_set(known, rest)?;
-    entity_of_text(known, first, parents)
+    uid_of_text(&mut known.types, first).map(|uid| shared_entity(uid, parents))
 }

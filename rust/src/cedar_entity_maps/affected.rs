@@ -7,7 +7,7 @@ use crate::cedar_entity::entity::Entity;
 use crate::cedar_entity::node::SharedEntity;
 use crate::cedar_entity_maps::uid_lookup::UidLookup;
 use crate::cedar_uid_sets::{SharedUid, UidSet};
-use std::collections::{HashMap, HashSet};
+use crate::shared_map::{SharedMap, SharedSet};
 use std::hash::BuildHasher;
 use std::sync::Arc;
 
@@ -45,7 +45,7 @@ fn with_ancestors(uid: &SharedUid, node: &SharedEntity) -> Vec<SharedUid> {
 
 // Returns the uid and its ancestors if the map contains its entity, and nothing otherwise.
 fn with_ancestors_at<S: BuildHasher>(
-    entities: &HashMap<SharedUid, SharedEntity, S>,
+    entities: &SharedMap<SharedUid, SharedEntity, S>,
     uid: &SharedUid,
 ) -> Vec<SharedUid> {
     match entities.get(uid) {
@@ -55,21 +55,21 @@ fn with_ancestors_at<S: BuildHasher>(
 }
 
 // Inserts uids into a set.
-fn insert_all<S: BuildHasher>(all: &mut HashSet<SharedUid, S>, uids: Vec<SharedUid>) {
+fn insert_all<S: BuildHasher>(all: &mut SharedSet<SharedUid, S>, uids: Vec<SharedUid>) {
     for uid in uids {
         all.insert(uid);
     }
 }
 
 /// Inserts uids into a set.
-pub fn insert_uids<S: BuildHasher>(noted: &mut HashSet<SharedUid, S>, uids: Vec<SharedUid>) {
+pub fn insert_uids<S: BuildHasher>(noted: &mut SharedSet<SharedUid, S>, uids: Vec<SharedUid>) {
     insert_all(noted, uids);
 }
 
 // Returns the uids of the entities that have one of `uids` as an ancestor.
 pub(crate) fn affected_by_any<S: BuildHasher>(
-    entities: &HashMap<SharedUid, SharedEntity, S>,
-    uids: &HashSet<SharedUid, S>,
+    entities: &SharedMap<SharedUid, SharedEntity, S>,
+    uids: &SharedSet<SharedUid, S>,
 ) -> Vec<SharedUid> {
     let sought = UidLookup::of(uids);
     let mut copies = Vec::new();
@@ -83,10 +83,10 @@ pub(crate) fn affected_by_any<S: BuildHasher>(
 
 // Returns the uids that are entities of the map, and the ancestors of these entities.
 fn all_with_ancestors<S: BuildHasher + Clone>(
-    entities: &HashMap<SharedUid, SharedEntity, S>,
+    entities: &SharedMap<SharedUid, SharedEntity, S>,
     uids: &[SharedUid],
-) -> HashSet<SharedUid, S> {
-    let mut lost = HashSet::with_hasher(entities.hasher().clone());
+) -> SharedSet<SharedUid, S> {
+    let mut lost = SharedSet::with_hasher(entities.hasher().clone());
     for uid in uids {
         insert_all(&mut lost, with_ancestors_at(entities, uid));
     }
@@ -95,7 +95,7 @@ fn all_with_ancestors<S: BuildHasher + Clone>(
 
 // Returns the uids that are entities of the map, and the ancestors of these entities, as a `UidSet`.
 fn uid_set_with_ancestors<S: BuildHasher + Clone>(
-    entities: &HashMap<SharedUid, SharedEntity, S>,
+    entities: &SharedMap<SharedUid, SharedEntity, S>,
     uids: &[SharedUid],
 ) -> UidSet {
     if uids.len() == 1 {
@@ -107,7 +107,7 @@ fn uid_set_with_ancestors<S: BuildHasher + Clone>(
 
 // Computes the stale ancestors of an entity after an edit of `uids`.
 fn stale_ancestors_of<S: BuildHasher + Clone>(
-    entities: &HashMap<SharedUid, SharedEntity, S>,
+    entities: &SharedMap<SharedUid, SharedEntity, S>,
     key: &SharedUid,
     entity: &Entity,
     uids: &UidLookup<'_, S>,
@@ -123,7 +123,7 @@ fn stale_ancestors_of<S: BuildHasher + Clone>(
 
 // Appends an entity and its stale ancestors to the list, if it has any.
 fn push_stale<S: BuildHasher + Clone>(
-    entities: &HashMap<SharedUid, SharedEntity, S>,
+    entities: &SharedMap<SharedUid, SharedEntity, S>,
     key: &SharedUid,
     entity: &Entity,
     uids: &UidLookup<'_, S>,
@@ -137,7 +137,7 @@ fn push_stale<S: BuildHasher + Clone>(
 
 // Appends the entity at a uid and its stale ancestors to the list, if there is an entity and it has any.
 fn push_stale_at<S: BuildHasher + Clone>(
-    entities: &HashMap<SharedUid, SharedEntity, S>,
+    entities: &SharedMap<SharedUid, SharedEntity, S>,
     key: &SharedUid,
     uids: &UidLookup<'_, S>,
     stale: &mut Vec<StaleAncestors>,
@@ -150,9 +150,9 @@ fn push_stale_at<S: BuildHasher + Clone>(
 // Lists the stale ancestors of each entity that is not one of `uids` and has one of them as an ancestor. All of these
 // entities are in `affected`.
 fn collect_stale_of<S: BuildHasher + Clone>(
-    entities: &HashMap<SharedUid, SharedEntity, S>,
-    uids: &HashSet<SharedUid, S>,
-    affected: &HashSet<SharedUid, S>,
+    entities: &SharedMap<SharedUid, SharedEntity, S>,
+    uids: &SharedSet<SharedUid, S>,
+    affected: &SharedSet<SharedUid, S>,
 ) -> Vec<StaleAncestors> {
     let sought = UidLookup::of(uids);
     let mut stale = Vec::new();
@@ -163,7 +163,7 @@ fn collect_stale_of<S: BuildHasher + Clone>(
 }
 
 // Appends the entity at a uid with all of its indirect ancestors, unless the uid is one of `uids`.
-fn push_all_indirect<S: BuildHasher>(key: &SharedUid, uids: &HashSet<SharedUid, S>, stale: &mut Vec<StaleAncestors>) {
+fn push_all_indirect<S: BuildHasher>(key: &SharedUid, uids: &SharedSet<SharedUid, S>, stale: &mut Vec<StaleAncestors>) {
     if uids.contains(key) {
         return;
     }
@@ -175,8 +175,8 @@ fn push_all_indirect<S: BuildHasher>(key: &SharedUid, uids: &HashSet<SharedUid, 
 
 // Lists all indirect ancestors of each affected entity that is not one of `uids`.
 fn collect_all_indirect<S: BuildHasher>(
-    uids: &HashSet<SharedUid, S>,
-    affected: &HashSet<SharedUid, S>,
+    uids: &SharedSet<SharedUid, S>,
+    affected: &SharedSet<SharedUid, S>,
 ) -> Vec<StaleAncestors> {
     let mut stale = Vec::new();
     for key in affected {
@@ -192,9 +192,9 @@ fn collect_all_indirect<S: BuildHasher>(
 ///
 /// Proportional to the number of ancestors that are read. Allocates the list.
 pub fn collect_stale<S: BuildHasher + Clone>(
-    entities: &HashMap<SharedUid, SharedEntity, S>,
-    uids: &HashSet<SharedUid, S>,
-    affected: &HashSet<SharedUid, S>,
+    entities: &SharedMap<SharedUid, SharedEntity, S>,
+    uids: &SharedSet<SharedUid, S>,
+    affected: &SharedSet<SharedUid, S>,
     recompute_all: bool,
 ) -> Vec<StaleAncestors> {
     if recompute_all {
@@ -219,7 +219,7 @@ fn strip_once(entity: &mut Entity, removed: &UidSet, lost: &Lost) {
 
 // Removes the uids in `removed` from the parents of the entity at a uid, and stale ancestors from its indirect ancestors.
 fn strip_once_at<S: BuildHasher>(
-    entities: &mut HashMap<SharedUid, SharedEntity, S>,
+    entities: &mut SharedMap<SharedUid, SharedEntity, S>,
     uid: &SharedUid,
     removed: &UidSet,
     lost: &Lost,
@@ -231,7 +231,7 @@ fn strip_once_at<S: BuildHasher>(
 
 /// Removes stale ancestors, and the parents in `removed`, from each listed entity. A shared entity is copied first.
 pub fn strip_each<S: BuildHasher>(
-    entities: &mut HashMap<SharedUid, SharedEntity, S>,
+    entities: &mut SharedMap<SharedUid, SharedEntity, S>,
     stale: Vec<StaleAncestors>,
     removed: &UidSet,
 ) {
@@ -243,9 +243,9 @@ pub fn strip_each<S: BuildHasher>(
 /// Removes all indirect ancestors from each affected entity that is not one of `uids`, if `recompute_all` is true. A later
 /// repair computes them again. A shared entity is copied first.
 pub fn forget_each<S: BuildHasher>(
-    entities: &mut HashMap<SharedUid, SharedEntity, S>,
-    uids: &HashSet<SharedUid, S>,
-    affected: &HashSet<SharedUid, S>,
+    entities: &mut SharedMap<SharedUid, SharedEntity, S>,
+    uids: &SharedSet<SharedUid, S>,
+    affected: &SharedSet<SharedUid, S>,
     recompute_all: bool,
 ) {
     if !recompute_all {

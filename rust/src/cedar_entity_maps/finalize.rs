@@ -7,9 +7,11 @@ use crate::cedar_entity::err::EntitiesError;
 use crate::cedar_entity::node::SharedEntity;
 use crate::cedar_entity_maps::merging::{merge_rows, without};
 use crate::cedar_entity_maps::modes::{EditRules, TCComputation, rules_of};
-use crate::cedar_graph::{close_dag, compute_tc, enforce_tc_and_dag, repair_dag, repair_tc};
+use crate::cedar_graph::{
+    close_dag_nodes, compute_tc_nodes, enforce_tc_and_dag_nodes, repair_dag_nodes, repair_tc_nodes,
+};
 use crate::cedar_uid_sets::SharedUid;
-use std::collections::{HashMap, HashSet};
+use crate::shared_map::{SharedMap, SharedSet};
 use std::hash::BuildHasher;
 
 /// Checks that the ancestors of all entities are closed, and that no entity is its own ancestor.
@@ -21,14 +23,14 @@ use std::hash::BuildHasher;
 /// # Complexity
 ///
 /// As in `enforce_tc_and_dag`.
-pub fn check<S: BuildHasher + Clone>(entities: &HashMap<SharedUid, SharedEntity, S>) -> Result<(), EntitiesError> {
-    enforce_tc_and_dag(entities).map_err(EntitiesError::of_shared)?;
+pub fn check<S: BuildHasher + Clone>(entities: &SharedMap<SharedUid, SharedEntity, S>) -> Result<(), EntitiesError> {
+    enforce_tc_and_dag_nodes(entities).map_err(EntitiesError::of_shared)?;
     Ok(())
 }
 
 // Checks the store, if `checks` is true.
 fn check_if<S: BuildHasher + Clone>(
-    entities: &HashMap<SharedUid, SharedEntity, S>,
+    entities: &SharedMap<SharedUid, SharedEntity, S>,
     checks: bool,
 ) -> Result<(), EntitiesError> {
     if checks { check(entities) } else { Ok(()) }
@@ -37,23 +39,23 @@ fn check_if<S: BuildHasher + Clone>(
 // Adds to the affected entities the ancestors that they reach, by a closure. If `enforce_dag` is true, a cycle is
 // reported before any ancestor is written.
 fn close_affected<S: BuildHasher + Clone>(
-    entities: &mut HashMap<SharedUid, SharedEntity, S>,
-    affected: &HashSet<SharedUid, S>,
+    entities: &mut SharedMap<SharedUid, SharedEntity, S>,
+    affected: &SharedSet<SharedUid, S>,
     enforce_dag: bool,
 ) -> Result<(), EntitiesError> {
     if enforce_dag {
-        repair_dag(affected, entities).map_err(EntitiesError::of_shared)?;
+        repair_dag_nodes(affected, entities).map_err(EntitiesError::of_shared)?;
         return Ok(());
     }
-    repair_tc(affected, entities, false).map_err(EntitiesError::of_shared)?;
+    repair_tc_nodes(affected, entities, false).map_err(EntitiesError::of_shared)?;
     Ok(())
 }
 
 // Adds to the affected entities the ancestors that they reach. Entities without an affected ancestor are repaired first,
 // without a closure. If `enforce_dag` is true, a cycle is reported.
 fn repair_affected<S: BuildHasher + Clone>(
-    entities: &mut HashMap<SharedUid, SharedEntity, S>,
-    affected: &HashSet<SharedUid, S>,
+    entities: &mut SharedMap<SharedUid, SharedEntity, S>,
+    affected: &SharedSet<SharedUid, S>,
     enforce_dag: bool,
 ) -> Result<(), EntitiesError> {
     let merged = merge_rows(entities, affected);
@@ -67,14 +69,14 @@ fn repair_affected<S: BuildHasher + Clone>(
 // Adds to all entities the ancestors that they reach. If `enforce_dag` is true, a cycle is reported before any ancestor
 // is written. Use it if the map was empty before the edit; then every entity is affected.
 fn repair_all<S: BuildHasher + Clone>(
-    entities: &mut HashMap<SharedUid, SharedEntity, S>,
+    entities: &mut SharedMap<SharedUid, SharedEntity, S>,
     enforce_dag: bool,
 ) -> Result<(), EntitiesError> {
     if enforce_dag {
-        close_dag(entities).map_err(EntitiesError::of_shared)?;
+        close_dag_nodes(entities).map_err(EntitiesError::of_shared)?;
         return Ok(());
     }
-    compute_tc(entities, false).map_err(EntitiesError::of_shared)?;
+    compute_tc_nodes(entities, false).map_err(EntitiesError::of_shared)?;
     Ok(())
 }
 
@@ -90,8 +92,8 @@ fn repair_all<S: BuildHasher + Clone>(
 ///
 /// As in the functions of `cedar_graph`. Allocates only if it repairs or checks.
 pub fn finish<S: BuildHasher + Clone>(
-    entities: &mut HashMap<SharedUid, SharedEntity, S>,
-    affected: &HashSet<SharedUid, S>,
+    entities: &mut SharedMap<SharedUid, SharedEntity, S>,
+    affected: &SharedSet<SharedUid, S>,
     row: EditRules,
 ) -> Result<(), EntitiesError> {
     if !row.repairs {
@@ -107,8 +109,8 @@ pub fn finish<S: BuildHasher + Clone>(
 ///
 /// The errors of [`finish`].
 pub fn finalize_affected<S: BuildHasher + Clone>(
-    entities: &mut HashMap<SharedUid, SharedEntity, S>,
-    affected: &HashSet<SharedUid, S>,
+    entities: &mut SharedMap<SharedUid, SharedEntity, S>,
+    affected: &SharedSet<SharedUid, S>,
     tc_computation: TCComputation,
 ) -> Result<(), EntitiesError> {
     finish(entities, affected, rules_of(tc_computation))
@@ -116,7 +118,7 @@ pub fn finalize_affected<S: BuildHasher + Clone>(
 
 // Finalizes the addition of entities to an empty map: repairs and checks all entities, as the edit rules state.
 fn finish_all<S: BuildHasher + Clone>(
-    entities: &mut HashMap<SharedUid, SharedEntity, S>,
+    entities: &mut SharedMap<SharedUid, SharedEntity, S>,
     row: EditRules,
 ) -> Result<(), EntitiesError> {
     if !row.repairs {
@@ -132,7 +134,7 @@ fn finish_all<S: BuildHasher + Clone>(
 ///
 /// The errors of [`finish`].
 pub fn finalize_all<S: BuildHasher + Clone>(
-    entities: &mut HashMap<SharedUid, SharedEntity, S>,
+    entities: &mut SharedMap<SharedUid, SharedEntity, S>,
     tc_computation: TCComputation,
 ) -> Result<(), EntitiesError> {
     finish_all(entities, rules_of(tc_computation))

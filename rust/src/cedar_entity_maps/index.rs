@@ -6,7 +6,7 @@ use crate::cedar_children::{Children, listed};
 use crate::cedar_entity::node::SharedEntity;
 use crate::cedar_entity_maps::affected::{affected_by_any, insert_uids};
 use crate::cedar_uid_sets::{SharedUid, UidSet};
-use std::collections::{HashMap, HashSet};
+use crate::shared_map::{SharedMap, SharedSet};
 use std::fmt;
 use std::hash::BuildHasher;
 
@@ -21,7 +21,8 @@ const WALKS: usize = 16;
 const UIDS: usize = 4;
 
 /// What a store knows in addition to its entities.
-pub struct Index<S: BuildHasher> {
+#[derive(Clone)]
+pub struct Index<S> {
     /// Whether the store is known to be plain: the ancestors of each entity are exactly the uids that it reaches over
     /// parents, and no entity is its own ancestor.
     pub plain: bool,
@@ -31,7 +32,7 @@ pub struct Index<S: BuildHasher> {
     pub children: Option<Children<S>>,
 }
 
-impl<S: BuildHasher> fmt::Debug for Index<S> {
+impl<S> fmt::Debug for Index<S> {
     /// Writes the three fields, with the children in the order of their map.
     fn fmt(&self, f: &mut fmt::Formatter<'_>) -> fmt::Result {
         f.debug_struct("Index")
@@ -61,7 +62,7 @@ impl<S: BuildHasher + Clone> Index<S> {
 }
 
 // Returns the uids of a map, in ascending order.
-fn keys_in_order<S: BuildHasher>(entities: &HashMap<SharedUid, SharedEntity, S>) -> Vec<SharedUid> {
+fn keys_in_order<S: BuildHasher>(entities: &SharedMap<SharedUid, SharedEntity, S>) -> Vec<SharedUid> {
     let mut keys = Vec::new();
     for key in entities.keys() {
         keys.push(key.clone());
@@ -73,7 +74,7 @@ fn keys_in_order<S: BuildHasher>(entities: &HashMap<SharedUid, SharedEntity, S>)
 // Adds the entity at a uid, if there is one, as a child of its parents.
 fn with_at<S: BuildHasher + Clone>(
     children: Children<S>,
-    entities: &HashMap<SharedUid, SharedEntity, S>,
+    entities: &SharedMap<SharedUid, SharedEntity, S>,
     uid: &SharedUid,
 ) -> Children<S> {
     match entities.get(uid) {
@@ -85,7 +86,7 @@ fn with_at<S: BuildHasher + Clone>(
 // Adds the entities at the uids as children of their parents.
 fn with_all<S: BuildHasher + Clone>(
     children: Children<S>,
-    entities: &HashMap<SharedUid, SharedEntity, S>,
+    entities: &SharedMap<SharedUid, SharedEntity, S>,
     uids: &[SharedUid],
 ) -> Children<S> {
     let mut all = children;
@@ -96,7 +97,7 @@ fn with_all<S: BuildHasher + Clone>(
 }
 
 // Lists the children of each uid. Entities are added in ascending order of uid, so each is appended after its siblings.
-fn children_of<S: BuildHasher + Clone>(entities: &HashMap<SharedUid, SharedEntity, S>) -> Children<S> {
+fn children_of<S: BuildHasher + Clone>(entities: &SharedMap<SharedUid, SharedEntity, S>) -> Children<S> {
     let keys = keys_in_order(entities);
     let none = Children::with_hasher(entities.hasher().clone());
     with_all(none, entities, &keys)
@@ -105,7 +106,7 @@ fn children_of<S: BuildHasher + Clone>(entities: &HashMap<SharedUid, SharedEntit
 /// Counts a scan of the store for `count` uids. Builds an index of children before the scan if the scans, with this
 /// one, cost about as much. Does nothing if the store is small or not known to be plain.
 pub fn list_if_it_pays<S: BuildHasher + Clone>(
-    entities: &HashMap<SharedUid, SharedEntity, S>,
+    entities: &SharedMap<SharedUid, SharedEntity, S>,
     index: &mut Index<S>,
     count: usize,
 ) {
@@ -124,7 +125,10 @@ pub fn list_if_it_pays<S: BuildHasher + Clone>(
 
 // Returns the uids and their descendants, if the children are listed. In a plain store these are exactly the entities
 // that an edit of the uids affects.
-fn walk_down<S: BuildHasher + Clone>(index: &Index<S>, uids: &HashSet<SharedUid, S>) -> Option<HashSet<SharedUid, S>> {
+fn walk_down<S: BuildHasher + Clone>(
+    index: &Index<S>,
+    uids: &SharedSet<SharedUid, S>,
+) -> Option<SharedSet<SharedUid, S>> {
     if !index.plain {
         return None;
     }
@@ -133,11 +137,11 @@ fn walk_down<S: BuildHasher + Clone>(index: &Index<S>, uids: &HashSet<SharedUid,
 
 // Returns the uids, and the uids of all entities that have one of them as an ancestor, by scanning all entities.
 fn walk_all<S: BuildHasher + Clone>(
-    entities: &HashMap<SharedUid, SharedEntity, S>,
-    uids: &HashSet<SharedUid, S>,
-) -> HashSet<SharedUid, S> {
+    entities: &SharedMap<SharedUid, SharedEntity, S>,
+    uids: &SharedSet<SharedUid, S>,
+) -> SharedSet<SharedUid, S> {
     let by = affected_by_any(entities, uids);
-    let mut affected = HashSet::with_hasher(entities.hasher().clone());
+    let mut affected = SharedSet::with_hasher(entities.hasher().clone());
     insert_uids(&mut affected, listed(uids));
     insert_uids(&mut affected, by);
     affected
@@ -148,10 +152,10 @@ fn walk_all<S: BuildHasher + Clone>(
 ///
 /// Searches down from the uids if the children are listed, and scans all entities otherwise.
 pub fn affected_by<S: BuildHasher + Clone>(
-    entities: &HashMap<SharedUid, SharedEntity, S>,
+    entities: &SharedMap<SharedUid, SharedEntity, S>,
     index: &Index<S>,
-    uids: &HashSet<SharedUid, S>,
-) -> HashSet<SharedUid, S> {
+    uids: &SharedSet<SharedUid, S>,
+) -> SharedSet<SharedUid, S> {
     if let Some(below) = walk_down(index, uids) {
         return below;
     }
@@ -161,7 +165,7 @@ pub fn affected_by<S: BuildHasher + Clone>(
 // Removes the entity at a uid from the children of its parents.
 fn leave_at<S: BuildHasher + Clone>(
     children: &mut Children<S>,
-    entities: &HashMap<SharedUid, SharedEntity, S>,
+    entities: &SharedMap<SharedUid, SharedEntity, S>,
     uid: &SharedUid,
 ) {
     if let Some(node) = entities.get(uid) {
@@ -172,7 +176,7 @@ fn leave_at<S: BuildHasher + Clone>(
 // Removes the entities at the uids from the children of their parents.
 fn leave_all<S: BuildHasher + Clone>(
     children: &mut Children<S>,
-    entities: &HashMap<SharedUid, SharedEntity, S>,
+    entities: &SharedMap<SharedUid, SharedEntity, S>,
     uids: &[SharedUid],
 ) {
     for uid in uids {
@@ -191,7 +195,7 @@ fn forget_all<S: BuildHasher + Clone>(children: &mut Children<S>, uids: &[Shared
 /// the entities are changed. Does not allocate.
 pub fn part<S: BuildHasher + Clone>(
     index: &mut Index<S>,
-    entities: &HashMap<SharedUid, SharedEntity, S>,
+    entities: &SharedMap<SharedUid, SharedEntity, S>,
     uids: &[SharedUid],
     removed: &[SharedUid],
 ) {
@@ -204,7 +208,7 @@ pub fn part<S: BuildHasher + Clone>(
 /// Adds the entities at `uids` to the listed children.
 pub fn join<S: BuildHasher + Clone>(
     index: &mut Index<S>,
-    entities: &HashMap<SharedUid, SharedEntity, S>,
+    entities: &SharedMap<SharedUid, SharedEntity, S>,
     uids: &[SharedUid],
 ) {
     if let Some(children) = index.children.take() {

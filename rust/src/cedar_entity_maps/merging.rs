@@ -9,14 +9,15 @@ use crate::cedar_entity::node::SharedEntity;
 use crate::cedar_entity_maps::uid_lookup::UidLookup;
 use crate::cedar_graph::TCNode;
 use crate::cedar_uid_sets::{SharedUid, UidSet};
-use std::collections::{HashMap, HashSet};
+use crate::shared_map::{SharedMap, SharedSet};
 use std::hash::BuildHasher;
 use std::sync::Arc;
 
-// Merging stops once it has inserted more than this many times as many ancestors as the row has.
+// A row with n ancestors is given up once more than about `REPEATS * (n + SHORT)` ancestors were inserted into it: most
+// of these insertions repeated an ancestor.
 const REPEATS: usize = 4;
 
-// It does not stop if the row has fewer ancestors than this.
+// See `REPEATS`. With it, few insertions never give a short row up.
 const SHORT: usize = 64;
 
 // Inserts the ancestors of an entity into a row. Returns their number.
@@ -28,13 +29,13 @@ fn insert_ancestors_of(node: &SharedEntity, row: &mut UidSet) -> usize {
     node.0.ancestors_len()
 }
 
-/// Inserts the ancestors of the entity at a uid, if there is one, into a row. Returns their number.
+/// Inserts the ancestors of the entity at a uid, if there is one, into a row.
 ///
 /// # Complexity
 ///
 /// As in [`Entity::insert_ancestors_into`].
 pub fn insert_ancestors_at<S: BuildHasher>(
-    entities: &HashMap<SharedUid, SharedEntity, S>,
+    entities: &SharedMap<SharedUid, SharedEntity, S>,
     uid: &SharedUid,
     row: &mut UidSet,
 ) -> usize {
@@ -46,7 +47,7 @@ pub fn insert_ancestors_at<S: BuildHasher>(
 
 // Returns the ancestors of the ancestors of an entity. Returns `None` if many of these have the same ancestors: then a
 // closure costs less.
-fn row_of<S: BuildHasher>(entities: &HashMap<SharedUid, SharedEntity, S>, entity: &Entity) -> Option<UidSet> {
+fn row_of<S: BuildHasher>(entities: &SharedMap<SharedUid, SharedEntity, S>, entity: &Entity) -> Option<UidSet> {
     let mut row = UidSet::new();
     let mut inserted: usize = 0;
     for uid in entity.shared_ancestors() {
@@ -63,7 +64,7 @@ fn row_of<S: BuildHasher>(entities: &HashMap<SharedUid, SharedEntity, S>, entity
 // alone: an ancestor is affected, or the entity is an ancestor of an ancestor. Also returns `None` if a closure costs
 // less.
 fn row_apart<S: BuildHasher>(
-    entities: &HashMap<SharedUid, SharedEntity, S>,
+    entities: &SharedMap<SharedUid, SharedEntity, S>,
     affected: &UidLookup<'_, S>,
     uid: &SharedUid,
     entity: &Entity,
@@ -80,7 +81,7 @@ fn row_apart<S: BuildHasher>(
 
 // Returns the row of `row_apart` for the entity at a uid, and an empty row if there is no entity.
 fn row_above<S: BuildHasher>(
-    entities: &HashMap<SharedUid, SharedEntity, S>,
+    entities: &SharedMap<SharedUid, SharedEntity, S>,
     affected: &UidLookup<'_, S>,
     uid: &SharedUid,
 ) -> Option<UidSet> {
@@ -91,7 +92,7 @@ fn row_above<S: BuildHasher>(
 }
 
 // Inserts the uids of a row into the ancestors of the entity at a uid, if there is one. A shared entity is copied first.
-fn add_row_at<S: BuildHasher>(entities: &mut HashMap<SharedUid, SharedEntity, S>, uid: &SharedUid, row: UidSet) {
+fn add_row_at<S: BuildHasher>(entities: &mut SharedMap<SharedUid, SharedEntity, S>, uid: &SharedUid, row: UidSet) {
     if row.is_empty() {
         return;
     }
@@ -102,7 +103,7 @@ fn add_row_at<S: BuildHasher>(entities: &mut HashMap<SharedUid, SharedEntity, S>
 
 // Repairs the entity at a uid, if it can be repaired by the ancestors of its ancestors. Returns whether it did.
 fn merge_at<S: BuildHasher>(
-    entities: &mut HashMap<SharedUid, SharedEntity, S>,
+    entities: &mut SharedMap<SharedUid, SharedEntity, S>,
     affected: &UidLookup<'_, S>,
     uid: &SharedUid,
 ) -> bool {
@@ -115,12 +116,13 @@ fn merge_at<S: BuildHasher>(
     }
 }
 
-// Repairs the affected entities none of whose ancestors is affected. Returns their uids. The other affected entities
-// still need a repair. The work is proportional to the number of ancestors that the repaired entities get. A shared
-// entity is copied first.
+// Repairs each affected entity for which `row_above` returns a row: none of its ancestors is affected, it is not an
+// ancestor of one of them, and a closure would not cost less. Returns the uids of these entities. The other affected
+// entities still need a repair. The work is proportional to the number of ancestors that the repaired entities get. A
+// shared entity is copied first.
 pub(crate) fn merge_rows<S: BuildHasher>(
-    entities: &mut HashMap<SharedUid, SharedEntity, S>,
-    affected: &HashSet<SharedUid, S>,
+    entities: &mut SharedMap<SharedUid, SharedEntity, S>,
+    affected: &SharedSet<SharedUid, S>,
 ) -> Vec<SharedUid> {
     let mut merged = Vec::new();
     let sought = UidLookup::of(affected);
@@ -134,9 +136,9 @@ pub(crate) fn merge_rows<S: BuildHasher>(
 
 // Returns a copy of a set without some uids.
 pub(crate) fn without<S: BuildHasher + Clone>(
-    uids: &HashSet<SharedUid, S>,
+    uids: &SharedSet<SharedUid, S>,
     removed: &[SharedUid],
-) -> HashSet<SharedUid, S> {
+) -> SharedSet<SharedUid, S> {
     let mut left = uids.clone();
     for uid in removed {
         left.remove(uid);

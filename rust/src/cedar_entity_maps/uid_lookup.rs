@@ -5,7 +5,7 @@
 use crate::cedar_children::listed;
 use crate::cedar_entity::entity::Entity;
 use crate::cedar_uid_sets::SharedUid;
-use std::collections::HashSet;
+use crate::shared_map::SharedSet;
 use std::hash::BuildHasher;
 
 // Up to this number of uids are looked up one by one among an entity's ancestors. If there are more uids, and more than
@@ -13,14 +13,14 @@ use std::hash::BuildHasher;
 const FEW: usize = 16;
 
 // A set of uids to look up, also as a list, because iterating over a list is faster than iterating over a set.
-pub(crate) struct UidLookup<'a, S: BuildHasher> {
-    all: &'a HashSet<SharedUid, S>,
+pub(crate) struct UidLookup<'a, S> {
+    all: &'a SharedSet<SharedUid, S>,
     list: Vec<SharedUid>,
 }
 
 impl<'a, S: BuildHasher> UidLookup<'a, S> {
     // Prepares the uids for lookups.
-    pub(crate) fn of(uids: &'a HashSet<SharedUid, S>) -> Self {
+    pub(crate) fn of(uids: &'a SharedSet<SharedUid, S>) -> Self {
         let list = listed(uids);
         Self { all: uids, list }
     }
@@ -40,18 +40,15 @@ impl<'a, S: BuildHasher> UidLookup<'a, S> {
     #[inline(always)]
     pub(crate) fn has_any(&self, entity: &Entity) -> bool {
         if self.is_short_for(entity) {
-            has_any_of(entity, &self.list)
+            self.list.iter().any(|uid| entity.is_descendant_of_shared(uid))
         } else {
-            has_any_ancestor_of(entity, self.all)
+            entity.ancestors().any(|uid| self.all.contains(uid))
         }
     }
 
     // Checks whether an entity has stale ancestors: it is not one of the uids, and it has one of them as an ancestor.
     pub(crate) fn is_hit(&self, key: &SharedUid, entity: &Entity) -> bool {
-        if !self.has_any(entity) {
-            return false;
-        }
-        !self.all.contains(key)
+        self.has_any(entity) && !self.all.contains(key)
     }
 
     // Returns the uids that are ancestors of an entity.
@@ -62,27 +59,6 @@ impl<'a, S: BuildHasher> UidLookup<'a, S> {
             hits_by_ancestor(entity, self.all)
         }
     }
-}
-
-// Checks whether an entity has one of the uids as an ancestor, by looking up each uid.
-#[inline(always)]
-fn has_any_of(entity: &Entity, uids: &[SharedUid]) -> bool {
-    for uid in uids {
-        if entity.is_descendant_of_shared(uid) {
-            return true;
-        }
-    }
-    false
-}
-
-// Checks whether an entity has one of the uids as an ancestor, by looking up each ancestor.
-fn has_any_ancestor_of<S: BuildHasher>(entity: &Entity, uids: &HashSet<SharedUid, S>) -> bool {
-    for uid in entity.ancestors() {
-        if uids.contains(uid) {
-            return true;
-        }
-    }
-    false
 }
 
 // Appends a uid to a list, if `is_hit` is true.
@@ -103,7 +79,7 @@ fn hits_by_uid(entity: &Entity, uids: &[SharedUid]) -> Vec<SharedUid> {
 }
 
 // Returns the uids that are ancestors of an entity, by looking up each ancestor.
-fn hits_by_ancestor<S: BuildHasher>(entity: &Entity, uids: &HashSet<SharedUid, S>) -> Vec<SharedUid> {
+fn hits_by_ancestor<S: BuildHasher>(entity: &Entity, uids: &SharedSet<SharedUid, S>) -> Vec<SharedUid> {
     let mut hits = Vec::new();
     for uid in entity.shared_ancestors() {
         push_if(&mut hits, uid, uids.contains(uid));

@@ -5,15 +5,15 @@
 use crate::cedar_graph::copies::members_of;
 use crate::cedar_graph::numbering::{insert_key_copy, number_of};
 use crate::cedar_graph::transitive_closure::TCNode;
+use crate::node_map::{KeySet, NodeMap};
 use crate::ordered_map::OrderedSet;
-use std::collections::{HashMap, HashSet};
 use std::hash::{BuildHasher, Hash};
 
 // The initial capacity for arcs in a repair.
 const ARCS: usize = 64;
 
 // Counts the nodes that may have edges.
-fn count_edged<K: Clone + Eq + Hash, V: TCNode<K>, S: BuildHasher>(nodes: &HashMap<K, V, S>) -> usize {
+fn count_edged<K: Clone + Eq + Hash, V: TCNode<K>, S: BuildHasher, N: NodeMap<K, V, S>>(nodes: &N) -> usize {
     let mut count: usize = 0;
     for node in nodes.values() {
         count = count.saturating_add(node.may_have_edges() as usize);
@@ -22,7 +22,7 @@ fn count_edged<K: Clone + Eq + Hash, V: TCNode<K>, S: BuildHasher>(nodes: &HashM
 }
 
 // Numbers for the keys of nodes with edges, and these nodes in the order of the numbers.
-struct Edged<'a, K: Eq + Hash, V, S: BuildHasher> {
+struct Edged<'a, K, V, S> {
     keys: OrderedSet<K, S>,
     nodes: Vec<&'a V>,
 }
@@ -44,9 +44,9 @@ fn push_with_edges<'a, K: Clone + Eq + Hash, V: TCNode<K>, S: BuildHasher>(
 
 // Numbers the keys of nodes with edges, and collects these nodes. Scans the map a second time only if a node may have
 // edges.
-fn number_edged<K: Clone + Eq + Hash, V: TCNode<K>, S: BuildHasher + Clone>(
-    nodes: &HashMap<K, V, S>,
-) -> Edged<'_, K, V, S> {
+fn number_edged<'a, K: Clone + Eq + Hash + 'a, V: TCNode<K> + 'a, S: BuildHasher + Clone, N: NodeMap<K, V, S>>(
+    nodes: &'a N,
+) -> Edged<'a, K, V, S> {
     let count = count_edged(nodes);
     let hasher = nodes.hasher().clone();
     let mut edged = Edged {
@@ -56,13 +56,13 @@ fn number_edged<K: Clone + Eq + Hash, V: TCNode<K>, S: BuildHasher + Clone>(
     if count == 0 {
         return edged;
     }
-    for (key, node) in nodes {
+    for (key, node) in nodes.iter() {
         push_with_edges(&mut edged, key, node);
     }
     edged
 }
 
-pub(crate) struct Reading<K: Eq + Hash, S: BuildHasher> {
+pub(crate) struct Reading<K, S> {
     pub(crate) keys: OrderedSet<K, S>,
     pub(crate) from: Vec<usize>,
     pub(crate) to: Vec<usize>,
@@ -93,8 +93,8 @@ fn read_node<'a, K: Clone + Eq + Hash, V: TCNode<K>, S: BuildHasher>(
 }
 
 // Reads the arcs of the node at the key of number `a`, if there is one.
-fn read_row<'a, K: Clone + Eq + Hash, V: TCNode<K>, S: BuildHasher>(
-    nodes: &'a HashMap<K, V, S>,
+fn read_row<'a, K: Clone + Eq + Hash, V: TCNode<K> + 'a, S: BuildHasher, N: NodeMap<K, V, S>>(
+    nodes: &'a N,
     s: &mut Reading<K, S>,
     list: &mut Vec<&'a K>,
     a: usize,
@@ -105,8 +105,8 @@ fn read_row<'a, K: Clone + Eq + Hash, V: TCNode<K>, S: BuildHasher>(
 }
 
 // Reads the arcs of the nodes of the numbers from `start` up to `end`.
-fn read_rows<K: Clone + Eq + Hash, V: TCNode<K>, S: BuildHasher>(
-    nodes: &HashMap<K, V, S>,
+fn read_rows<K: Clone + Eq + Hash, V: TCNode<K>, S: BuildHasher, N: NodeMap<K, V, S>>(
+    nodes: &N,
     s: &mut Reading<K, S>,
     start: usize,
     end: usize,
@@ -128,7 +128,7 @@ fn empty_reading<K: Clone + Eq + Hash, S: BuildHasher>(keys: OrderedSet<K, S>, r
 }
 
 // The arcs that were read. The first `fixed` numbers are to be fixed.
-pub(crate) struct FixReading<K: Eq + Hash, S: BuildHasher> {
+pub(crate) struct FixReading<K, S> {
     pub(crate) reading: Reading<K, S>,
     pub(crate) fixed: usize,
 }
@@ -142,8 +142,8 @@ fn read_nodes<K: Clone + Eq + Hash, V: TCNode<K>, S: BuildHasher>(nodes: &[&V], 
 }
 
 // Reads the arcs of all nodes of the map. Lists the edges of each node with edges once.
-pub(crate) fn read_arcs<K: Clone + Eq + Hash, V: TCNode<K>, S: BuildHasher + Clone>(
-    nodes: &HashMap<K, V, S>,
+pub(crate) fn read_arcs<K: Clone + Eq + Hash, V: TCNode<K>, S: BuildHasher + Clone, N: NodeMap<K, V, S>>(
+    nodes: &N,
 ) -> FixReading<K, S> {
     let edged = number_edged(nodes);
     let count = edged.nodes.len();
@@ -156,10 +156,7 @@ pub(crate) fn read_arcs<K: Clone + Eq + Hash, V: TCNode<K>, S: BuildHasher + Clo
 }
 
 // Numbers the keys of a set.
-fn number_set<K: Clone + Eq + Hash, S: BuildHasher, F: BuildHasher>(
-    hasher: S,
-    fix: &HashSet<K, F>,
-) -> OrderedSet<K, S> {
+fn number_set<K: Clone + Eq + Hash, S: BuildHasher, F: KeySet<K>>(hasher: S, fix: &F) -> OrderedSet<K, S> {
     let all = members_of(fix);
     let mut keys = OrderedSet::with_capacity_and_hasher(all.len(), hasher);
     for key in &all {
@@ -169,9 +166,15 @@ fn number_set<K: Clone + Eq + Hash, S: BuildHasher, F: BuildHasher>(
 }
 
 // Reads the arcs of the keys to fix, and of the keys to which these have an edge.
-pub(crate) fn read_fix<K: Clone + Eq + Hash, V: TCNode<K>, S: BuildHasher + Clone, F: BuildHasher>(
-    fix: &HashSet<K, F>,
-    nodes: &HashMap<K, V, S>,
+pub(crate) fn read_fix<
+    K: Clone + Eq + Hash,
+    V: TCNode<K>,
+    S: BuildHasher + Clone,
+    F: KeySet<K>,
+    N: NodeMap<K, V, S>,
+>(
+    fix: &F,
+    nodes: &N,
 ) -> FixReading<K, S> {
     let keys = number_set(nodes.hasher().clone(), fix);
     let fixed = keys.len();

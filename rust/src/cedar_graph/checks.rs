@@ -5,15 +5,20 @@
 use crate::cedar_graph::copies::members_of;
 use crate::cedar_graph::err::{HasCycle, Result, TcError};
 use crate::cedar_graph::transitive_closure::TCNode;
-use std::collections::{HashMap, HashSet};
+use crate::node_map::{KeySet, NodeMap};
 use std::fmt::{Debug, Display};
 use std::hash::{BuildHasher, Hash};
 
 // Checks that no node has an edge to itself.
-pub(crate) fn enforce_no_loop<K: Clone + Eq + Hash + Debug + Display, V: TCNode<K>, S: BuildHasher>(
-    nodes: &HashMap<K, V, S>,
+pub(crate) fn enforce_no_loop<
+    K: Clone + Eq + Hash + Debug + Display,
+    V: TCNode<K>,
+    S: BuildHasher,
+    N: NodeMap<K, V, S>,
+>(
+    nodes: &N,
 ) -> Result<(), K> {
-    for (key, node) in nodes {
+    for (key, node) in nodes.iter() {
         if node.has_edge_to(key) {
             return Err(TcError::HasCycle(HasCycle { vertex: key.clone() }));
         }
@@ -26,10 +31,11 @@ pub(crate) fn enforce_no_loop_for<
     K: Clone + Eq + Hash + Debug + Display,
     V: TCNode<K>,
     S: BuildHasher,
-    F: BuildHasher,
+    F: KeySet<K>,
+    N: NodeMap<K, V, S>,
 >(
-    fix: &HashSet<K, F>,
-    nodes: &HashMap<K, V, S>,
+    fix: &F,
+    nodes: &N,
 ) -> Result<(), K> {
     let rows = members_of(fix);
     for key in &rows {
@@ -39,8 +45,8 @@ pub(crate) fn enforce_no_loop_for<
 }
 
 // Checks that the node at a key has no edge to itself.
-fn check_loop<K: Clone + Eq + Hash + Debug + Display, V: TCNode<K>, S: BuildHasher>(
-    nodes: &HashMap<K, V, S>,
+fn check_loop<K: Clone + Eq + Hash + Debug + Display, V: TCNode<K>, S: BuildHasher, N: NodeMap<K, V, S>>(
+    nodes: &N,
     key: &K,
 ) -> Result<(), K> {
     if let Some(node) = nodes.get(key) {

@@ -4,9 +4,9 @@
 
 use crate::cedar_components::{Reached, reach};
 use crate::cedar_graph::arcs::{FixReading, Reading, read_arcs, read_fix};
-use crate::cedar_graph::order::order_of;
+use crate::cedar_graph::order::{ends_below, order_of};
 use crate::cedar_graph::transitive_closure::{TCNode, Work};
-use std::collections::{HashMap, HashSet};
+use crate::node_map::{KeySet, NodeMap};
 use std::hash::{BuildHasher, Hash};
 
 // Appends a copy of a key to a row, unless it is known.
@@ -111,27 +111,30 @@ fn pick_row<K: Clone + Eq + Hash>(keys: &[K], numbers: &[usize], known: &Known) 
     row
 }
 
-// Adds edges from a node to the keys of a row. The node must not have any of these edges yet. Does not call the node
-// for an empty row.
-fn fill_node<K: Clone + Eq + Hash, V: TCNode<K>>(node: &mut V, row: &mut Vec<K>) {
+// Adds edges from a node to the keys of a row. The node must not have any of these edges yet. If `ascending` is true,
+// the keys must ascend. Does not call the node for an empty row.
+fn fill_node<K: Clone + Eq + Hash, V: TCNode<K>>(node: &mut V, row: &mut Vec<K>, ascending: bool) {
     if row.is_empty() {
         return;
+    }
+    if ascending {
+        return node.add_ascending_edges_to(row);
     }
     node.add_new_edges_to(row);
 }
 
-// Adds edges from the node at a key to the keys of a row. The node must not have any of these edges yet. Returns the
-// number of nodes found: 0 or 1.
-fn add_row<K: Clone + Eq + Hash, V: TCNode<K>, S: BuildHasher>(
-    nodes: &mut HashMap<K, V, S>,
+// Adds edges from the node at a key to the keys of a row. The node must not have any of these edges yet. If `ascending`
+// is true, the keys must ascend. Returns the number of nodes found: 0 or 1.
+fn add_row<K: Clone + Eq + Hash, V: TCNode<K>, S: BuildHasher, N: NodeMap<K, V, S>>(
+    nodes: &mut N,
     at: &K,
     row: &mut Vec<K>,
+    ascending: bool,
 ) -> usize {
-    let node = match nodes.get_mut(at) {
-        Some(node) => node,
-        None => return 0,
+    let Some(node) = nodes.get_mut(at) else {
+        return 0;
     };
-    fill_node(node, row);
+    fill_node(node, row, ascending);
     1
 }
 
@@ -141,18 +144,35 @@ pub(crate) fn listed_for(reached: &Reached, x: usize) -> &[usize] {
     &reached.lists[reached.start[component]..reached.start[component + 1]]
 }
 
+// The numbers that each number reaches. The keys at the first `limit` places of the order of the lists ascend.
+pub(crate) struct OrderedReach {
+    pub(crate) numbers: Reached,
+    pub(crate) limit: usize,
+}
+
+// Returns whether the keys of the numbers that number `x` reaches are known to ascend in the order of their list.
+fn ascends(reached: &OrderedReach, x: usize) -> bool {
+    if !reached.numbers.ordered {
+        return false;
+    }
+    let list = listed_for(&reached.numbers, x);
+    ends_below(list, &reached.numbers.places, reached.limit)
+}
+
 // Adds edges from the node of number `x` to the keys of the numbers that `x` reaches. Its existing edges must be the
 // edges to known numbers. Returns the number of nodes found: 0 or 1.
-fn write_number<K: Clone + Eq + Hash, V: TCNode<K>, S: BuildHasher>(
-    nodes: &mut HashMap<K, V, S>,
+fn write_number<K: Clone + Eq + Hash, V: TCNode<K>, S: BuildHasher, N: NodeMap<K, V, S>>(
+    nodes: &mut N,
     read: &Reading<K, S>,
-    reached: &Reached,
+    reached: &OrderedReach,
     x: usize,
     known: &Known,
 ) -> usize {
     let keys = read.keys.as_slice();
-    let mut row = pick_row(keys, listed_for(reached, x), known);
-    add_row(nodes, &keys[x], &mut row)
+    let numbers = listed_for(&reached.numbers, x);
+    let mut row = pick_row(keys, numbers, known);
+    let ascending = ascends(reached, x);
+    add_row(nodes, &keys[x], &mut row, ascending)
 }
 
 // Marks the targets of number `x` as known. Its arcs begin at place `e`. Returns the place after them.
@@ -182,10 +202,10 @@ pub(crate) struct Closed {
 // Adds edges from the node of each number to fix to the keys of the numbers that it reaches, and counts the nodes. If
 // `asks` is true, it also checks whether one of the numbers reaches itself. It checks only numbers that are already
 // marked when their turn comes, because every cycle contains such a number.
-pub(crate) fn write_rows<K: Clone + Eq + Hash, V: TCNode<K>, S: BuildHasher>(
-    nodes: &mut HashMap<K, V, S>,
+pub(crate) fn write_rows<K: Clone + Eq + Hash, V: TCNode<K>, S: BuildHasher, N: NodeMap<K, V, S>>(
+    nodes: &mut N,
     read: &FixReading<K, S>,
-    reached: &Reached,
+    reached: &OrderedReach,
     asks: bool,
 ) -> Closed {
     let arcs = &read.reading;
@@ -201,7 +221,7 @@ pub(crate) fn write_rows<K: Clone + Eq + Hash, V: TCNode<K>, S: BuildHasher>(
     for x in 0..read.fixed {
         place = mark_targets(&arcs.from, &arcs.to, &mut known, x, place);
         closings += write_number(nodes, arcs, reached, x, &known);
-        has_loop = has_loop || known.marks[x] != 0 && reaches_itself(reached, x);
+        has_loop = has_loop || known.marks[x] != 0 && reaches_itself(&reached.numbers, x);
     }
     let work = Work {
         reads: arcs.reads,
@@ -211,16 +231,20 @@ pub(crate) fn write_rows<K: Clone + Eq + Hash, V: TCNode<K>, S: BuildHasher>(
 }
 
 // Computes the numbers that each number reaches.
-pub(crate) fn reach_of<K: Clone + Eq + Hash, V: TCNode<K>, S: BuildHasher>(read: &Reading<K, S>) -> Reached {
+pub(crate) fn reach_of<K: Clone + Eq + Hash, V: TCNode<K>, S: BuildHasher>(read: &Reading<K, S>) -> OrderedReach {
     let keys = read.keys.as_slice();
     let order = order_of::<K, V>(keys, &read.to);
-    reach(&read.from, &read.to, keys.len(), &order)
+    let numbers = reach(&read.from, &read.to, keys.len(), &order.numbers);
+    OrderedReach {
+        numbers,
+        limit: order.ascending,
+    }
 }
 
 // Adds the edges that follow from the arcs to the nodes of the numbers to fix. Reports whether one of these numbers may
 // reach itself, which is `true` if `asks` is false.
-fn close_read<K: Clone + Eq + Hash, V: TCNode<K>, S: BuildHasher>(
-    nodes: &mut HashMap<K, V, S>,
+fn close_read<K: Clone + Eq + Hash, V: TCNode<K>, S: BuildHasher, N: NodeMap<K, V, S>>(
+    nodes: &mut N,
     read: &FixReading<K, S>,
     asks: bool,
 ) -> Closed {
@@ -230,8 +254,8 @@ fn close_read<K: Clone + Eq + Hash, V: TCNode<K>, S: BuildHasher>(
 
 // Adds edges to all reached keys. Reports whether a key may then have an edge to itself, which is `true` if `asks` is
 // false.
-pub(crate) fn close<K: Clone + Eq + Hash, V: TCNode<K>, S: BuildHasher + Clone>(
-    nodes: &mut HashMap<K, V, S>,
+pub(crate) fn close<K: Clone + Eq + Hash, V: TCNode<K>, S: BuildHasher + Clone, N: NodeMap<K, V, S>>(
+    nodes: &mut N,
     asks: bool,
 ) -> Closed {
     let read = read_arcs(nodes);
@@ -239,9 +263,9 @@ pub(crate) fn close<K: Clone + Eq + Hash, V: TCNode<K>, S: BuildHasher + Clone>(
 }
 
 // Adds edges from the nodes to fix to all reached keys.
-pub(crate) fn repair<K: Clone + Eq + Hash, V: TCNode<K>, S: BuildHasher + Clone, F: BuildHasher>(
-    fix: &HashSet<K, F>,
-    nodes: &mut HashMap<K, V, S>,
+pub(crate) fn repair<K: Clone + Eq + Hash, V: TCNode<K>, S: BuildHasher + Clone, F: KeySet<K>, N: NodeMap<K, V, S>>(
+    fix: &F,
+    nodes: &mut N,
 ) -> Work {
     let read = read_fix(fix, nodes);
     let closed = close_read(nodes, &read, false);

@@ -7,19 +7,9 @@ use crate::cedar_graph::arcs::{FixReading, Reading, read_arcs};
 use crate::cedar_graph::close::{Known, listed_for, mark_targets, reach_of};
 use crate::cedar_graph::err::{MissingTcEdge, Result, TcError};
 use crate::cedar_graph::transitive_closure::TCNode;
-use std::collections::HashMap;
+use crate::node_map::NodeMap;
 use std::fmt::{Debug, Display};
 use std::hash::{BuildHasher, Hash};
-
-// Checks whether each number that number `x` reaches is known.
-fn knows_reached(reached: &Reached, x: usize, known: &Known) -> bool {
-    for y in listed_for(reached, x) {
-        if known.marks[*y] != known.mark {
-            return false;
-        }
-    }
-    true
-}
 
 // Returns the place of the first arc from a known number to an unknown one.
 fn first_leak<K: Clone + Eq + Hash, S: BuildHasher>(read: &Reading<K, S>, known: &Known) -> Option<usize> {
@@ -40,7 +30,7 @@ fn first_lack<K: Clone + Eq + Hash, S: BuildHasher>(
     x: usize,
     known: &Known,
 ) -> Option<usize> {
-    if knows_reached(reached, x, known) {
+    if listed_for(reached, x).iter().all(|y| known.marks[*y] == known.mark) {
         return None;
     }
     first_leak(read, known)
@@ -99,10 +89,15 @@ fn check_numbers<K: Clone + Eq + Hash + Debug + Display, S: BuildHasher>(
 // Checks whether the graph is closed: whether each number has an arc to each number that it reaches. The strongly
 // connected components give the reached numbers. Only if an arc is missing are the arcs searched for three keys that
 // show it.
-pub(crate) fn enforce_tc<K: Clone + Eq + Hash + Debug + Display, V: TCNode<K>, S: BuildHasher + Clone>(
-    nodes: &HashMap<K, V, S>,
+pub(crate) fn enforce_tc<
+    K: Clone + Eq + Hash + Debug + Display,
+    V: TCNode<K>,
+    S: BuildHasher + Clone,
+    N: NodeMap<K, V, S>,
+>(
+    nodes: &N,
 ) -> Result<(), K> {
     let read = read_arcs(nodes);
     let reached = reach_of::<K, V, S>(&read.reading);
-    check_numbers(&read, &reached)
+    check_numbers(&read, &reached.numbers)
 }

@@ -2,10 +2,10 @@
 
 //! Lists of the keys of sets, without copying keys.
 
-use std::collections::HashSet;
-use std::hash::{BuildHasher, Hash};
+use crate::node_map::KeySet;
+use std::hash::Hash;
 
 // Lists the keys of a set.
-pub(crate) fn members_of<K: Clone + Eq + Hash, S: BuildHasher>(set: &HashSet<K, S>) -> Vec<&K> {
+pub(crate) fn members_of<K: Clone + Eq + Hash, S: KeySet<K>>(set: &S) -> Vec<&K> {
     set.iter().collect()
 }

@@ -7,6 +7,7 @@ use crate::cedar_graph::arcs::{FixReading, Reading, read_arcs, read_fix};
 use crate::cedar_graph::close::{reach_of, reaches_itself, write_rows};
 use crate::cedar_graph::err::{HasCycle, Result, TcError};
 use crate::cedar_graph::transitive_closure::TCNode;
+use crate::node_map::{KeySet, NodeMap};
 use std::collections::{HashMap, HashSet};
 use std::fmt::{Debug, Display};
 use std::hash::{BuildHasher, Hash};
@@ -20,37 +21,19 @@ fn marked_targets<K: Clone + Eq + Hash, S: BuildHasher>(read: &Reading<K, S>) ->
     led
 }
 
-// Returns the first number to fix that reaches itself. Checks only numbers to which an arc leads.
-fn first_loop<K: Clone + Eq + Hash, S: BuildHasher>(
-    read: &FixReading<K, S>,
-    reached: &Reached,
-    led: &[bool],
-) -> Option<usize> {
-    (0..read.fixed).find(|x| led[*x] && reaches_itself(reached, *x))
-}
-
-// Checks whether each arc leads to a component that comes before its own. If so, no number reaches itself. Otherwise a
-// number may reach itself.
-fn descends<K: Clone + Eq + Hash, S: BuildHasher>(read: &Reading<K, S>, reached: &Reached) -> bool {
-    for k in 0..read.from.len() {
-        if reached.component[read.from[k]] <= reached.component[read.to[k]] {
-            return false;
-        }
-    }
-    true
-}
-
 // Returns an error with the key of the first number to fix that reaches itself. The numbers are searched only if the
 // order of the components does not exclude a cycle.
 fn refuse_loop<K: Clone + Eq + Hash + Debug + Display, S: BuildHasher>(
     read: &FixReading<K, S>,
     reached: &Reached,
 ) -> Result<(), K> {
-    if descends(&read.reading, reached) {
+    if (0..read.reading.from.len())
+        .all(|k| reached.component[read.reading.from[k]] > reached.component[read.reading.to[k]])
+    {
         return Ok(());
     }
     let led = marked_targets(&read.reading);
-    if let Some(x) = first_loop(read, reached, &led) {
+    if let Some(x) = (0..read.fixed).find(|x| led[*x] && reaches_itself(reached, *x)) {
         let keys = read.reading.keys.as_slice();
         return Err(TcError::HasCycle(HasCycle {
             vertex: keys[x].clone(),
@@ -82,27 +65,38 @@ fn refuse_loop<K: Clone + Eq + Hash + Debug + Display, S: BuildHasher>(
 /// The original has no such function.
 ///
 /// ```
-/// # use cedar_store::{ast::*, entities::*};
-/// # fn uid(text: &str) -> EntityUID { EntityUID::from_normalized_str(text).unwrap() }
-/// # fn entity_with(own: &str, parents: &[&str]) -> Entity {
-/// #     let mut entity = Entity::with_uid(uid(own));
-/// #     parents.iter().for_each(|parent| entity.add_parent(uid(parent)));
-/// #     entity
-/// # }
+/// use cedar_store::ast::{Entity, EntityUID};
 /// use cedar_store::transitive_closure::{TcError, close_dag, repair_dag};
-/// # use std::collections::{HashMap, HashSet};
-/// let ring = [entity_with(r#"A::"a""#, &[r#"A::"b""#]), entity_with(r#"A::"b""#, &[r#"A::"a""#])];
-/// let mut nodes: HashMap<_, _> = ring.into_iter().map(|entity| (entity.uid().clone(), entity)).collect();
+/// use std::collections::{HashMap, HashSet};
+///
+/// let (a, b, c): (EntityUID, EntityUID, EntityUID) = (r#"A::"a""#.parse()?, r#"A::"b""#.parse()?, r#"A::"c""#.parse()?);
+/// let mut nodes: HashMap<_, _> = [&a, &b].map(|uid| (uid.clone(), Entity::with_uid(uid.clone()))).into();
+/// nodes.get_mut(&a).expect("it is present").add_parent(b.clone());
+/// nodes.get_mut(&b).expect("it is present").add_parent(a.clone());
 /// // a cycle is reported before any edge is written
 /// assert!(matches!(close_dag(&mut nodes), Err(TcError::HasCycle(_))));
-/// assert!(!nodes[&uid(r#"A::"a""#)].is_descendant_of(&uid(r#"A::"a""#)));
-/// nodes.insert(uid(r#"A::"b""#), entity_with(r#"A::"b""#, &[r#"A::"c""#]));
-/// repair_dag(&HashSet::from([uid(r#"A::"a""#)]), &mut nodes)?;
-/// assert!(nodes[&uid(r#"A::"a""#)].is_descendant_of(&uid(r#"A::"c""#)));
+/// assert!(!nodes[&a].is_descendant_of(&a));
+/// let mut acyclic = Entity::with_uid(b.clone());
+/// acyclic.add_parent(c.clone());
+/// nodes.insert(b, acyclic);
+/// repair_dag(&HashSet::from([a.clone()]), &mut nodes)?;
+/// assert!(nodes[&a].is_descendant_of(&c));
 /// # Ok::<(), Box<dyn std::error::Error>>(())
 /// ```
 pub fn close_dag<K: Clone + Eq + Hash + Debug + Display, V: TCNode<K>, S: BuildHasher + Clone>(
     nodes: &mut HashMap<K, V, S>,
+) -> Result<(), K> {
+    close_dag_nodes(nodes)
+}
+
+// Does what `close_dag` does, for any map of nodes.
+pub(crate) fn close_dag_nodes<
+    K: Clone + Eq + Hash + Debug + Display,
+    V: TCNode<K>,
+    S: BuildHasher + Clone,
+    N: NodeMap<K, V, S>,
+>(
+    nodes: &mut N,
 ) -> Result<(), K> {
     debug_assert!(
         nodes.iter().all(|(key, node)| node.get_key() == *key),
@@ -110,7 +104,7 @@ pub fn close_dag<K: Clone + Eq + Hash + Debug + Display, V: TCNode<K>, S: BuildH
     );
     let read = read_arcs(nodes);
     let reached = reach_of::<K, V, S>(&read.reading);
-    refuse_loop(&read, &reached)?;
+    refuse_loop(&read, &reached.numbers)?;
     write_rows(nodes, &read, &reached, false);
     Ok(())
 }
@@ -140,29 +134,24 @@ pub fn close_dag<K: Clone + Eq + Hash + Debug + Display, V: TCNode<K>, S: BuildH
 ///
 /// The original has no such function.
 ///
-/// ```
-/// # use cedar_store::{ast::*, entities::*};
-/// # fn uid(text: &str) -> EntityUID { EntityUID::from_normalized_str(text).unwrap() }
-/// # fn entity_with(own: &str, parents: &[&str]) -> Entity {
-/// #     let mut entity = Entity::with_uid(uid(own));
-/// #     parents.iter().for_each(|parent| entity.add_parent(uid(parent)));
-/// #     entity
-/// # }
-/// use cedar_store::transitive_closure::{TcError, close_dag, repair_dag};
-/// # use std::collections::{HashMap, HashSet};
-/// let ring = [entity_with(r#"A::"a""#, &[r#"A::"b""#]), entity_with(r#"A::"b""#, &[r#"A::"a""#])];
-/// let mut nodes: HashMap<_, _> = ring.into_iter().map(|entity| (entity.uid().clone(), entity)).collect();
-/// // a cycle is reported before any edge is written
-/// assert!(matches!(close_dag(&mut nodes), Err(TcError::HasCycle(_))));
-/// assert!(!nodes[&uid(r#"A::"a""#)].is_descendant_of(&uid(r#"A::"a""#)));
-/// nodes.insert(uid(r#"A::"b""#), entity_with(r#"A::"b""#, &[r#"A::"c""#]));
-/// repair_dag(&HashSet::from([uid(r#"A::"a""#)]), &mut nodes)?;
-/// assert!(nodes[&uid(r#"A::"a""#)].is_descendant_of(&uid(r#"A::"c""#)));
-/// # Ok::<(), Box<dyn std::error::Error>>(())
-/// ```
+/// [`close_dag`] has an example.
 pub fn repair_dag<K: Clone + Eq + Hash + Debug + Display, V: TCNode<K>, S: BuildHasher + Clone, F: BuildHasher>(
     nodes_to_fix: &HashSet<K, F>,
     nodes: &mut HashMap<K, V, S>,
+) -> Result<(), K> {
+    repair_dag_nodes(nodes_to_fix, nodes)
+}
+
+// Does what `repair_dag` does, for any map of nodes.
+pub(crate) fn repair_dag_nodes<
+    K: Clone + Eq + Hash + Debug + Display,
+    V: TCNode<K>,
+    S: BuildHasher + Clone,
+    F: KeySet<K>,
+    N: NodeMap<K, V, S>,
+>(
+    nodes_to_fix: &F,
+    nodes: &mut N,
 ) -> Result<(), K> {
     debug_assert!(
         nodes.iter().all(|(key, node)| node.get_key() == *key),
@@ -170,7 +159,7 @@ pub fn repair_dag<K: Clone + Eq + Hash + Debug + Display, V: TCNode<K>, S: Build
     );
     let read = read_fix(nodes_to_fix, nodes);
     let reached = reach_of::<K, V, S>(&read.reading);
-    refuse_loop(&read, &reached)?;
+    refuse_loop(&read, &reached.numbers)?;
     write_rows(nodes, &read, &reached, false);
     Ok(())
 }

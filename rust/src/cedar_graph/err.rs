@@ -32,41 +32,32 @@ impl<K> HasCycle<K> {
     /// The original creates this error only in its closure.
     ///
     /// ```
-    /// # use cedar_store::{ast::*, entities::*};
-    /// # fn uid(text: &str) -> EntityUID { EntityUID::from_normalized_str(text).unwrap() }
+    /// use cedar_store::ast::EntityUID;
     /// use cedar_store::transitive_closure::HasCycle;
-    /// let cycle = HasCycle::new(uid(r#"A::"a""#));
-    /// assert_eq!(cycle.vertex_with_loop(), &uid(r#"A::"a""#));
-    /// assert_eq!(cycle.into_vertex(), uid(r#"A::"a""#));
+    ///
+    /// let alice: EntityUID = r#"User::"alice""#.parse()?;
+    /// let cycle = HasCycle::new(alice.clone());
+    /// assert_eq!(cycle.vertex_with_loop(), &alice);
+    /// assert_eq!(cycle.into_vertex(), alice);
+    /// # Ok::<(), Box<dyn std::error::Error>>(())
     /// ```
+    #[must_use]
     pub fn new(vertex: K) -> Self {
         Self { vertex }
     }
 
     /// Returns the key that lies on a cycle, and consumes the error. Does not allocate.
     ///
-    /// ```
-    /// # use cedar_store::{ast::*, entities::*};
-    /// # fn uid(text: &str) -> EntityUID { EntityUID::from_normalized_str(text).unwrap() }
-    /// use cedar_store::transitive_closure::HasCycle;
-    /// let cycle = HasCycle::new(uid(r#"A::"a""#));
-    /// assert_eq!(cycle.vertex_with_loop(), &uid(r#"A::"a""#));
-    /// assert_eq!(cycle.into_vertex(), uid(r#"A::"a""#));
-    /// ```
+    /// [`Self::new`] has an example.
+    #[must_use]
     pub fn into_vertex(self) -> K {
         self.vertex
     }
 
     /// Returns the key that lies on a cycle. Does not allocate.
     ///
-    /// ```
-    /// # use cedar_store::{ast::*, entities::*};
-    /// # fn uid(text: &str) -> EntityUID { EntityUID::from_normalized_str(text).unwrap() }
-    /// use cedar_store::transitive_closure::HasCycle;
-    /// let cycle = HasCycle::new(uid(r#"A::"a""#));
-    /// assert_eq!(cycle.vertex_with_loop(), &uid(r#"A::"a""#));
-    /// assert_eq!(cycle.into_vertex(), uid(r#"A::"a""#));
-    /// ```
+    /// [`Self::new`] has an example.
+    #[must_use]
     pub fn vertex_with_loop(&self) -> &K {
         &self.vertex
     }
@@ -78,7 +69,7 @@ impl<K> HasCycle<K> {
 ///
 /// The original has no such variant.
 #[derive(Clone, Debug, PartialEq, Eq)]
-pub enum TcError<K: Debug + Display> {
+pub enum TcError<K> {
     /// The graph is not closed: it has a path of two edges without the direct edge.
     MissingTcEdge(MissingTcEdge<K>),
     /// The graph has a cycle.

@@ -2,6 +2,8 @@
 
 //! Transitive closure of a graph whose nodes are the values of a map.
 
+pub(crate) use dag::{close_dag_nodes, repair_dag_nodes};
+pub(crate) use transitive_closure::{compute_tc_nodes, enforce_tc_and_dag_nodes, repair_tc_nodes};
 mod arcs;
 mod checks;
 mod close;

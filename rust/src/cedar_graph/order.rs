@@ -16,6 +16,7 @@ fn has_incoming(to: &[usize], count: usize) -> Vec<bool> {
 }
 
 // The numbers to which arcs lead, with copies of their keys, and the other numbers.
+#[derive(Clone)]
 struct Parts<K> {
     keys: Vec<K>,
     led: Vec<usize>,
@@ -56,10 +57,31 @@ fn at_places(numbers: &[usize], places: &[usize], others: &[usize]) -> Vec<usize
     order
 }
 
+// The numbers of the keys in order. The keys of the first `ascending` numbers ascend.
+pub(crate) struct Order {
+    pub(crate) numbers: Vec<usize>,
+    pub(crate) ascending: usize,
+}
+
+// Returns how many of the first numbers have ascending keys: all of them, or none.
+fn count_ascending<K: Clone + Eq, V: TCNode<K>>(keys: &[K], first: &[usize]) -> usize {
+    if V::are_ascending(keys, first) { first.len() } else { 0 }
+}
+
 // Returns the numbers of the keys in order. Numbers to which arcs lead come first, in the order that the node type
 // prefers for their keys. The others follow; no list contains them.
-pub(crate) fn order_of<K: Clone + Eq, V: TCNode<K>>(keys: &[K], to: &[usize]) -> Vec<usize> {
+pub(crate) fn order_of<K: Clone + Eq, V: TCNode<K>>(keys: &[K], to: &[usize]) -> Order {
     let parts = parts_of(keys, to);
     let places = V::order(&parts.keys);
-    at_places(&parts.led, &places, &parts.others)
+    let order = at_places(&parts.led, &places, &parts.others);
+    let ascending = count_ascending::<K, V>(keys, &order[..parts.led.len()]);
+    Order {
+        numbers: order,
+        ascending,
+    }
+}
+
+// Checks whether the place of the last number of a list is below `limit`.
+pub(crate) fn ends_below(list: &[usize], places: &[usize], limit: usize) -> bool {
+    list.is_empty() || places[list[list.len() - 1]] < limit
 }

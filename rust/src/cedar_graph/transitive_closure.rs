@@ -6,6 +6,7 @@ use crate::cedar_graph::checks::{enforce_no_loop, enforce_no_loop_for};
 use crate::cedar_graph::close::{close, repair};
 use crate::cedar_graph::closed::enforce_tc;
 use crate::cedar_graph::err::Result;
+use crate::node_map::{KeySet, NodeMap};
 use std::collections::{HashMap, HashSet};
 use std::fmt::{Debug, Display};
 use std::hash::{BuildHasher, Hash};
@@ -82,6 +83,22 @@ pub trait TCNode<K> {
         (0..keys.len()).collect()
     }
 
+    /// Returns whether the keys at the positions in `numbers` ascend in the order of the node type. Each number must be
+    /// below `keys.len()`. The default returns `false`. Does not allocate.
+    ///
+    /// A closure calls this once, after [`TCNode::order`], with all keys and with the numbers in that order. If the
+    /// result is `true`, it adds edges by [`TCNode::add_ascending_edges_to`].
+    ///
+    /// # Differences from cedar-policy-core
+    ///
+    /// The original has no such method.
+    fn are_ascending(_keys: &[K], _numbers: &[usize]) -> bool
+    where
+        Self: Sized,
+    {
+        false
+    }
+
     /// Adds edges to all of the keys. The keys may contain duplicates, and keys to which the node has an edge already.
     /// The method may remove keys from the vector; its later content is unspecified.
     ///
@@ -108,6 +125,18 @@ pub trait TCNode<K> {
     /// The original has no such method.
     fn add_new_edges_to(&mut self, keys: &mut Vec<K>) {
         self.add_edges_to(keys);
+    }
+
+    /// Adds edges to all of the keys, as [`TCNode::add_new_edges_to`] does. The caller must ensure that the node has no
+    /// edge to any of them, and that they ascend, so an implementation need check neither.
+    ///
+    /// The default calls [`TCNode::add_new_edges_to`].
+    ///
+    /// # Differences from cedar-policy-core
+    ///
+    /// The original has no such method.
+    fn add_ascending_edges_to(&mut self, keys: &mut Vec<K>) {
+        self.add_new_edges_to(keys);
     }
 }
 
@@ -140,8 +169,8 @@ pub struct Work {
 /// edges read and of edges added. A pair of keys without an edge costs nothing.
 ///
 /// - Calls [`TCNode::may_have_edges`] for each node, twice if a node may have edges.
-/// - Calls [`TCNode::order`] once.
-/// - Calls [`TCNode::add_new_edges_to`] once for each node that needs edges.
+/// - Calls [`TCNode::order`] once, and then [`TCNode::are_ascending`].
+/// - Calls [`TCNode::add_ascending_edges_to`] or [`TCNode::add_new_edges_to`] once for each node that needs edges.
 /// - Calls [`TCNode::has_edge_to`] only if `enforce_dag` is `true` and there is a cycle, until a node has an edge to
 ///   itself.
 ///
@@ -157,28 +186,38 @@ pub struct Work {
 /// So keys collide there only if they collide in the map.
 ///
 /// ```
-/// # use cedar_store::{ast::*, entities::*};
-/// # fn uid(text: &str) -> EntityUID { EntityUID::from_normalized_str(text).unwrap() }
-/// # fn entity_with(own: &str, parents: &[&str]) -> Entity {
-/// #     let mut entity = Entity::with_uid(uid(own));
-/// #     parents.iter().for_each(|parent| entity.add_parent(uid(parent)));
-/// #     entity
-/// # }
+/// use cedar_store::ast::{Entity, EntityUID};
 /// use cedar_store::transitive_closure::{TcError, compute_tc, enforce_tc_and_dag};
-/// # use std::collections::HashMap;
-/// let chain = [entity_with(r#"A::"a""#, &[r#"A::"b""#]), entity_with(r#"A::"b""#, &[r#"A::"c""#])];
-/// let mut nodes: HashMap<_, _> = chain.into_iter().map(|entity| (entity.uid().clone(), entity)).collect();
+/// use std::collections::HashMap;
+///
+/// let (a, b, c): (EntityUID, EntityUID, EntityUID) = (r#"A::"a""#.parse()?, r#"A::"b""#.parse()?, r#"A::"c""#.parse()?);
+/// let mut nodes: HashMap<_, _> = [&a, &b].map(|uid| (uid.clone(), Entity::with_uid(uid.clone()))).into();
+/// nodes.get_mut(&a).expect("it is present").add_parent(b.clone());
+/// nodes.get_mut(&b).expect("it is present").add_parent(c.clone());
 /// assert!(matches!(enforce_tc_and_dag(&nodes), Err(TcError::MissingTcEdge(_))));
 /// compute_tc(&mut nodes, true)?;
 /// assert!(enforce_tc_and_dag(&nodes).is_ok());
-/// assert!(nodes[&uid(r#"A::"a""#)].is_descendant_of(&uid(r#"A::"c""#)));
+/// assert!(nodes[&a].is_descendant_of(&c));
 /// # Ok::<(), Box<dyn std::error::Error>>(())
 /// ```
 pub fn compute_tc<K: Clone + Eq + Hash + Debug + Display, V: TCNode<K>, S: BuildHasher + Clone>(
     nodes: &mut HashMap<K, V, S>,
     enforce_dag: bool,
 ) -> Result<(), K> {
-    compute_tc_counted(nodes, enforce_dag)?;
+    compute_tc_nodes(nodes, enforce_dag)
+}
+
+// Does what `compute_tc` does, for any map of nodes.
+pub(crate) fn compute_tc_nodes<
+    K: Clone + Eq + Hash + Debug + Display,
+    V: TCNode<K>,
+    S: BuildHasher + Clone,
+    N: NodeMap<K, V, S>,
+>(
+    nodes: &mut N,
+    enforce_dag: bool,
+) -> Result<(), K> {
+    compute_tc_counted_nodes(nodes, enforce_dag)?;
     Ok(())
 }
 
@@ -198,30 +237,22 @@ pub fn compute_tc<K: Clone + Eq + Hash + Debug + Display, V: TCNode<K>, S: Build
 ///
 /// The original counts nothing.
 ///
-/// ```
-/// # use cedar_store::{ast::*, entities::*};
-/// # fn uid(text: &str) -> EntityUID { EntityUID::from_normalized_str(text).unwrap() }
-/// # fn entity_with(own: &str, parents: &[&str]) -> Entity {
-/// #     let mut entity = Entity::with_uid(uid(own));
-/// #     parents.iter().for_each(|parent| entity.add_parent(uid(parent)));
-/// #     entity
-/// # }
-/// use cedar_store::transitive_closure::{compute_tc_counted, repair_tc, repair_tc_counted};
-/// # use std::collections::{HashMap, HashSet};
-/// let chain = [entity_with(r#"A::"a""#, &[r#"A::"b""#]), entity_with(r#"A::"b""#, &[r#"A::"c""#])];
-/// let mut nodes: HashMap<_, _> = chain.into_iter().map(|entity| (entity.uid().clone(), entity)).collect();
-/// let work = compute_tc_counted(&mut nodes, true)?;
-/// assert_eq!((work.reads, work.closings), (2, 2));
-/// // the affected nodes are repaired; all others already have edges to all nodes that they reach
-/// let b = nodes.get_mut(&uid(r#"A::"b""#)).expect("it is present");
-/// b.add_parent(uid(r#"A::"d""#));
-/// repair_tc(&HashSet::from([uid(r#"A::"a""#)]), &mut nodes, true)?;
-/// assert!(nodes[&uid(r#"A::"a""#)].is_descendant_of(&uid(r#"A::"d""#)));
-/// assert_eq!(repair_tc_counted(&HashSet::from([uid(r#"A::"a""#)]), &mut nodes, true)?.closings, 1);
-/// # Ok::<(), Box<dyn std::error::Error>>(())
-/// ```
+/// [`repair_tc`] has an example.
 pub fn compute_tc_counted<K: Clone + Eq + Hash + Debug + Display, V: TCNode<K>, S: BuildHasher + Clone>(
     nodes: &mut HashMap<K, V, S>,
+    enforce_dag: bool,
+) -> Result<Work, K> {
+    compute_tc_counted_nodes(nodes, enforce_dag)
+}
+
+// Does what `compute_tc_counted` does, for any map of nodes.
+pub(crate) fn compute_tc_counted_nodes<
+    K: Clone + Eq + Hash + Debug + Display,
+    V: TCNode<K>,
+    S: BuildHasher + Clone,
+    N: NodeMap<K, V, S>,
+>(
+    nodes: &mut N,
     enforce_dag: bool,
 ) -> Result<Work, K> {
     debug_assert!(
@@ -260,25 +291,22 @@ pub fn compute_tc_counted<K: Clone + Eq + Hash + Debug + Display, V: TCNode<K>, 
 /// these keys once, and reads no other node. Recurses only in sorting.
 ///
 /// ```
-/// # use cedar_store::{ast::*, entities::*};
-/// # fn uid(text: &str) -> EntityUID { EntityUID::from_normalized_str(text).unwrap() }
-/// # fn entity_with(own: &str, parents: &[&str]) -> Entity {
-/// #     let mut entity = Entity::with_uid(uid(own));
-/// #     parents.iter().for_each(|parent| entity.add_parent(uid(parent)));
-/// #     entity
-/// # }
+/// use cedar_store::ast::{Entity, EntityUID};
 /// use cedar_store::transitive_closure::{compute_tc_counted, repair_tc, repair_tc_counted};
-/// # use std::collections::{HashMap, HashSet};
-/// let chain = [entity_with(r#"A::"a""#, &[r#"A::"b""#]), entity_with(r#"A::"b""#, &[r#"A::"c""#])];
-/// let mut nodes: HashMap<_, _> = chain.into_iter().map(|entity| (entity.uid().clone(), entity)).collect();
+/// use std::collections::{HashMap, HashSet};
+///
+/// let (a, b, c): (EntityUID, EntityUID, EntityUID) = (r#"A::"a""#.parse()?, r#"A::"b""#.parse()?, r#"A::"c""#.parse()?);
+/// let mut nodes: HashMap<_, _> = [&a, &b].map(|uid| (uid.clone(), Entity::with_uid(uid.clone()))).into();
+/// nodes.get_mut(&a).expect("it is present").add_parent(b.clone());
+/// nodes.get_mut(&b).expect("it is present").add_parent(c);
 /// let work = compute_tc_counted(&mut nodes, true)?;
 /// assert_eq!((work.reads, work.closings), (2, 2));
 /// // the affected nodes are repaired; all others already have edges to all nodes that they reach
-/// let b = nodes.get_mut(&uid(r#"A::"b""#)).expect("it is present");
-/// b.add_parent(uid(r#"A::"d""#));
-/// repair_tc(&HashSet::from([uid(r#"A::"a""#)]), &mut nodes, true)?;
-/// assert!(nodes[&uid(r#"A::"a""#)].is_descendant_of(&uid(r#"A::"d""#)));
-/// assert_eq!(repair_tc_counted(&HashSet::from([uid(r#"A::"a""#)]), &mut nodes, true)?.closings, 1);
+/// let d: EntityUID = r#"A::"d""#.parse()?;
+/// nodes.get_mut(&b).expect("it is present").add_parent(d.clone());
+/// repair_tc(&HashSet::from([a.clone()]), &mut nodes, true)?;
+/// assert!(nodes[&a].is_descendant_of(&d));
+/// assert_eq!(repair_tc_counted(&HashSet::from([a]), &mut nodes, true)?.closings, 1);
 /// # Ok::<(), Box<dyn std::error::Error>>(())
 /// ```
 pub fn repair_tc<K: Clone + Eq + Hash + Debug + Display, V: TCNode<K>, S: BuildHasher + Clone, F: BuildHasher>(
@@ -286,7 +314,22 @@ pub fn repair_tc<K: Clone + Eq + Hash + Debug + Display, V: TCNode<K>, S: BuildH
     nodes: &mut HashMap<K, V, S>,
     enforce_dag: bool,
 ) -> Result<(), K> {
-    repair_tc_counted(nodes_to_fix, nodes, enforce_dag)?;
+    repair_tc_nodes(nodes_to_fix, nodes, enforce_dag)
+}
+
+// Does what `repair_tc` does, for any map of nodes.
+pub(crate) fn repair_tc_nodes<
+    K: Clone + Eq + Hash + Debug + Display,
+    V: TCNode<K>,
+    S: BuildHasher + Clone,
+    F: KeySet<K>,
+    N: NodeMap<K, V, S>,
+>(
+    nodes_to_fix: &F,
+    nodes: &mut N,
+    enforce_dag: bool,
+) -> Result<(), K> {
+    repair_tc_counted_nodes(nodes_to_fix, nodes, enforce_dag)?;
     Ok(())
 }
 
@@ -306,28 +349,7 @@ pub fn repair_tc<K: Clone + Eq + Hash + Debug + Display, V: TCNode<K>, S: BuildH
 ///
 /// The original counts nothing.
 ///
-/// ```
-/// # use cedar_store::{ast::*, entities::*};
-/// # fn uid(text: &str) -> EntityUID { EntityUID::from_normalized_str(text).unwrap() }
-/// # fn entity_with(own: &str, parents: &[&str]) -> Entity {
-/// #     let mut entity = Entity::with_uid(uid(own));
-/// #     parents.iter().for_each(|parent| entity.add_parent(uid(parent)));
-/// #     entity
-/// # }
-/// use cedar_store::transitive_closure::{compute_tc_counted, repair_tc, repair_tc_counted};
-/// # use std::collections::{HashMap, HashSet};
-/// let chain = [entity_with(r#"A::"a""#, &[r#"A::"b""#]), entity_with(r#"A::"b""#, &[r#"A::"c""#])];
-/// let mut nodes: HashMap<_, _> = chain.into_iter().map(|entity| (entity.uid().clone(), entity)).collect();
-/// let work = compute_tc_counted(&mut nodes, true)?;
-/// assert_eq!((work.reads, work.closings), (2, 2));
-/// // the affected nodes are repaired; all others already have edges to all nodes that they reach
-/// let b = nodes.get_mut(&uid(r#"A::"b""#)).expect("it is present");
-/// b.add_parent(uid(r#"A::"d""#));
-/// repair_tc(&HashSet::from([uid(r#"A::"a""#)]), &mut nodes, true)?;
-/// assert!(nodes[&uid(r#"A::"a""#)].is_descendant_of(&uid(r#"A::"d""#)));
-/// assert_eq!(repair_tc_counted(&HashSet::from([uid(r#"A::"a""#)]), &mut nodes, true)?.closings, 1);
-/// # Ok::<(), Box<dyn std::error::Error>>(())
-/// ```
+/// [`repair_tc`] has an example.
 pub fn repair_tc_counted<
     K: Clone + Eq + Hash + Debug + Display,
     V: TCNode<K>,
@@ -336,6 +358,21 @@ pub fn repair_tc_counted<
 >(
     nodes_to_fix: &HashSet<K, F>,
     nodes: &mut HashMap<K, V, S>,
+    enforce_dag: bool,
+) -> Result<Work, K> {
+    repair_tc_counted_nodes(nodes_to_fix, nodes, enforce_dag)
+}
+
+// Does what `repair_tc_counted` does, for any map of nodes.
+pub(crate) fn repair_tc_counted_nodes<
+    K: Clone + Eq + Hash + Debug + Display,
+    V: TCNode<K>,
+    S: BuildHasher + Clone,
+    F: KeySet<K>,
+    N: NodeMap<K, V, S>,
+>(
+    nodes_to_fix: &F,
+    nodes: &mut N,
     enforce_dag: bool,
 ) -> Result<Work, K> {
     debug_assert!(
@@ -363,26 +400,21 @@ pub fn repair_tc_counted<
 /// Lists edges as [`compute_tc`] does. The further work is proportional to the number of keys with edges, of edges, and
 /// of reached keys. At the end it calls [`TCNode::has_edge_to`] once for each node. Allocates as [`compute_tc`] does.
 ///
-/// ```
-/// # use cedar_store::{ast::*, entities::*};
-/// # fn uid(text: &str) -> EntityUID { EntityUID::from_normalized_str(text).unwrap() }
-/// # fn entity_with(own: &str, parents: &[&str]) -> Entity {
-/// #     let mut entity = Entity::with_uid(uid(own));
-/// #     parents.iter().for_each(|parent| entity.add_parent(uid(parent)));
-/// #     entity
-/// # }
-/// use cedar_store::transitive_closure::{TcError, compute_tc, enforce_tc_and_dag};
-/// # use std::collections::HashMap;
-/// let chain = [entity_with(r#"A::"a""#, &[r#"A::"b""#]), entity_with(r#"A::"b""#, &[r#"A::"c""#])];
-/// let mut nodes: HashMap<_, _> = chain.into_iter().map(|entity| (entity.uid().clone(), entity)).collect();
-/// assert!(matches!(enforce_tc_and_dag(&nodes), Err(TcError::MissingTcEdge(_))));
-/// compute_tc(&mut nodes, true)?;
-/// assert!(enforce_tc_and_dag(&nodes).is_ok());
-/// assert!(nodes[&uid(r#"A::"a""#)].is_descendant_of(&uid(r#"A::"c""#)));
-/// # Ok::<(), Box<dyn std::error::Error>>(())
-/// ```
+/// [`compute_tc`] has an example.
 pub fn enforce_tc_and_dag<K: Clone + Eq + Hash + Debug + Display, V: TCNode<K>, S: BuildHasher + Clone>(
     nodes: &HashMap<K, V, S>,
+) -> Result<(), K> {
+    enforce_tc_and_dag_nodes(nodes)
+}
+
+// Does what `enforce_tc_and_dag` does, for any map of nodes.
+pub(crate) fn enforce_tc_and_dag_nodes<
+    K: Clone + Eq + Hash + Debug + Display,
+    V: TCNode<K>,
+    S: BuildHasher + Clone,
+    N: NodeMap<K, V, S>,
+>(
+    nodes: &N,
 ) -> Result<(), K> {
     debug_assert!(
         nodes.iter().all(|(key, node)| node.get_key() == *key),

@@ -28,7 +28,7 @@ fn more_digits(n: u32, b: u8) -> u32 {
     if b == b'{' {
         return n;
     }
-    if n < 0x1000000 { n * 16 + hex_value(b) } else { n }
+    if n < 0x0100_0000 { n * 16 + hex_value(b) } else { n }
 }
 
 // Returns the state after this byte.

@@ -30,34 +30,16 @@ pub enum EntityType {
 impl EntityType {
     /// Returns whether the last component of the name is `Action`, in any namespace. Does not allocate.
     ///
-    /// ```
-    /// # use cedar_store::{ast::*, entities::*};
-    /// # use cedar_store::parser::Loc;
-    /// let ty = EntityType::from_normalized_str("Photos::Action")?;
-    /// assert!(ty.is_action());
-    /// assert_eq!(ty.name().basename().as_ref(), "Action");
-    /// let placed = ty.with_loc(Some(&Loc::new(3, 17, "is Photos::Action".into())));
-    /// assert_eq!(placed.loc().map(|place| place.start), Some(3));
-    /// assert_eq!(placed.into_name().to_string(), "Photos::Action");
-    /// # Ok::<(), Box<dyn std::error::Error>>(())
-    /// ```
+    /// [`Self::from_normalized_str`] has an example.
+    #[must_use]
     pub fn is_action(&self) -> bool {
         self.name().basename().as_ref() == ACTION_ENTITY_TYPE
     }
 
     /// Returns the name. Does not allocate.
     ///
-    /// ```
-    /// # use cedar_store::{ast::*, entities::*};
-    /// # use cedar_store::parser::Loc;
-    /// let ty = EntityType::from_normalized_str("Photos::Action")?;
-    /// assert!(ty.is_action());
-    /// assert_eq!(ty.name().basename().as_ref(), "Action");
-    /// let placed = ty.with_loc(Some(&Loc::new(3, 17, "is Photos::Action".into())));
-    /// assert_eq!(placed.loc().map(|place| place.start), Some(3));
-    /// assert_eq!(placed.into_name().to_string(), "Photos::Action");
-    /// # Ok::<(), Box<dyn std::error::Error>>(())
-    /// ```
+    /// [`Self::from_normalized_str`] has an example.
+    #[must_use]
     pub fn name(&self) -> &Name {
         let Self::EntityType(name) = self;
         name
@@ -65,17 +47,8 @@ impl EntityType {
 
     /// Returns the name. Does not allocate.
     ///
-    /// ```
-    /// # use cedar_store::{ast::*, entities::*};
-    /// # use cedar_store::parser::Loc;
-    /// let ty = EntityType::from_normalized_str("Photos::Action")?;
-    /// assert!(ty.is_action());
-    /// assert_eq!(ty.name().basename().as_ref(), "Action");
-    /// let placed = ty.with_loc(Some(&Loc::new(3, 17, "is Photos::Action".into())));
-    /// assert_eq!(placed.loc().map(|place| place.start), Some(3));
-    /// assert_eq!(placed.into_name().to_string(), "Photos::Action");
-    /// # Ok::<(), Box<dyn std::error::Error>>(())
-    /// ```
+    /// [`Self::from_normalized_str`] has an example.
+    #[must_use]
     pub fn into_name(self) -> Name {
         let Self::EntityType(name) = self;
         name
@@ -83,17 +56,8 @@ impl EntityType {
 
     /// Returns the location of the name, if it has one. Does not allocate.
     ///
-    /// ```
-    /// # use cedar_store::{ast::*, entities::*};
-    /// # use cedar_store::parser::Loc;
-    /// let ty = EntityType::from_normalized_str("Photos::Action")?;
-    /// assert!(ty.is_action());
-    /// assert_eq!(ty.name().basename().as_ref(), "Action");
-    /// let placed = ty.with_loc(Some(&Loc::new(3, 17, "is Photos::Action".into())));
-    /// assert_eq!(placed.loc().map(|place| place.start), Some(3));
-    /// assert_eq!(placed.into_name().to_string(), "Photos::Action");
-    /// # Ok::<(), Box<dyn std::error::Error>>(())
-    /// ```
+    /// [`Self::from_normalized_str`] has an example.
+    #[must_use]
     pub fn loc(&self) -> Option<&Loc> {
         let Self::EntityType(name) = self;
         name.loc()
@@ -101,17 +65,8 @@ impl EntityType {
 
     /// Returns the type with a copy of the given location, or without a location for `None`. Copies no characters.
     ///
-    /// ```
-    /// # use cedar_store::{ast::*, entities::*};
-    /// # use cedar_store::parser::Loc;
-    /// let ty = EntityType::from_normalized_str("Photos::Action")?;
-    /// assert!(ty.is_action());
-    /// assert_eq!(ty.name().basename().as_ref(), "Action");
-    /// let placed = ty.with_loc(Some(&Loc::new(3, 17, "is Photos::Action".into())));
-    /// assert_eq!(placed.loc().map(|place| place.start), Some(3));
-    /// assert_eq!(placed.into_name().to_string(), "Photos::Action");
-    /// # Ok::<(), Box<dyn std::error::Error>>(())
-    /// ```
+    /// [`Self::from_normalized_str`] has an example.
+    #[must_use]
     pub fn with_loc(&self, loc: Option<&Loc>) -> Self {
         let loc = loc.cloned();
         let name = self.name().with_loc(loc);
@@ -125,13 +80,15 @@ impl EntityType {
     /// As [`Name::qualify_with_name`].
     ///
     /// ```
-    /// # use cedar_store::{ast::*, entities::*};
+    /// use cedar_store::ast::{EntityType, Name};
+    ///
     /// let ty = EntityType::from_normalized_str("User")?;
     /// let photos = Name::from_normalized_str("Photos")?;
     /// assert_eq!(ty.qualify_with(Some(&photos)).to_string(), "Photos::User");
     /// assert_eq!(ty.qualify_with(None), ty);
     /// # Ok::<(), Box<dyn std::error::Error>>(())
     /// ```
+    #[must_use]
     pub fn qualify_with(&self, namespace: Option<&Name>) -> Self {
         let name = self.name().qualify_with_name(namespace);
         Self::EntityType(name)
@@ -148,8 +105,9 @@ impl EntityType {
     /// O(n), where n is the length of the text. Allocates O(n) bytes.
     ///
     /// ```
-    /// # use cedar_store::{ast::*, entities::*};
-    /// # use cedar_store::parser::Loc;
+    /// use cedar_store::ast::EntityType;
+    /// use cedar_store::parser::Loc;
+    ///
     /// let ty = EntityType::from_normalized_str("Photos::Action")?;
     /// assert!(ty.is_action());
     /// assert_eq!(ty.name().basename().as_ref(), "Action");
@@ -195,11 +153,13 @@ impl Eid {
     /// Creates an eid with this text. Does not allocate.
     ///
     /// ```
-    /// # use cedar_store::{ast::*, entities::*};
+    /// use cedar_store::ast::Eid;
+    ///
     /// let eid = Eid::new("it's");
     /// assert_eq!(eid.escaped(), r"it\'s");
     /// assert_eq!(eid.into_smolstr(), "it's");
     /// ```
+    #[must_use]
     pub fn new(text: impl Into<String>) -> Self {
         Self::Eid(text.into())
     }
@@ -207,12 +167,8 @@ impl Eid {
     /// Returns the escaped text, as it is printed between the quotes of a uid. An ASCII text is escaped by the table of
     /// escapes. Any other text is written as by `str::escape_debug`.
     ///
-    /// ```
-    /// # use cedar_store::{ast::*, entities::*};
-    /// let eid = Eid::new("it's");
-    /// assert_eq!(eid.escaped(), r"it\'s");
-    /// assert_eq!(eid.into_smolstr(), "it's");
-    /// ```
+    /// [`Self::new`] has an example.
+    #[must_use]
     pub fn escaped(&self) -> String {
         Escaped(self.as_ref()).to_string()
     }
@@ -223,12 +179,8 @@ impl Eid {
     ///
     /// The original returns a `SmolStr`.
     ///
-    /// ```
-    /// # use cedar_store::{ast::*, entities::*};
-    /// let eid = Eid::new("it's");
-    /// assert_eq!(eid.escaped(), r"it\'s");
-    /// assert_eq!(eid.into_smolstr(), "it's");
-    /// ```
+    /// [`Self::new`] has an example.
+    #[must_use]
     pub fn into_smolstr(self) -> String {
         let Self::Eid(text) = self;
         text
@@ -260,12 +212,14 @@ impl EntityUIDImpl {
     /// The original returns a copy.
     ///
     /// ```
-    /// # use cedar_store::{ast::*, entities::*};
-    /// # fn uid(text: &str) -> EntityUID { EntityUID::from_normalized_str(text).unwrap() }
-    /// let EntityUID::EntityUID(inner) = uid(r#"User::"alice""#);
+    /// use cedar_store::ast::EntityUID;
+    ///
+    /// let EntityUID::EntityUID(inner) = r#"User::"alice""#.parse()?;
     /// // the location of a parsed uid is the whole text
     /// assert_eq!(inner.loc().map(|place| (place.start, place.end)), Some((0, 13)));
+    /// # Ok::<(), Box<dyn std::error::Error>>(())
     /// ```
+    #[must_use]
     pub fn loc(&self) -> Option<Loc> {
         self.loc.clone()
     }
@@ -356,17 +310,7 @@ impl EntityUID {
     ///
     /// The original parses `typename` with its parser, which allows blanks around the identifier.
     ///
-    /// ```
-    /// # use cedar_store::{ast::*, entities::*};
-    /// let alice = EntityUID::from_normalized_str(r#"Photos::User::"it\'s""#)?;
-    /// assert_eq!(alice.entity_type().to_string(), "Photos::User");
-    /// assert_eq!(alice.eid().as_ref(), "it's");
-    /// assert!(!alice.is_action());
-    /// assert_eq!(EntityUID::with_eid_and_type("User", "it's")?.to_string(), r#"User::"it\'s""#);
-    /// // only the printed form is accepted
-    /// assert!(EntityUID::from_normalized_str(r#"User::"it's""#).is_err());
-    /// # Ok::<(), Box<dyn std::error::Error>>(())
-    /// ```
+    /// [`Self::from_normalized_str`] has an example.
     pub fn with_eid_and_type(typename: &str, eid: &str) -> Result<Self, ParseErrors> {
         let name = Name::parse_unqualified_name(typename)?;
         let eid = String::from(eid);
@@ -376,15 +320,8 @@ impl EntityUID {
 
     /// Returns the type and the eid, and drops the location. Does not allocate.
     ///
-    /// ```
-    /// # use cedar_store::{ast::*, entities::*};
-    /// # fn uid(text: &str) -> EntityUID { EntityUID::from_normalized_str(text).unwrap() }
-    /// let uid = EntityUID::from_components(EntityType::from_normalized_str("User")?, Eid::new("alice"), None);
-    /// assert!(uid.loc().is_none());
-    /// let (ty, eid) = uid.components();
-    /// assert_eq!((ty.to_string(), eid.as_ref()), ("User".to_string(), "alice"));
-    /// # Ok::<(), Box<dyn std::error::Error>>(())
-    /// ```
+    /// [`Self::from_components`] has an example.
+    #[must_use]
     pub fn components(self) -> (EntityType, Eid) {
         let Self::EntityUID(EntityUIDImpl { ty, eid, loc: _ }) = self;
         (ty, eid)
@@ -392,15 +329,8 @@ impl EntityUID {
 
     /// Returns the location, if there is one. Does not allocate.
     ///
-    /// ```
-    /// # use cedar_store::{ast::*, entities::*};
-    /// # fn uid(text: &str) -> EntityUID { EntityUID::from_normalized_str(text).unwrap() }
-    /// let uid = EntityUID::from_components(EntityType::from_normalized_str("User")?, Eid::new("alice"), None);
-    /// assert!(uid.loc().is_none());
-    /// let (ty, eid) = uid.components();
-    /// assert_eq!((ty.to_string(), eid.as_ref()), ("User".to_string(), "alice"));
-    /// # Ok::<(), Box<dyn std::error::Error>>(())
-    /// ```
+    /// [`Self::from_components`] has an example.
+    #[must_use]
     pub fn loc(&self) -> Option<&Loc> {
         let Self::EntityUID(uid) = self;
         uid.loc.as_ref()
@@ -409,31 +339,23 @@ impl EntityUID {
     /// Creates a uid from a type, an eid and an optional location. Does not allocate.
     ///
     /// ```
-    /// # use cedar_store::{ast::*, entities::*};
-    /// # fn uid(text: &str) -> EntityUID { EntityUID::from_normalized_str(text).unwrap() }
+    /// use cedar_store::ast::{Eid, EntityType, EntityUID};
+    ///
     /// let uid = EntityUID::from_components(EntityType::from_normalized_str("User")?, Eid::new("alice"), None);
     /// assert!(uid.loc().is_none());
     /// let (ty, eid) = uid.components();
     /// assert_eq!((ty.to_string(), eid.as_ref()), ("User".to_string(), "alice"));
     /// # Ok::<(), Box<dyn std::error::Error>>(())
     /// ```
+    #[must_use]
     pub fn from_components(ty: EntityType, eid: Eid, loc: Option<Loc>) -> Self {
         Self::EntityUID(EntityUIDImpl { ty, eid, loc })
     }
 
     /// Returns the type. Does not allocate.
     ///
-    /// ```
-    /// # use cedar_store::{ast::*, entities::*};
-    /// let alice = EntityUID::from_normalized_str(r#"Photos::User::"it\'s""#)?;
-    /// assert_eq!(alice.entity_type().to_string(), "Photos::User");
-    /// assert_eq!(alice.eid().as_ref(), "it's");
-    /// assert!(!alice.is_action());
-    /// assert_eq!(EntityUID::with_eid_and_type("User", "it's")?.to_string(), r#"User::"it\'s""#);
-    /// // only the printed form is accepted
-    /// assert!(EntityUID::from_normalized_str(r#"User::"it's""#).is_err());
-    /// # Ok::<(), Box<dyn std::error::Error>>(())
-    /// ```
+    /// [`Self::from_normalized_str`] has an example.
+    #[must_use]
     pub fn entity_type(&self) -> &EntityType {
         let Self::EntityUID(uid) = self;
         &uid.ty
@@ -441,17 +363,8 @@ impl EntityUID {
 
     /// Returns the eid. Does not allocate.
     ///
-    /// ```
-    /// # use cedar_store::{ast::*, entities::*};
-    /// let alice = EntityUID::from_normalized_str(r#"Photos::User::"it\'s""#)?;
-    /// assert_eq!(alice.entity_type().to_string(), "Photos::User");
-    /// assert_eq!(alice.eid().as_ref(), "it's");
-    /// assert!(!alice.is_action());
-    /// assert_eq!(EntityUID::with_eid_and_type("User", "it's")?.to_string(), r#"User::"it\'s""#);
-    /// // only the printed form is accepted
-    /// assert!(EntityUID::from_normalized_str(r#"User::"it's""#).is_err());
-    /// # Ok::<(), Box<dyn std::error::Error>>(())
-    /// ```
+    /// [`Self::from_normalized_str`] has an example.
+    #[must_use]
     pub fn eid(&self) -> &Eid {
         let Self::EntityUID(uid) = self;
         &uid.eid
@@ -460,17 +373,8 @@ impl EntityUID {
     /// Returns whether the uid has an action type: whether the last component of the type's name is `Action`. Does not
     /// allocate.
     ///
-    /// ```
-    /// # use cedar_store::{ast::*, entities::*};
-    /// let alice = EntityUID::from_normalized_str(r#"Photos::User::"it\'s""#)?;
-    /// assert_eq!(alice.entity_type().to_string(), "Photos::User");
-    /// assert_eq!(alice.eid().as_ref(), "it's");
-    /// assert!(!alice.is_action());
-    /// assert_eq!(EntityUID::with_eid_and_type("User", "it's")?.to_string(), r#"User::"it\'s""#);
-    /// // only the printed form is accepted
-    /// assert!(EntityUID::from_normalized_str(r#"User::"it's""#).is_err());
-    /// # Ok::<(), Box<dyn std::error::Error>>(())
-    /// ```
+    /// [`Self::from_normalized_str`] has an example.
+    #[must_use]
     pub fn is_action(&self) -> bool {
         self.entity_type().is_action()
     }

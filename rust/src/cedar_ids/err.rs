@@ -2,6 +2,7 @@
 
 //! The errors of parsing ids, names and uids.
 
+use crate::handwritten::parse_errors::ParsePlace;
 use std::error::Error;
 use std::fmt;
 
@@ -15,17 +16,17 @@ use std::fmt;
 pub enum ParseErrors {
     /// The text of a uid does not end in `"`, has no `::"` before that, or has an invalid escaped text between the two.
     /// Only [`EntityUID::from_normalized_str`](crate::cedar_ids::EntityUID::from_normalized_str) returns this error.
-    NotNormalized,
+    NotNormalized(ParsePlace),
     /// The text is not an identifier or not a name, whichever the function reads. For a uid, the text before the first
     /// `::"` is not a name.
-    InvalidName,
+    InvalidName(ParsePlace),
 }
 
 impl fmt::Display for ParseErrors {
     fn fmt(&self, f: &mut fmt::Formatter<'_>) -> fmt::Result {
         match self {
-            Self::NotNormalized => f.write_str("not a normalized entity uid"),
-            Self::InvalidName => f.write_str("not a valid name"),
+            Self::NotNormalized(place) => write!(f, "not a normalized entity uid: {place}"),
+            Self::InvalidName(place) => write!(f, "not a valid name: {place}"),
         }
     }
 }

@@ -3,9 +3,8 @@
 //! Identifiers, with and without the reserved words.
 
 use crate::cedar_ids::err::ParseErrors;
-use std::cmp::Ordering;
 use std::fmt;
-use std::hash::{Hash, Hasher};
+use std::hash::Hash;
 use std::sync::Arc;
 
 /// An identifier that is not a reserved word: an ASCII letter or `_`, followed by ASCII letters, digits and `_`. The
@@ -13,7 +12,7 @@ use std::sync::Arc;
 ///
 /// Equality, order and hash use the text. The order compares bytes. `clone` shares the text and copies no characters.
 /// `Display` writes the text.
-#[derive(Clone, Debug)]
+#[derive(Clone, Debug, PartialEq, Eq, PartialOrd, Ord, Hash)]
 pub struct Id {
     text: Arc<str>,
 }
@@ -67,7 +66,8 @@ impl Id {
     /// O(n), where n is the length of the text. Allocates a copy of the text.
     ///
     /// ```
-    /// # use cedar_store::{ast::*, entities::*};
+    /// use cedar_store::ast::Id;
+    ///
     /// assert_eq!(Id::from_normalized_str("User")?.as_ref(), "User");
     /// // a reserved word is not an identifier
     /// assert!(Id::from_normalized_str("if").is_err());
@@ -78,7 +78,7 @@ impl Id {
             let text = Arc::<str>::from(text);
             Ok(Self { text })
         } else {
-            Err(ParseErrors::InvalidName)
+            Err(ParseErrors::of_identifier(text))
         }
     }
 }
@@ -86,32 +86,6 @@ impl Id {
 impl AsRef<str> for Id {
     fn as_ref(&self) -> &str {
         &self.text
-    }
-}
-
-impl PartialEq for Id {
-    fn eq(&self, other: &Self) -> bool {
-        self.text == other.text
-    }
-}
-
-impl Eq for Id {}
-
-impl PartialOrd for Id {
-    fn partial_cmp(&self, other: &Self) -> Option<Ordering> {
-        Some(self.cmp(other))
-    }
-}
-
-impl Ord for Id {
-    fn cmp(&self, other: &Self) -> Ordering {
-        self.text.cmp(&other.text)
-    }
-}
-
-impl Hash for Id {
-    fn hash<H: Hasher>(&self, state: &mut H) {
-        self.text.hash(state);
     }
 }
 
@@ -126,7 +100,7 @@ impl fmt::Display for Id {
 ///
 /// Equality, order and hash use the text. The order compares bytes. `clone` shares the text and copies no characters.
 /// `Display` writes the text.
-#[derive(Clone, Debug)]
+#[derive(Clone, Debug, PartialEq, Eq, PartialOrd, Ord, Hash)]
 pub struct AnyId {
     word: Arc<str>,
 }
@@ -144,7 +118,8 @@ impl AnyId {
     /// O(n), where n is the length of the text. Allocates a copy of the text.
     ///
     /// ```
-    /// # use cedar_store::{ast::*, entities::*};
+    /// use cedar_store::ast::AnyId;
+    ///
     /// assert_eq!(AnyId::from_normalized_str("if")?.to_string(), "if");
     /// assert!(AnyId::from_normalized_str("1").is_err());
     /// # Ok::<(), Box<dyn std::error::Error>>(())
@@ -154,7 +129,7 @@ impl AnyId {
             let word = Arc::<str>::from(text);
             Ok(Self { word })
         } else {
-            Err(ParseErrors::InvalidName)
+            Err(ParseErrors::of_identifier(text))
         }
     }
 }
@@ -162,32 +137,6 @@ impl AnyId {
 impl AsRef<str> for AnyId {
     fn as_ref(&self) -> &str {
         &self.word
-    }
-}
-
-impl PartialEq for AnyId {
-    fn eq(&self, other: &Self) -> bool {
-        self.word == other.word
-    }
-}
-
-impl Eq for AnyId {}
-
-impl PartialOrd for AnyId {
-    fn partial_cmp(&self, other: &Self) -> Option<Ordering> {
-        Some(self.cmp(other))
-    }
-}
-
-impl Ord for AnyId {
-    fn cmp(&self, other: &Self) -> Ordering {
-        self.word.cmp(&other.word)
-    }
-}
-
-impl Hash for AnyId {
-    fn hash<H: Hasher>(&self, state: &mut H) {
-        self.word.hash(state);
     }
 }
 

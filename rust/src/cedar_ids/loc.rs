@@ -26,18 +26,12 @@ impl Loc {
     /// Creates a location from `start` to before `end` in `src`. Does not allocate.
     ///
     /// ```
-    /// # use cedar_store::{ast::*, entities::*};
-    /// # fn template(name: &str, principal: PrincipalConstraint) -> Template {
-    /// #     let (id, all) = (PolicyID::from_string(name), ResourceConstraint::any());
-    /// #     Template::new(id, None, Annotations::new(), Effect::Permit, principal, ActionConstraint::any(), all, None)
-    /// # }
-    /// # fn permit(name: &str) -> StaticPolicy {
-    /// #     StaticPolicy::try_from(template(name, PrincipalConstraint::any())).unwrap()
-    /// # }
     /// use cedar_store::parser::Loc;
+    ///
     /// let place = Loc::new(0, 6, "permit(principal, action, resource);".into());
     /// assert_eq!((place.start, place.end), (0, 6));
     /// ```
+    #[must_use]
     pub fn new(start: usize, end: usize, src: Arc<str>) -> Self {
         Self { start, end, src }
     }

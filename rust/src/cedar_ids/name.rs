@@ -38,10 +38,10 @@ pub(crate) fn read_name(text: &str, loc: Option<Loc>) -> Result<Name, ParseError
     let mut path = Vec::new();
     let mut rest = text;
     while let Some((front, back)) = split_mark(rest) {
-        path.push(Id::from_normalized_str(front)?);
+        path.push(Id::from_normalized_str(front).map_err(|error| error.after(text.len() - rest.len()))?);
         rest = back;
     }
-    let basename = Id::from_normalized_str(rest)?;
+    let basename = Id::from_normalized_str(rest).map_err(|error| error.after(text.len() - rest.len()))?;
     let path = Arc::new(path);
     Ok(Name { path, basename, loc })
 }
@@ -62,7 +62,8 @@ impl Name {
     /// The original uses its parser, which allows blanks around the identifier.
     ///
     /// ```
-    /// # use cedar_store::{ast::*, entities::*};
+    /// use cedar_store::ast::Name;
+    ///
     /// let name = Name::from_normalized_str("Photos::User")?;
     /// assert_eq!(name.basename().as_ref(), "User");
     /// assert!(!name.is_unqualified());
@@ -92,17 +93,7 @@ impl Name {
     ///
     /// O(n), where n is the length of the text. Allocates O(n) bytes.
     ///
-    /// ```
-    /// # use cedar_store::{ast::*, entities::*};
-    /// let name = Name::from_normalized_str("Photos::User")?;
-    /// assert_eq!(name.basename().as_ref(), "User");
-    /// assert!(!name.is_unqualified());
-    /// // the location of a parsed name is the whole text
-    /// assert_eq!(name.loc().map(|place| (place.start, place.end)), Some((0, 12)));
-    /// assert!(Name::parse_unqualified_name("User")?.is_unqualified());
-    /// assert!(Name::parse_unqualified_name("Photos::User").is_err());
-    /// # Ok::<(), Box<dyn std::error::Error>>(())
-    /// ```
+    /// [`Self::parse_unqualified_name`] has an example.
     pub fn from_normalized_str(text: &str) -> Result<Self, ParseErrors> {
         let src = Arc::<str>::from(text);
         let loc = Loc::new(0, text.len(), src);
@@ -111,51 +102,24 @@ impl Name {
 
     /// Returns the last component. Does not allocate.
     ///
-    /// ```
-    /// # use cedar_store::{ast::*, entities::*};
-    /// let name = Name::from_normalized_str("Photos::User")?;
-    /// assert_eq!(name.basename().as_ref(), "User");
-    /// assert!(!name.is_unqualified());
-    /// // the location of a parsed name is the whole text
-    /// assert_eq!(name.loc().map(|place| (place.start, place.end)), Some((0, 12)));
-    /// assert!(Name::parse_unqualified_name("User")?.is_unqualified());
-    /// assert!(Name::parse_unqualified_name("Photos::User").is_err());
-    /// # Ok::<(), Box<dyn std::error::Error>>(())
-    /// ```
+    /// [`Self::parse_unqualified_name`] has an example.
+    #[must_use]
     pub fn basename(&self) -> &Id {
         &self.basename
     }
 
     /// Returns whether the name has no path. Does not allocate.
     ///
-    /// ```
-    /// # use cedar_store::{ast::*, entities::*};
-    /// let name = Name::from_normalized_str("Photos::User")?;
-    /// assert_eq!(name.basename().as_ref(), "User");
-    /// assert!(!name.is_unqualified());
-    /// // the location of a parsed name is the whole text
-    /// assert_eq!(name.loc().map(|place| (place.start, place.end)), Some((0, 12)));
-    /// assert!(Name::parse_unqualified_name("User")?.is_unqualified());
-    /// assert!(Name::parse_unqualified_name("Photos::User").is_err());
-    /// # Ok::<(), Box<dyn std::error::Error>>(())
-    /// ```
+    /// [`Self::parse_unqualified_name`] has an example.
+    #[must_use]
     pub fn is_unqualified(&self) -> bool {
         self.path.is_empty()
     }
 
     /// Returns the location, if the name has one. Does not allocate.
     ///
-    /// ```
-    /// # use cedar_store::{ast::*, entities::*};
-    /// let name = Name::from_normalized_str("Photos::User")?;
-    /// assert_eq!(name.basename().as_ref(), "User");
-    /// assert!(!name.is_unqualified());
-    /// // the location of a parsed name is the whole text
-    /// assert_eq!(name.loc().map(|place| (place.start, place.end)), Some((0, 12)));
-    /// assert!(Name::parse_unqualified_name("User")?.is_unqualified());
-    /// assert!(Name::parse_unqualified_name("Photos::User").is_err());
-    /// # Ok::<(), Box<dyn std::error::Error>>(())
-    /// ```
+    /// [`Self::parse_unqualified_name`] has an example.
+    #[must_use]
     pub fn loc(&self) -> Option<&Loc> {
         self.loc.as_ref()
     }
@@ -177,7 +141,8 @@ impl Name {
     /// characters.
     ///
     /// ```
-    /// # use cedar_store::{ast::*, entities::*};
+    /// use cedar_store::ast::Name;
+    ///
     /// let (user, photos) = (Name::from_normalized_str("User")?, Name::from_normalized_str("Photos")?);
     /// let qualified = user.qualify_with_name(Some(&photos));
     /// assert_eq!(qualified.to_string(), "Photos::User");
@@ -185,6 +150,7 @@ impl Name {
     /// assert_eq!(qualified.qualify_with_name(Some(&photos)), qualified);
     /// # Ok::<(), Box<dyn std::error::Error>>(())
     /// ```
+    #[must_use]
     pub fn qualify_with_name(&self, namespace: Option<&Self>) -> Self {
         let Some(namespace) = namespace else {
             return self.clone();

@@ -3,99 +3,60 @@
 //! Ids of policies and templates.
 
 use crate::cedar_ids::escape::Escaped;
-use std::cmp::Ordering;
 use std::fmt;
-use std::hash::{Hash, Hasher};
+use std::hash::Hash;
+use std::sync::Arc;
 
 /// The id of a policy or of a template: any text.
 ///
-/// Equality, order and hash use the text. The order compares bytes. `clone` allocates a copy of the text.
+/// Equality, order and hash use the text. The order compares bytes. A clone shares the text.
+#[derive(Clone, PartialEq, Eq, PartialOrd, Ord, Hash)]
 pub struct PolicyID {
-    text: String,
+    text: Arc<str>,
 }
 
 impl PolicyID {
     /// Creates an id with a copy of this text.
     ///
     /// ```
-    /// # use cedar_store::{ast::*, entities::*};
+    /// use cedar_store::ast::PolicyID;
+    ///
     /// let id = PolicyID::from_string("it's");
     /// assert_eq!((id.as_ref(), id.to_string()), ("it's", r"it\'s".to_string()));
     /// assert_eq!(id, PolicyID::from_smolstr("it's".into()));
     /// assert_eq!(id.into_smolstr(), "it's");
     /// ```
+    #[must_use]
     pub fn from_string(text: impl AsRef<str>) -> Self {
-        let text = String::from(text.as_ref());
-        Self::from_smolstr(text)
+        Self {
+            text: Arc::from(text.as_ref()),
+        }
     }
 
-    /// Creates an id with this text. Does not allocate.
+    /// Creates an id with a copy of this text.
     ///
     /// # Differences from cedar-policy-core
     ///
     /// The original takes a `SmolStr`.
     ///
-    /// ```
-    /// # use cedar_store::{ast::*, entities::*};
-    /// let id = PolicyID::from_string("it's");
-    /// assert_eq!((id.as_ref(), id.to_string()), ("it's", r"it\'s".to_string()));
-    /// assert_eq!(id, PolicyID::from_smolstr("it's".into()));
-    /// assert_eq!(id.into_smolstr(), "it's");
-    /// ```
+    /// [`Self::from_string`] has an example.
+    #[must_use]
     pub fn from_smolstr(id: String) -> Self {
-        Self { text: id }
+        Self { text: Arc::from(id) }
     }
 
-    /// Returns the text. Does not allocate.
+    /// Returns a copy of the text.
     ///
-    /// ```
-    /// # use cedar_store::{ast::*, entities::*};
-    /// let id = PolicyID::from_string("it's");
-    /// assert_eq!((id.as_ref(), id.to_string()), ("it's", r"it\'s".to_string()));
-    /// assert_eq!(id, PolicyID::from_smolstr("it's".into()));
-    /// assert_eq!(id.into_smolstr(), "it's");
-    /// ```
+    /// [`Self::from_string`] has an example.
+    #[must_use]
     pub fn into_smolstr(self) -> String {
-        self.text
+        String::from(&*self.text)
     }
 }
 
 impl AsRef<str> for PolicyID {
     fn as_ref(&self) -> &str {
-        self.text.as_str()
-    }
-}
-
-impl Clone for PolicyID {
-    fn clone(&self) -> Self {
-        let text = self.text.clone();
-        Self::from_smolstr(text)
-    }
-}
-
-impl PartialEq for PolicyID {
-    fn eq(&self, other: &Self) -> bool {
-        self.text == other.text
-    }
-}
-
-impl Eq for PolicyID {}
-
-impl PartialOrd for PolicyID {
-    fn partial_cmp(&self, other: &Self) -> Option<Ordering> {
-        Some(self.cmp(other))
-    }
-}
-
-impl Ord for PolicyID {
-    fn cmp(&self, other: &Self) -> Ordering {
-        self.text.cmp(&other.text)
-    }
-}
-
-impl Hash for PolicyID {
-    fn hash<H: Hasher>(&self, state: &mut H) {
-        self.text.hash(state);
+        &self.text
     }
 }
 

@@ -81,7 +81,8 @@ impl EntityUID {
     /// The location of the type lies in the text of the uid. In the original it lies in a text of its own.
     ///
     /// ```
-    /// # use cedar_store::{ast::*, entities::*};
+    /// use cedar_store::ast::EntityUID;
+    ///
     /// let alice = EntityUID::from_normalized_str(r#"Photos::User::"it\'s""#)?;
     /// assert_eq!(alice.entity_type().to_string(), "Photos::User");
     /// assert_eq!(alice.eid().as_ref(), "it's");
@@ -93,13 +94,17 @@ impl EntityUID {
     /// ```
     pub fn from_normalized_str(text: &str) -> Result<Self, ParseErrors> {
         let Some((name, eid)) = uid_halves(text) else {
-            return Err(ParseErrors::NotNormalized);
+            return Err(ParseErrors::without_marks(text));
         };
         let src = Arc::<str>::from(text);
         let place = Loc::new(0, name.len(), src.clone());
         let name = read_name(name, Some(place))?;
         let Some(eid) = eid_text(eid) else {
-            return Err(ParseErrors::NotNormalized);
+            return Err(ParseErrors::of_eid(
+                text,
+                eid,
+                &String::from_utf8_lossy(&decoded(eid.as_bytes())),
+            ));
         };
         let loc = Loc::new(0, text.len(), src);
         let ty = EntityType::EntityType(name);

@@ -19,6 +19,7 @@ impl KeyedState {
     /// Creates a builder with a key of 16 bytes. The first eight bytes are the seed and the last eight the key of
     /// [`with_keys`](KeyedState::with_keys). In each, the lowest byte comes first.
     #[inline]
+    #[must_use]
     pub fn from_bytes(bytes: &[u8; 16]) -> Self {
         Self::with_keys(word_at(bytes, 0), word_at(bytes, 8))
     }
@@ -27,12 +28,14 @@ impl KeyedState {
     /// attacker who chooses the ids must know neither half.
     ///
     /// ```
-    /// # use cedar_store::{ast::*, entities::*};
+    /// use cedar_store::ast::PolicySet;
     /// use cedar_store::KeyedState;
+    ///
     /// let set = PolicySet::with_hasher(KeyedState::with_keys(3, 5));
     /// assert!(set.is_empty());
     /// ```
     #[inline]
+    #[must_use]
     pub fn with_keys(seed: u64, key: u64) -> Self {
         Self { seed, key }
     }

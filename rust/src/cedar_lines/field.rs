@@ -28,6 +28,6 @@ pub fn uid_field(text: &str) -> Option<EntityUID> {
                 None
             }
         }
-        Err(ParseErrors::NotNormalized) | Err(ParseErrors::InvalidName) => None,
+        Err(ParseErrors::NotNormalized(_) | ParseErrors::InvalidName(_)) => None,
     }
 }

@@ -5,8 +5,8 @@
 
 use crate::cedar_ids::entity::{Eid, EntityType, EntityUID};
 use crate::cedar_ids::err::ParseErrors;
-use crate::cedar_ids::escape::is_extra_escape;
 use crate::cedar_lines::eid_bytes::is_extra_escape_from;
+use crate::cedar_lines::escapes::text_of_escapes;
 use crate::cedar_lines::field::uid_field;
 use crate::cedar_lines::room::text_in;
 
@@ -92,21 +92,23 @@ fn read_type(known: &mut KnownTypes, text: &str) -> Option<EntityType> {
             cache_type(known, text, &ty);
             Some(ty)
         }
-        Err(ParseErrors::NotNormalized) | Err(ParseErrors::InvalidName) => None,
+        Err(ParseErrors::NotNormalized(_) | ParseErrors::InvalidName(_)) => None,
     }
 }
 
-// Returns the text before the first `::"`, and the text between it and the last `"`, if the second needs no escape.
-fn unescaped_halves(text: &str) -> Option<(&str, &str)> {
+// Returns the text before the first `::"`, and the text between it and the last `"`.
+fn halves(text: &str) -> Option<(&str, &str)> {
     let (name, eid) = text.strip_suffix('"')?.split_once("::\"")?;
-    if is_extra_escape(eid.as_bytes()) {
-        return Some((name, eid));
-    }
-    None
+    Some((name, eid))
 }
 
 // Creates the uid of a type and an eid that needs no escape. Its text is the type, the mark, the eid and a quote.
 fn uid_of_parts(ty: EntityType, eid: String) -> EntityUID {
+    EntityUID::from_components(ty, Eid::new(eid), None)
+}
+
+// Creates the uid of a type and an eid that was escaped. Its text is the type, the mark, the escaped eid and a quote.
+fn uid_of_escaped(ty: EntityType, eid: String) -> EntityUID {
     EntityUID::from_components(ty, Eid::new(eid), None)
 }
 
@@ -138,24 +140,47 @@ fn known_halves<'a, 'b>(known: &'a [KnownType], text: &'b str) -> Option<(&'a Kn
     None
 }
 
-// Creates the uid of this type and an eid that needs no escape. Reads and caches the type. Returns nothing if the first
-// text is not a type.
-fn uid_of_halves(known: &mut KnownTypes, name: &str, eid: &str) -> Option<EntityUID> {
-    let ty = read_type(known, name)?;
-    let eid = String::from(eid);
-    Some(uid_of_parts(ty, eid))
+// Returns the cached type and the escaped eid of the text of a uid, if the type is cached.
+fn known_parts<'a, 'b>(known: &'a [KnownType], text: &'b str) -> Option<(&'a KnownType, &'b str)> {
+    let unclosed = text.strip_suffix('"')?;
+    for one in known {
+        if let Some(escaped) = unclosed.strip_prefix(one.marked.as_str()) {
+            return Some((one, escaped));
+        }
+    }
+    None
 }
 
-// Reads a uid whose eid needs no escape, and caches its type.
-fn uid_without_escape(known: &mut KnownTypes, text: &str) -> Option<EntityUID> {
-    let (name, eid) = unescaped_halves(text)?;
+// Reads a uid whose type is cached and whose eid has escapes. Decodes only the eid. Returns nothing for other texts and
+// for rare escapes.
+fn uid_with_escapes(known: &[KnownType], text: &str) -> Option<EntityUID> {
+    let (one, eid) = known_parts(known, text)?;
+    let eid = text_of_escapes(eid)?;
+    let ty = type_of(one);
+    Some(uid_of_escaped(ty, eid))
+}
+
+// Creates the uid of this type and this escaped eid. Reads and caches the type. Returns nothing if the first text is not
+// a type, or for rare escapes.
+fn uid_of_halves(known: &mut KnownTypes, name: &str, eid: &str) -> Option<EntityUID> {
+    let eid = text_of_escapes(eid)?;
+    let ty = read_type(known, name)?;
+    Some(uid_of_escaped(ty, eid))
+}
+
+// Reads a uid and caches its type. Returns nothing for rare escapes and for texts that are not the text of a uid.
+fn uid_of_new_type(known: &mut KnownTypes, text: &str) -> Option<EntityUID> {
+    let (name, eid) = halves(text)?;
     uid_of_halves(known, name, eid)
 }
 
-// Reads a uid whose type is not cached.
+// Reads a uid whose type is not cached, or whose eid needs escapes.
 #[inline(never)]
 fn read_uid(known: &mut KnownTypes, text: &str) -> Option<EntityUID> {
-    if let Some(uid) = uid_without_escape(known, text) {
+    if let Some(uid) = uid_with_escapes(&known.types, text) {
+        return Some(uid);
+    }
+    if let Some(uid) = uid_of_new_type(known, text) {
         return Some(uid);
     }
     uid_field(text)
@@ -164,8 +189,8 @@ fn read_uid(known: &mut KnownTypes, text: &str) -> Option<EntityUID> {
 /// Reads a field as a uid with an ASCII eid. Returns nothing if the field is not the text of such a uid. The result is
 /// the same as [`uid_field`]'s.
 ///
-/// If the eid has no escape, the type is cached in `known` and shared with other uids of the type. The uid then has no
-/// location. Any other uid is read without the cache.
+/// If each escape of the eid has one letter after its backslash, the type is cached in `known` and shared with other uids
+/// of the type, and the uid has no location. A uid with other escapes, such as `\u{1}`, is read without the cache.
 ///
 /// # Complexity
 ///

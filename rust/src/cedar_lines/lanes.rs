@@ -29,9 +29,18 @@ fn tabs_at(line: &[u8], at: usize) -> u64 {
     tabs_of_eight(line, at) | (tabs_of_eight(line, at + 8) << 8)
 }
 
-// The tabs among the 8 bytes from a place on: the highest bit of each is kept, and a product gathers these bits.
+// Returns whether each of the 8 bytes from a place on is a tab or printable ASCII.
+#[inline(always)]
+fn has_eight_line_bytes(line: &[u8], at: usize) -> bool {
+    line[at..at + 8].iter().fold(true, |is_readable, b| {
+        is_readable & (*b == b'\t' || (32..=126).contains(b))
+    })
+}
+
+// Returns a mask of the tabs among the 8 bytes from a place on.
 #[inline(always)]
 fn tabs_of_eight(line: &[u8], at: usize) -> u64 {
+    // The highest bit of each byte is kept, and a product gathers these bits.
     const LOW_BITS: u64 = u64::MAX / 255 * 127;
     const TABS: u64 = u64::MAX / 255 * 9;
     let bytes = line[at..].first_chunk();
@@ -83,6 +92,17 @@ pub(crate) fn tabs_of_line(line: &[u8]) -> Option<u64> {
     }
     if has_line_bytes_at(line, last) {
         return Some(tabs | (tabs_at(line, last) << last));
+    }
+    None
+}
+
+// Returns a mask of the tabs of a line, if each byte is a tab or printable ASCII. The line has 8 to 16 bytes. Its first
+// eight and its last eight bytes may overlap.
+#[inline(always)]
+pub(crate) fn tabs_of_short_line(line: &[u8]) -> Option<u64> {
+    let last = line.len() - 8;
+    if has_eight_line_bytes(line, 0) && has_eight_line_bytes(line, last) {
+        return Some(tabs_of_eight(line, 0) | (tabs_of_eight(line, last) << last));
     }
     None
 }

@@ -2,7 +2,7 @@
 
 //! The fields of a line.
 
-use crate::cedar_lines::lanes::{has_line_bytes, lowest_bit, tabs_in, tabs_of_line, without_bit};
+use crate::cedar_lines::lanes::{has_line_bytes, lowest_bit, tabs_in, tabs_of_line, tabs_of_short_line, without_bit};
 
 // Appends the fields that end at the tabs of a block, and returns the start of the field after them. The block has up
 // to 64 bytes from the place `from` on, and `tabs` is the mask of its tabs. The first field starts at `start`.
@@ -59,10 +59,16 @@ fn has_only_line_bytes(line: &[u8]) -> bool {
     is_readable
 }
 
-// Returns a mask of the tabs of a line of 16 to 64 bytes, if it has only tabs and printable ASCII characters.
+// Returns a mask of the tabs of a line of 8 to 64 bytes, if it has only tabs and printable ASCII characters.
 #[inline(always)]
 fn tabs_of_some(line: &[u8]) -> Option<u64> {
-    if 16 <= line.len() && line.len() <= 64 {
+    if line.len() < 16 {
+        if 8 <= line.len() {
+            return tabs_of_short_line(line);
+        }
+        return None;
+    }
+    if line.len() <= 64 {
         return tabs_of_line(line);
     }
     None

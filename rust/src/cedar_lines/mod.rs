@@ -4,6 +4,7 @@
 //! and output lines.
 
 mod eid_bytes;
+mod escapes;
 pub mod field;
 pub mod known_types;
 mod lanes;

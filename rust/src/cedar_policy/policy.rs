@@ -25,18 +25,20 @@ use std::sync::Arc;
 /// A policy: a shared template with a uid for each of its slots. It is either a link, with an id of its own, or a
 /// static policy, whose template has no slots.
 ///
-/// Equality uses the template, the link's id and the bindings. It ignores locations and does not allocate. `clone`
-/// shares the template, and allocates for the policy's own block, the id and the bindings.
+/// Equality uses the template, the link's id and the bindings. It ignores locations and does not allocate. A clone
+/// shares all parts, and does not allocate.
 ///
 /// `Display` writes a static policy as its template. It writes a link as the id of its template and its bindings, in
 /// the order of slots. Writing does not allocate.
 ///
-/// A policy is one pointer to a block of its own, so moving a policy is cheap.
+/// A policy is one pointer to its parts, so moving a policy is cheap.
+#[derive(Clone)]
 pub struct Policy {
-    parts: Box<Parts>,
+    parts: Arc<Parts>,
 }
 
 // The parts of a policy.
+#[derive(Clone)]
 struct Parts {
     template: Arc<Template>,
     link: Option<PolicyID>,
@@ -46,7 +48,7 @@ struct Parts {
 impl Policy {
     // Creates a policy from its parts. Allocates its block.
     pub(crate) fn of(template: Arc<Template>, link: Option<PolicyID>, values: SlotEnv) -> Self {
-        let parts = Box::new(Parts { template, link, values });
+        let parts = Arc::new(Parts { template, link, values });
         Self { parts }
     }
 
@@ -58,15 +60,22 @@ impl Policy {
     /// Creates a policy from a static policy. Its body is moved into a shared template.
     ///
     /// ```
-    /// # use cedar_store::{ast::*, entities::*};
-    /// # fn template(name: &str, principal: PrincipalConstraint) -> Template {
-    /// #     let (id, all) = (PolicyID::from_string(name), ResourceConstraint::any());
-    /// #     Template::new(id, None, Annotations::new(), Effect::Permit, principal, ActionConstraint::any(), all, None)
-    /// # }
-    /// # fn permit(name: &str) -> StaticPolicy {
-    /// #     StaticPolicy::try_from(template(name, PrincipalConstraint::any())).unwrap()
-    /// # }
-    /// let policy = Policy::from_static(permit("p"));
+    /// use cedar_store::ast::{
+    ///     ActionConstraint, Annotations, AnyId, Effect, Policy, PolicyID, PrincipalConstraint,
+    ///     ResourceConstraint, StaticPolicy,
+    /// };
+    ///
+    /// let permit = StaticPolicy::new(
+    ///     "p".into(),
+    ///     None,
+    ///     Annotations::new(),
+    ///     Effect::Permit,
+    ///     PrincipalConstraint::any(),
+    ///     ActionConstraint::any(),
+    ///     ResourceConstraint::any(),
+    ///     None,
+    /// )?;
+    /// let policy = Policy::from_static(permit);
     /// assert!(policy.is_static() && policy.env().is_empty() && policy.loc().is_none());
     /// assert_eq!((policy.id(), policy.effect()), (policy.template().id(), Effect::Permit));
     /// assert_eq!(&**policy.template_arc(), policy.template());
@@ -75,6 +84,7 @@ impl Policy {
     /// assert_eq!(policy.new_id(PolicyID::from_string("q")).id().as_ref(), "q");
     /// # Ok::<(), Box<dyn std::error::Error>>(())
     /// ```
+    #[must_use]
     pub fn from_static(policy: StaticPolicy) -> Self {
         let template = Arc::new(Template::of_static(policy));
         Self::unlinked(template)
@@ -92,8 +102,9 @@ impl Policy {
     /// In a debug build, the original checks the clause for slots and panics if it finds one.
     ///
     /// ```
-    /// # use cedar_store::{ast::*, entities::*};
-    /// # use std::sync::Arc;
+    /// use cedar_store::ast::{Annotations, Effect, Expr, Policy, PolicyID};
+    /// use std::sync::Arc;
+    ///
     /// let (effect, id) = (Effect::Forbid, PolicyID::from_string("p"));
     /// let policy = Policy::from_when_clause(effect, Expr::val(false), id.clone(), None);
     /// assert_eq!(policy.non_scope_constraints(), Some(&Expr::val(false)));
@@ -102,6 +113,7 @@ impl Policy {
     /// let noted = Arc::new(Annotations::new());
     /// assert_eq!(Policy::from_when_clause_annos(effect, Arc::new(Expr::val(false)), id, None, noted), policy);
     /// ```
+    #[must_use]
     pub fn from_when_clause(effect: Effect, when: Expr, id: PolicyID, loc: Option<Loc>) -> Self {
         let when = Arc::new(when);
         let annotations = Arc::new(Annotations::new());
@@ -119,17 +131,8 @@ impl Policy {
     ///
     /// In a debug build, the original checks the clause for slots and panics if it finds one.
     ///
-    /// ```
-    /// # use cedar_store::{ast::*, entities::*};
-    /// # use std::sync::Arc;
-    /// let (effect, id) = (Effect::Forbid, PolicyID::from_string("p"));
-    /// let policy = Policy::from_when_clause(effect, Expr::val(false), id.clone(), None);
-    /// assert_eq!(policy.non_scope_constraints(), Some(&Expr::val(false)));
-    /// assert!(policy.non_scope_constraints_arc().is_some());
-    /// assert_eq!(policy.condition().to_string(), "true && (true && (true && false))");
-    /// let noted = Arc::new(Annotations::new());
-    /// assert_eq!(Policy::from_when_clause_annos(effect, Arc::new(Expr::val(false)), id, None, noted), policy);
-    /// ```
+    /// [`Self::from_when_clause`] has an example.
+    #[must_use]
     pub fn from_when_clause_annos(
         effect: Effect,
         when: Arc<Expr>,
@@ -157,24 +160,8 @@ impl Policy {
 
     /// Returns the template. Does not allocate.
     ///
-    /// ```
-    /// # use cedar_store::{ast::*, entities::*};
-    /// # fn template(name: &str, principal: PrincipalConstraint) -> Template {
-    /// #     let (id, all) = (PolicyID::from_string(name), ResourceConstraint::any());
-    /// #     Template::new(id, None, Annotations::new(), Effect::Permit, principal, ActionConstraint::any(), all, None)
-    /// # }
-    /// # fn permit(name: &str) -> StaticPolicy {
-    /// #     StaticPolicy::try_from(template(name, PrincipalConstraint::any())).unwrap()
-    /// # }
-    /// let policy = Policy::from_static(permit("p"));
-    /// assert!(policy.is_static() && policy.env().is_empty() && policy.loc().is_none());
-    /// assert_eq!((policy.id(), policy.effect()), (policy.template().id(), Effect::Permit));
-    /// assert_eq!(&**policy.template_arc(), policy.template());
-    /// assert!(policy.annotation(&AnyId::from_normalized_str("id")?).is_none());
-    /// assert_eq!((policy.annotations().count(), policy.annotations_arc().is_empty()), (0, true));
-    /// assert_eq!(policy.new_id(PolicyID::from_string("q")).id().as_ref(), "q");
-    /// # Ok::<(), Box<dyn std::error::Error>>(())
-    /// ```
+    /// [`Self::from_static`] has an example.
+    #[must_use]
     pub fn template(&self) -> &Template {
         &self.parts.template
     }
@@ -185,48 +172,16 @@ impl Policy {
     ///
     /// The original returns a further shared pointer, and this function is private to its crate.
     ///
-    /// ```
-    /// # use cedar_store::{ast::*, entities::*};
-    /// # fn template(name: &str, principal: PrincipalConstraint) -> Template {
-    /// #     let (id, all) = (PolicyID::from_string(name), ResourceConstraint::any());
-    /// #     Template::new(id, None, Annotations::new(), Effect::Permit, principal, ActionConstraint::any(), all, None)
-    /// # }
-    /// # fn permit(name: &str) -> StaticPolicy {
-    /// #     StaticPolicy::try_from(template(name, PrincipalConstraint::any())).unwrap()
-    /// # }
-    /// let policy = Policy::from_static(permit("p"));
-    /// assert!(policy.is_static() && policy.env().is_empty() && policy.loc().is_none());
-    /// assert_eq!((policy.id(), policy.effect()), (policy.template().id(), Effect::Permit));
-    /// assert_eq!(&**policy.template_arc(), policy.template());
-    /// assert!(policy.annotation(&AnyId::from_normalized_str("id")?).is_none());
-    /// assert_eq!((policy.annotations().count(), policy.annotations_arc().is_empty()), (0, true));
-    /// assert_eq!(policy.new_id(PolicyID::from_string("q")).id().as_ref(), "q");
-    /// # Ok::<(), Box<dyn std::error::Error>>(())
-    /// ```
+    /// [`Self::from_static`] has an example.
+    #[must_use]
     pub fn template_arc(&self) -> &Arc<Template> {
         &self.parts.template
     }
 
     /// Returns the effect. Does not allocate.
     ///
-    /// ```
-    /// # use cedar_store::{ast::*, entities::*};
-    /// # fn template(name: &str, principal: PrincipalConstraint) -> Template {
-    /// #     let (id, all) = (PolicyID::from_string(name), ResourceConstraint::any());
-    /// #     Template::new(id, None, Annotations::new(), Effect::Permit, principal, ActionConstraint::any(), all, None)
-    /// # }
-    /// # fn permit(name: &str) -> StaticPolicy {
-    /// #     StaticPolicy::try_from(template(name, PrincipalConstraint::any())).unwrap()
-    /// # }
-    /// let policy = Policy::from_static(permit("p"));
-    /// assert!(policy.is_static() && policy.env().is_empty() && policy.loc().is_none());
-    /// assert_eq!((policy.id(), policy.effect()), (policy.template().id(), Effect::Permit));
-    /// assert_eq!(&**policy.template_arc(), policy.template());
-    /// assert!(policy.annotation(&AnyId::from_normalized_str("id")?).is_none());
-    /// assert_eq!((policy.annotations().count(), policy.annotations_arc().is_empty()), (0, true));
-    /// assert_eq!(policy.new_id(PolicyID::from_string("q")).id().as_ref(), "q");
-    /// # Ok::<(), Box<dyn std::error::Error>>(())
-    /// ```
+    /// [`Self::from_static`] has an example.
+    #[must_use]
     pub fn effect(&self) -> Effect {
         self.parts.template.effect()
     }
@@ -237,72 +192,24 @@ impl Policy {
     ///
     /// O(log n), where n is the number of annotations.
     ///
-    /// ```
-    /// # use cedar_store::{ast::*, entities::*};
-    /// # fn template(name: &str, principal: PrincipalConstraint) -> Template {
-    /// #     let (id, all) = (PolicyID::from_string(name), ResourceConstraint::any());
-    /// #     Template::new(id, None, Annotations::new(), Effect::Permit, principal, ActionConstraint::any(), all, None)
-    /// # }
-    /// # fn permit(name: &str) -> StaticPolicy {
-    /// #     StaticPolicy::try_from(template(name, PrincipalConstraint::any())).unwrap()
-    /// # }
-    /// let policy = Policy::from_static(permit("p"));
-    /// assert!(policy.is_static() && policy.env().is_empty() && policy.loc().is_none());
-    /// assert_eq!((policy.id(), policy.effect()), (policy.template().id(), Effect::Permit));
-    /// assert_eq!(&**policy.template_arc(), policy.template());
-    /// assert!(policy.annotation(&AnyId::from_normalized_str("id")?).is_none());
-    /// assert_eq!((policy.annotations().count(), policy.annotations_arc().is_empty()), (0, true));
-    /// assert_eq!(policy.new_id(PolicyID::from_string("q")).id().as_ref(), "q");
-    /// # Ok::<(), Box<dyn std::error::Error>>(())
-    /// ```
+    /// [`Self::from_static`] has an example.
+    #[must_use]
     pub fn annotation(&self, key: &AnyId) -> Option<&Annotation> {
         self.parts.template.annotation(key)
     }
 
     /// Iterates over the annotations with their keys, in ascending order of the keys. Does not allocate.
     ///
-    /// ```
-    /// # use cedar_store::{ast::*, entities::*};
-    /// # fn template(name: &str, principal: PrincipalConstraint) -> Template {
-    /// #     let (id, all) = (PolicyID::from_string(name), ResourceConstraint::any());
-    /// #     Template::new(id, None, Annotations::new(), Effect::Permit, principal, ActionConstraint::any(), all, None)
-    /// # }
-    /// # fn permit(name: &str) -> StaticPolicy {
-    /// #     StaticPolicy::try_from(template(name, PrincipalConstraint::any())).unwrap()
-    /// # }
-    /// let policy = Policy::from_static(permit("p"));
-    /// assert!(policy.is_static() && policy.env().is_empty() && policy.loc().is_none());
-    /// assert_eq!((policy.id(), policy.effect()), (policy.template().id(), Effect::Permit));
-    /// assert_eq!(&**policy.template_arc(), policy.template());
-    /// assert!(policy.annotation(&AnyId::from_normalized_str("id")?).is_none());
-    /// assert_eq!((policy.annotations().count(), policy.annotations_arc().is_empty()), (0, true));
-    /// assert_eq!(policy.new_id(PolicyID::from_string("q")).id().as_ref(), "q");
-    /// # Ok::<(), Box<dyn std::error::Error>>(())
-    /// ```
+    /// [`Self::from_static`] has an example.
+    #[must_use]
     pub fn annotations(&self) -> Iter<'_> {
         self.parts.template.annotations()
     }
 
     /// Returns the shared annotations. Does not allocate.
     ///
-    /// ```
-    /// # use cedar_store::{ast::*, entities::*};
-    /// # fn template(name: &str, principal: PrincipalConstraint) -> Template {
-    /// #     let (id, all) = (PolicyID::from_string(name), ResourceConstraint::any());
-    /// #     Template::new(id, None, Annotations::new(), Effect::Permit, principal, ActionConstraint::any(), all, None)
-    /// # }
-    /// # fn permit(name: &str) -> StaticPolicy {
-    /// #     StaticPolicy::try_from(template(name, PrincipalConstraint::any())).unwrap()
-    /// # }
-    /// let policy = Policy::from_static(permit("p"));
-    /// assert!(policy.is_static() && policy.env().is_empty() && policy.loc().is_none());
-    /// assert_eq!((policy.id(), policy.effect()), (policy.template().id(), Effect::Permit));
-    /// assert_eq!(&**policy.template_arc(), policy.template());
-    /// assert!(policy.annotation(&AnyId::from_normalized_str("id")?).is_none());
-    /// assert_eq!((policy.annotations().count(), policy.annotations_arc().is_empty()), (0, true));
-    /// assert_eq!(policy.new_id(PolicyID::from_string("q")).id().as_ref(), "q");
-    /// # Ok::<(), Box<dyn std::error::Error>>(())
-    /// ```
+    /// [`Self::from_static`] has an example.
+    #[must_use]
     pub fn annotations_arc(&self) -> &Arc<Annotations> {
         self.parts.template.annotations_arc()
     }
@@ -311,15 +218,23 @@ impl Policy {
     /// no slot. Copies the bound uid.
     ///
     /// ```
-    /// # use cedar_store::{ast::*, entities::*};
-    /// # fn uid(text: &str) -> EntityUID { EntityUID::from_normalized_str(text).unwrap() }
-    /// # fn template(name: &str, principal: PrincipalConstraint) -> Template {
-    /// #     let (id, all) = (PolicyID::from_string(name), ResourceConstraint::any());
-    /// #     Template::new(id, None, Annotations::new(), Effect::Permit, principal, ActionConstraint::any(), all, None)
-    /// # }
-    /// # use std::sync::Arc;
-    /// let bound = SlotEnv::from([(SlotId::principal(), uid(r#"User::"alice""#))]);
-    /// let template = Arc::new(template("t", PrincipalConstraint::is_eq_slot()));
+    /// use cedar_store::ast::{
+    ///     ActionConstraint, Annotations, Effect, PolicyID, PrincipalConstraint, ResourceConstraint,
+    ///     SlotEnv, SlotId, Template,
+    /// };
+    /// use std::sync::Arc;
+    ///
+    /// let bound = SlotEnv::from([(SlotId::principal(), r#"User::"alice""#.parse()?)]);
+    /// let template = Arc::new(Template::new(
+    ///     "t".into(),
+    ///     None,
+    ///     Annotations::new(),
+    ///     Effect::Permit,
+    ///     PrincipalConstraint::is_eq_slot(),
+    ///     ActionConstraint::any(),
+    ///     ResourceConstraint::any(),
+    ///     None,
+    /// ));
     /// let link = Template::link(template, PolicyID::from_string("l"), bound.clone())?;
     /// // the slots in the constraints of a link are filled
     /// assert_eq!(link.principal_constraint().to_string(), r#"principal == User::"alice""#);
@@ -329,6 +244,7 @@ impl Policy {
     /// assert_eq!((template.id().as_ref(), id, env), ("u", Some(PolicyID::from_string("l")), bound));
     /// # Ok::<(), Box<dyn std::error::Error>>(())
     /// ```
+    #[must_use]
     pub fn principal_constraint(&self) -> PrincipalConstraint {
         let constraint = self.parts.template.principal_constraint().clone();
         match bound_to(&self.parts.values, SlotId::Principal) {
@@ -344,25 +260,8 @@ impl Policy {
     ///
     /// The original has no slot for the action, and returns a reference.
     ///
-    /// ```
-    /// # use cedar_store::{ast::*, entities::*};
-    /// # fn uid(text: &str) -> EntityUID { EntityUID::from_normalized_str(text).unwrap() }
-    /// # fn template(name: &str, principal: PrincipalConstraint) -> Template {
-    /// #     let (id, all) = (PolicyID::from_string(name), ResourceConstraint::any());
-    /// #     Template::new(id, None, Annotations::new(), Effect::Permit, principal, ActionConstraint::any(), all, None)
-    /// # }
-    /// # use std::sync::Arc;
-    /// let bound = SlotEnv::from([(SlotId::principal(), uid(r#"User::"alice""#))]);
-    /// let template = Arc::new(template("t", PrincipalConstraint::is_eq_slot()));
-    /// let link = Template::link(template, PolicyID::from_string("l"), bound.clone())?;
-    /// // the slots in the constraints of a link are filled
-    /// assert_eq!(link.principal_constraint().to_string(), r#"principal == User::"alice""#);
-    /// assert_eq!((link.action_constraint(), link.resource_constraint()), (ActionConstraint::Any, ResourceConstraint::any()));
-    /// let link = link.new_template_id(PolicyID::from_string("u")).expect("it is a link");
-    /// let (template, id, env) = link.into_components();
-    /// assert_eq!((template.id().as_ref(), id, env), ("u", Some(PolicyID::from_string("l")), bound));
-    /// # Ok::<(), Box<dyn std::error::Error>>(())
-    /// ```
+    /// [`Self::principal_constraint`] has an example.
+    #[must_use]
     pub fn action_constraint(&self) -> ActionConstraint {
         let constraint = self.parts.template.action_constraint().clone();
         match bound_to(&self.parts.values, SlotId::Action) {
@@ -374,25 +273,8 @@ impl Policy {
     /// Returns the template's constraint on the resource, with the bound uid in place of the slot. The result contains
     /// no slot. Copies the bound uid.
     ///
-    /// ```
-    /// # use cedar_store::{ast::*, entities::*};
-    /// # fn uid(text: &str) -> EntityUID { EntityUID::from_normalized_str(text).unwrap() }
-    /// # fn template(name: &str, principal: PrincipalConstraint) -> Template {
-    /// #     let (id, all) = (PolicyID::from_string(name), ResourceConstraint::any());
-    /// #     Template::new(id, None, Annotations::new(), Effect::Permit, principal, ActionConstraint::any(), all, None)
-    /// # }
-    /// # use std::sync::Arc;
-    /// let bound = SlotEnv::from([(SlotId::principal(), uid(r#"User::"alice""#))]);
-    /// let template = Arc::new(template("t", PrincipalConstraint::is_eq_slot()));
-    /// let link = Template::link(template, PolicyID::from_string("l"), bound.clone())?;
-    /// // the slots in the constraints of a link are filled
-    /// assert_eq!(link.principal_constraint().to_string(), r#"principal == User::"alice""#);
-    /// assert_eq!((link.action_constraint(), link.resource_constraint()), (ActionConstraint::Any, ResourceConstraint::any()));
-    /// let link = link.new_template_id(PolicyID::from_string("u")).expect("it is a link");
-    /// let (template, id, env) = link.into_components();
-    /// assert_eq!((template.id().as_ref(), id, env), ("u", Some(PolicyID::from_string("l")), bound));
-    /// # Ok::<(), Box<dyn std::error::Error>>(())
-    /// ```
+    /// [`Self::principal_constraint`] has an example.
+    #[must_use]
     pub fn resource_constraint(&self) -> ResourceConstraint {
         let constraint = self.parts.template.resource_constraint().clone();
         match bound_to(&self.parts.values, SlotId::Resource) {
@@ -403,51 +285,24 @@ impl Policy {
 
     /// Returns the clause, if there is one. Does not allocate.
     ///
-    /// ```
-    /// # use cedar_store::{ast::*, entities::*};
-    /// # use std::sync::Arc;
-    /// let (effect, id) = (Effect::Forbid, PolicyID::from_string("p"));
-    /// let policy = Policy::from_when_clause(effect, Expr::val(false), id.clone(), None);
-    /// assert_eq!(policy.non_scope_constraints(), Some(&Expr::val(false)));
-    /// assert!(policy.non_scope_constraints_arc().is_some());
-    /// assert_eq!(policy.condition().to_string(), "true && (true && (true && false))");
-    /// let noted = Arc::new(Annotations::new());
-    /// assert_eq!(Policy::from_when_clause_annos(effect, Arc::new(Expr::val(false)), id, None, noted), policy);
-    /// ```
+    /// [`Self::from_when_clause`] has an example.
+    #[must_use]
     pub fn non_scope_constraints(&self) -> Option<&Expr> {
         self.parts.template.non_scope_constraints()
     }
 
     /// Returns the shared clause, if there is one. Does not allocate.
     ///
-    /// ```
-    /// # use cedar_store::{ast::*, entities::*};
-    /// # use std::sync::Arc;
-    /// let (effect, id) = (Effect::Forbid, PolicyID::from_string("p"));
-    /// let policy = Policy::from_when_clause(effect, Expr::val(false), id.clone(), None);
-    /// assert_eq!(policy.non_scope_constraints(), Some(&Expr::val(false)));
-    /// assert!(policy.non_scope_constraints_arc().is_some());
-    /// assert_eq!(policy.condition().to_string(), "true && (true && (true && false))");
-    /// let noted = Arc::new(Annotations::new());
-    /// assert_eq!(Policy::from_when_clause_annos(effect, Arc::new(Expr::val(false)), id, None, noted), policy);
-    /// ```
+    /// [`Self::from_when_clause`] has an example.
+    #[must_use]
     pub fn non_scope_constraints_arc(&self) -> Option<&Arc<Expr>> {
         self.parts.template.non_scope_constraints_arc()
     }
 
     /// Returns the condition of the template, with its slots unfilled, as `TemplateBody::condition` does.
     ///
-    /// ```
-    /// # use cedar_store::{ast::*, entities::*};
-    /// # use std::sync::Arc;
-    /// let (effect, id) = (Effect::Forbid, PolicyID::from_string("p"));
-    /// let policy = Policy::from_when_clause(effect, Expr::val(false), id.clone(), None);
-    /// assert_eq!(policy.non_scope_constraints(), Some(&Expr::val(false)));
-    /// assert!(policy.non_scope_constraints_arc().is_some());
-    /// assert_eq!(policy.condition().to_string(), "true && (true && (true && false))");
-    /// let noted = Arc::new(Annotations::new());
-    /// assert_eq!(Policy::from_when_clause_annos(effect, Arc::new(Expr::val(false)), id, None, noted), policy);
-    /// ```
+    /// [`Self::from_when_clause`] has an example.
+    #[must_use]
     pub fn condition(&self) -> Expr {
         self.parts.template.condition()
     }
@@ -455,48 +310,16 @@ impl Policy {
     /// Returns the bindings. The bound ids are exactly the slots of the template. If the action's slot is bound, its
     /// uid is an action. Does not allocate.
     ///
-    /// ```
-    /// # use cedar_store::{ast::*, entities::*};
-    /// # fn template(name: &str, principal: PrincipalConstraint) -> Template {
-    /// #     let (id, all) = (PolicyID::from_string(name), ResourceConstraint::any());
-    /// #     Template::new(id, None, Annotations::new(), Effect::Permit, principal, ActionConstraint::any(), all, None)
-    /// # }
-    /// # fn permit(name: &str) -> StaticPolicy {
-    /// #     StaticPolicy::try_from(template(name, PrincipalConstraint::any())).unwrap()
-    /// # }
-    /// let policy = Policy::from_static(permit("p"));
-    /// assert!(policy.is_static() && policy.env().is_empty() && policy.loc().is_none());
-    /// assert_eq!((policy.id(), policy.effect()), (policy.template().id(), Effect::Permit));
-    /// assert_eq!(&**policy.template_arc(), policy.template());
-    /// assert!(policy.annotation(&AnyId::from_normalized_str("id")?).is_none());
-    /// assert_eq!((policy.annotations().count(), policy.annotations_arc().is_empty()), (0, true));
-    /// assert_eq!(policy.new_id(PolicyID::from_string("q")).id().as_ref(), "q");
-    /// # Ok::<(), Box<dyn std::error::Error>>(())
-    /// ```
+    /// [`Self::from_static`] has an example.
+    #[must_use]
     pub fn env(&self) -> &SlotEnv {
         &self.parts.values
     }
 
     /// Returns the id: the link's id, or the template's id for a static policy. Does not allocate.
     ///
-    /// ```
-    /// # use cedar_store::{ast::*, entities::*};
-    /// # fn template(name: &str, principal: PrincipalConstraint) -> Template {
-    /// #     let (id, all) = (PolicyID::from_string(name), ResourceConstraint::any());
-    /// #     Template::new(id, None, Annotations::new(), Effect::Permit, principal, ActionConstraint::any(), all, None)
-    /// # }
-    /// # fn permit(name: &str) -> StaticPolicy {
-    /// #     StaticPolicy::try_from(template(name, PrincipalConstraint::any())).unwrap()
-    /// # }
-    /// let policy = Policy::from_static(permit("p"));
-    /// assert!(policy.is_static() && policy.env().is_empty() && policy.loc().is_none());
-    /// assert_eq!((policy.id(), policy.effect()), (policy.template().id(), Effect::Permit));
-    /// assert_eq!(&**policy.template_arc(), policy.template());
-    /// assert!(policy.annotation(&AnyId::from_normalized_str("id")?).is_none());
-    /// assert_eq!((policy.annotations().count(), policy.annotations_arc().is_empty()), (0, true));
-    /// assert_eq!(policy.new_id(PolicyID::from_string("q")).id().as_ref(), "q");
-    /// # Ok::<(), Box<dyn std::error::Error>>(())
-    /// ```
+    /// [`Self::from_static`] has an example.
+    #[must_use]
     pub fn id(&self) -> &PolicyID {
         match &self.parts.link {
             Some(link) => link,
@@ -507,24 +330,8 @@ impl Policy {
     /// Copies the policy, with another id. A link gets the new id and shares its template. For a static policy, the
     /// template gets the new id. This policy does not change.
     ///
-    /// ```
-    /// # use cedar_store::{ast::*, entities::*};
-    /// # fn template(name: &str, principal: PrincipalConstraint) -> Template {
-    /// #     let (id, all) = (PolicyID::from_string(name), ResourceConstraint::any());
-    /// #     Template::new(id, None, Annotations::new(), Effect::Permit, principal, ActionConstraint::any(), all, None)
-    /// # }
-    /// # fn permit(name: &str) -> StaticPolicy {
-    /// #     StaticPolicy::try_from(template(name, PrincipalConstraint::any())).unwrap()
-    /// # }
-    /// let policy = Policy::from_static(permit("p"));
-    /// assert!(policy.is_static() && policy.env().is_empty() && policy.loc().is_none());
-    /// assert_eq!((policy.id(), policy.effect()), (policy.template().id(), Effect::Permit));
-    /// assert_eq!(&**policy.template_arc(), policy.template());
-    /// assert!(policy.annotation(&AnyId::from_normalized_str("id")?).is_none());
-    /// assert_eq!((policy.annotations().count(), policy.annotations_arc().is_empty()), (0, true));
-    /// assert_eq!(policy.new_id(PolicyID::from_string("q")).id().as_ref(), "q");
-    /// # Ok::<(), Box<dyn std::error::Error>>(())
-    /// ```
+    /// [`Self::from_static`] has an example.
+    #[must_use]
     pub fn new_id(&self, id: PolicyID) -> Self {
         match &self.parts.link {
             None => {
@@ -546,29 +353,13 @@ impl Policy {
     ///
     /// In the original this function is private to its crate.
     ///
-    /// ```
-    /// # use cedar_store::{ast::*, entities::*};
-    /// # fn uid(text: &str) -> EntityUID { EntityUID::from_normalized_str(text).unwrap() }
-    /// # fn template(name: &str, principal: PrincipalConstraint) -> Template {
-    /// #     let (id, all) = (PolicyID::from_string(name), ResourceConstraint::any());
-    /// #     Template::new(id, None, Annotations::new(), Effect::Permit, principal, ActionConstraint::any(), all, None)
-    /// # }
-    /// # use std::sync::Arc;
-    /// let bound = SlotEnv::from([(SlotId::principal(), uid(r#"User::"alice""#))]);
-    /// let template = Arc::new(template("t", PrincipalConstraint::is_eq_slot()));
-    /// let link = Template::link(template, PolicyID::from_string("l"), bound.clone())?;
-    /// // the slots in the constraints of a link are filled
-    /// assert_eq!(link.principal_constraint().to_string(), r#"principal == User::"alice""#);
-    /// assert_eq!((link.action_constraint(), link.resource_constraint()), (ActionConstraint::Any, ResourceConstraint::any()));
-    /// let link = link.new_template_id(PolicyID::from_string("u")).expect("it is a link");
-    /// let (template, id, env) = link.into_components();
-    /// assert_eq!((template.id().as_ref(), id, env), ("u", Some(PolicyID::from_string("l")), bound));
-    /// # Ok::<(), Box<dyn std::error::Error>>(())
-    /// ```
+    /// [`Self::principal_constraint`] has an example.
+    #[must_use]
     pub fn new_template_id(self, id: PolicyID) -> Option<Self> {
         let Self { mut parts } = self;
         parts.link.as_ref()?;
-        parts.template = Arc::new(parts.template.new_id(id));
+        let template = Arc::new(parts.template.new_id(id));
+        Arc::make_mut(&mut parts).template = template;
         Some(Self { parts })
     }
 
@@ -578,51 +369,18 @@ impl Policy {
     ///
     /// In the original this function is private to its crate.
     ///
-    /// ```
-    /// # use cedar_store::{ast::*, entities::*};
-    /// # fn uid(text: &str) -> EntityUID { EntityUID::from_normalized_str(text).unwrap() }
-    /// # fn template(name: &str, principal: PrincipalConstraint) -> Template {
-    /// #     let (id, all) = (PolicyID::from_string(name), ResourceConstraint::any());
-    /// #     Template::new(id, None, Annotations::new(), Effect::Permit, principal, ActionConstraint::any(), all, None)
-    /// # }
-    /// # use std::sync::Arc;
-    /// let bound = SlotEnv::from([(SlotId::principal(), uid(r#"User::"alice""#))]);
-    /// let template = Arc::new(template("t", PrincipalConstraint::is_eq_slot()));
-    /// let link = Template::link(template, PolicyID::from_string("l"), bound.clone())?;
-    /// // the slots in the constraints of a link are filled
-    /// assert_eq!(link.principal_constraint().to_string(), r#"principal == User::"alice""#);
-    /// assert_eq!((link.action_constraint(), link.resource_constraint()), (ActionConstraint::Any, ResourceConstraint::any()));
-    /// let link = link.new_template_id(PolicyID::from_string("u")).expect("it is a link");
-    /// let (template, id, env) = link.into_components();
-    /// assert_eq!((template.id().as_ref(), id, env), ("u", Some(PolicyID::from_string("l")), bound));
-    /// # Ok::<(), Box<dyn std::error::Error>>(())
-    /// ```
+    /// [`Self::principal_constraint`] has an example.
+    #[must_use]
     pub fn into_components(self) -> (Arc<Template>, Option<PolicyID>, SlotEnv) {
         let Self { parts } = self;
-        let Parts { template, link, values } = *parts;
+        let Parts { template, link, values } = Arc::unwrap_or_clone(parts);
         (template, link, values)
     }
 
     /// Returns the location of the whole template, if it is known. Does not allocate.
     ///
-    /// ```
-    /// # use cedar_store::{ast::*, entities::*};
-    /// # fn template(name: &str, principal: PrincipalConstraint) -> Template {
-    /// #     let (id, all) = (PolicyID::from_string(name), ResourceConstraint::any());
-    /// #     Template::new(id, None, Annotations::new(), Effect::Permit, principal, ActionConstraint::any(), all, None)
-    /// # }
-    /// # fn permit(name: &str) -> StaticPolicy {
-    /// #     StaticPolicy::try_from(template(name, PrincipalConstraint::any())).unwrap()
-    /// # }
-    /// let policy = Policy::from_static(permit("p"));
-    /// assert!(policy.is_static() && policy.env().is_empty() && policy.loc().is_none());
-    /// assert_eq!((policy.id(), policy.effect()), (policy.template().id(), Effect::Permit));
-    /// assert_eq!(&**policy.template_arc(), policy.template());
-    /// assert!(policy.annotation(&AnyId::from_normalized_str("id")?).is_none());
-    /// assert_eq!((policy.annotations().count(), policy.annotations_arc().is_empty()), (0, true));
-    /// assert_eq!(policy.new_id(PolicyID::from_string("q")).id().as_ref(), "q");
-    /// # Ok::<(), Box<dyn std::error::Error>>(())
-    /// ```
+    /// [`Self::from_static`] has an example.
+    #[must_use]
     pub fn loc(&self) -> Option<&Loc> {
         self.parts.template.loc()
     }
@@ -630,24 +388,8 @@ impl Policy {
     /// Returns whether the policy is a static policy and not a link. The template of a static policy has no slots, and
     /// the policy has no bindings. Does not allocate.
     ///
-    /// ```
-    /// # use cedar_store::{ast::*, entities::*};
-    /// # fn template(name: &str, principal: PrincipalConstraint) -> Template {
-    /// #     let (id, all) = (PolicyID::from_string(name), ResourceConstraint::any());
-    /// #     Template::new(id, None, Annotations::new(), Effect::Permit, principal, ActionConstraint::any(), all, None)
-    /// # }
-    /// # fn permit(name: &str) -> StaticPolicy {
-    /// #     StaticPolicy::try_from(template(name, PrincipalConstraint::any())).unwrap()
-    /// # }
-    /// let policy = Policy::from_static(permit("p"));
-    /// assert!(policy.is_static() && policy.env().is_empty() && policy.loc().is_none());
-    /// assert_eq!((policy.id(), policy.effect()), (policy.template().id(), Effect::Permit));
-    /// assert_eq!(&**policy.template_arc(), policy.template());
-    /// assert!(policy.annotation(&AnyId::from_normalized_str("id")?).is_none());
-    /// assert_eq!((policy.annotations().count(), policy.annotations_arc().is_empty()), (0, true));
-    /// assert_eq!(policy.new_id(PolicyID::from_string("q")).id().as_ref(), "q");
-    /// # Ok::<(), Box<dyn std::error::Error>>(())
-    /// ```
+    /// [`Self::from_static`] has an example.
+    #[must_use]
     pub fn is_static(&self) -> bool {
         self.parts.link.is_none()
     }
@@ -667,15 +409,16 @@ impl Policy {
     /// The original parses the names with its parser, which accepts more than the printed form.
     ///
     /// ```
-    /// # use cedar_store::{ast::*, entities::*};
-    /// # fn uid(text: &str) -> EntityUID { EntityUID::from_normalized_str(text).unwrap() }
+    /// use cedar_store::ast::{Effect, EntityType, EntityUID, Expr, Policy, PolicyID, StaticType, Unknown};
+    ///
     /// let ty = StaticType::Entity { ty: EntityType::from_normalized_str("User")? };
     /// let unknown = Expr::unknown(Unknown::new_with_type(r#"User::"alice""#, ty));
     /// let policy = Policy::from_when_clause(Effect::Permit, unknown, PolicyID::from_string("p"), None);
-    /// assert!(policy.unknown_entities().contains(&uid(r#"User::"alice""#)));
+    /// assert!(policy.unknown_entities().contains(&r#"User::"alice""#.parse::<EntityUID>()?));
     /// assert_eq!(policy.unknown_entities_with_hasher(cedar_store::KeyedState::with_keys(1, 2)).len(), 1);
     /// # Ok::<(), Box<dyn std::error::Error>>(())
     /// ```
+    #[must_use]
     pub fn unknown_entities(&self) -> HashSet<EntityUID> {
         self.unknown_entities_with_hasher(RandomState::new())
     }
@@ -683,16 +426,8 @@ impl Policy {
     /// Returns the uids of the unknown entities in the condition, as [`Policy::unknown_entities`] does. The set uses
     /// the given builder of hashers.
     ///
-    /// ```
-    /// # use cedar_store::{ast::*, entities::*};
-    /// # fn uid(text: &str) -> EntityUID { EntityUID::from_normalized_str(text).unwrap() }
-    /// let ty = StaticType::Entity { ty: EntityType::from_normalized_str("User")? };
-    /// let unknown = Expr::unknown(Unknown::new_with_type(r#"User::"alice""#, ty));
-    /// let policy = Policy::from_when_clause(Effect::Permit, unknown, PolicyID::from_string("p"), None);
-    /// assert!(policy.unknown_entities().contains(&uid(r#"User::"alice""#)));
-    /// assert_eq!(policy.unknown_entities_with_hasher(cedar_store::KeyedState::with_keys(1, 2)).len(), 1);
-    /// # Ok::<(), Box<dyn std::error::Error>>(())
-    /// ```
+    /// [`Self::unknown_entities`] has an example.
+    #[must_use]
     pub fn unknown_entities_with_hasher<S: BuildHasher>(&self, hasher: S) -> HashSet<EntityUID, S> {
         let condition = self.condition();
         let unknowns = condition.unknowns();
@@ -704,25 +439,13 @@ impl Policy {
 /// new template. Otherwise nothing changes. The merging of policy sets uses this function. Does not allocate.
 pub fn share_template(policy: &mut Policy, template: Arc<Template>) {
     if is_template(&template, policy.template()) {
-        policy.parts.template = template;
+        Arc::make_mut(&mut policy.parts).template = template;
     }
 }
 
 // Returns whether two templates are equal.
 fn is_template(template: &Template, other: &Template) -> bool {
     template == other
-}
-
-impl Clone for Policy {
-    fn clone(&self) -> Self {
-        let template = self.parts.template.clone();
-        if self.is_static() {
-            return Self::unlinked(template);
-        }
-        let link = self.parts.link.clone();
-        let values = copy_of_bindings(&self.parts.values);
-        Self::of(template, link, values)
-    }
 }
 
 impl PartialEq for Policy {

@@ -39,7 +39,11 @@ impl StaticPolicy {
     /// O(n), where n is the number of nodes of the clause. Allocates O(n).
     ///
     /// ```
-    /// # use cedar_store::{ast::*, entities::*};
+    /// use cedar_store::ast::{
+    ///     ActionConstraint, Annotations, AnyId, Effect, PolicyID, PrincipalConstraint, ResourceConstraint,
+    ///     StaticPolicy, UnexpectedSlotError,
+    /// };
+    ///
     /// let of = |principal| {
     ///     let id = PolicyID::from_string("p");
     ///     let (action, resource) = (ActionConstraint::any(), ResourceConstraint::any());
@@ -78,42 +82,16 @@ impl StaticPolicy {
 
     /// Returns the id. Does not allocate.
     ///
-    /// ```
-    /// # use cedar_store::{ast::*, entities::*};
-    /// let of = |principal| {
-    ///     let id = PolicyID::from_string("p");
-    ///     let (action, resource) = (ActionConstraint::any(), ResourceConstraint::any());
-    ///     StaticPolicy::new(id, None, Annotations::new(), Effect::Permit, principal, action, resource, None)
-    /// };
-    /// let policy = of(PrincipalConstraint::any())?;
-    /// assert_eq!((policy.id().as_ref(), policy.effect(), policy.loc()), ("p", Effect::Permit, None));
-    /// assert!(policy.annotation(&AnyId::from_normalized_str("id")?).is_none() && policy.annotations().count() == 0);
-    /// assert_eq!(policy.new_id(PolicyID::from_string("q")).id().as_ref(), "q");
-    /// // a static policy has no slots
-    /// assert!(matches!(of(PrincipalConstraint::is_eq_slot()), Err(UnexpectedSlotError::FoundSlot(_))));
-    /// # Ok::<(), Box<dyn std::error::Error>>(())
-    /// ```
+    /// [`Self::new`] has an example.
+    #[must_use]
     pub fn id(&self) -> &PolicyID {
         self.body.id()
     }
 
     /// Returns the location of the whole policy, if it is known. Does not allocate.
     ///
-    /// ```
-    /// # use cedar_store::{ast::*, entities::*};
-    /// let of = |principal| {
-    ///     let id = PolicyID::from_string("p");
-    ///     let (action, resource) = (ActionConstraint::any(), ResourceConstraint::any());
-    ///     StaticPolicy::new(id, None, Annotations::new(), Effect::Permit, principal, action, resource, None)
-    /// };
-    /// let policy = of(PrincipalConstraint::any())?;
-    /// assert_eq!((policy.id().as_ref(), policy.effect(), policy.loc()), ("p", Effect::Permit, None));
-    /// assert!(policy.annotation(&AnyId::from_normalized_str("id")?).is_none() && policy.annotations().count() == 0);
-    /// assert_eq!(policy.new_id(PolicyID::from_string("q")).id().as_ref(), "q");
-    /// // a static policy has no slots
-    /// assert!(matches!(of(PrincipalConstraint::is_eq_slot()), Err(UnexpectedSlotError::FoundSlot(_))));
-    /// # Ok::<(), Box<dyn std::error::Error>>(())
-    /// ```
+    /// [`Self::new`] has an example.
+    #[must_use]
     pub fn loc(&self) -> Option<&Loc> {
         self.body.loc()
     }
@@ -124,21 +102,8 @@ impl StaticPolicy {
     ///
     /// Allocates as `clone` does, except for the id.
     ///
-    /// ```
-    /// # use cedar_store::{ast::*, entities::*};
-    /// let of = |principal| {
-    ///     let id = PolicyID::from_string("p");
-    ///     let (action, resource) = (ActionConstraint::any(), ResourceConstraint::any());
-    ///     StaticPolicy::new(id, None, Annotations::new(), Effect::Permit, principal, action, resource, None)
-    /// };
-    /// let policy = of(PrincipalConstraint::any())?;
-    /// assert_eq!((policy.id().as_ref(), policy.effect(), policy.loc()), ("p", Effect::Permit, None));
-    /// assert!(policy.annotation(&AnyId::from_normalized_str("id")?).is_none() && policy.annotations().count() == 0);
-    /// assert_eq!(policy.new_id(PolicyID::from_string("q")).id().as_ref(), "q");
-    /// // a static policy has no slots
-    /// assert!(matches!(of(PrincipalConstraint::is_eq_slot()), Err(UnexpectedSlotError::FoundSlot(_))));
-    /// # Ok::<(), Box<dyn std::error::Error>>(())
-    /// ```
+    /// [`Self::new`] has an example.
+    #[must_use]
     pub fn new_id(&self, id: PolicyID) -> Self {
         Self {
             body: self.body.new_id(id),
@@ -147,21 +112,8 @@ impl StaticPolicy {
 
     /// Returns the effect. Does not allocate.
     ///
-    /// ```
-    /// # use cedar_store::{ast::*, entities::*};
-    /// let of = |principal| {
-    ///     let id = PolicyID::from_string("p");
-    ///     let (action, resource) = (ActionConstraint::any(), ResourceConstraint::any());
-    ///     StaticPolicy::new(id, None, Annotations::new(), Effect::Permit, principal, action, resource, None)
-    /// };
-    /// let policy = of(PrincipalConstraint::any())?;
-    /// assert_eq!((policy.id().as_ref(), policy.effect(), policy.loc()), ("p", Effect::Permit, None));
-    /// assert!(policy.annotation(&AnyId::from_normalized_str("id")?).is_none() && policy.annotations().count() == 0);
-    /// assert_eq!(policy.new_id(PolicyID::from_string("q")).id().as_ref(), "q");
-    /// // a static policy has no slots
-    /// assert!(matches!(of(PrincipalConstraint::is_eq_slot()), Err(UnexpectedSlotError::FoundSlot(_))));
-    /// # Ok::<(), Box<dyn std::error::Error>>(())
-    /// ```
+    /// [`Self::new`] has an example.
+    #[must_use]
     pub fn effect(&self) -> Effect {
         self.body.effect()
     }
@@ -172,42 +124,16 @@ impl StaticPolicy {
     ///
     /// O(log n), where n is the number of annotations.
     ///
-    /// ```
-    /// # use cedar_store::{ast::*, entities::*};
-    /// let of = |principal| {
-    ///     let id = PolicyID::from_string("p");
-    ///     let (action, resource) = (ActionConstraint::any(), ResourceConstraint::any());
-    ///     StaticPolicy::new(id, None, Annotations::new(), Effect::Permit, principal, action, resource, None)
-    /// };
-    /// let policy = of(PrincipalConstraint::any())?;
-    /// assert_eq!((policy.id().as_ref(), policy.effect(), policy.loc()), ("p", Effect::Permit, None));
-    /// assert!(policy.annotation(&AnyId::from_normalized_str("id")?).is_none() && policy.annotations().count() == 0);
-    /// assert_eq!(policy.new_id(PolicyID::from_string("q")).id().as_ref(), "q");
-    /// // a static policy has no slots
-    /// assert!(matches!(of(PrincipalConstraint::is_eq_slot()), Err(UnexpectedSlotError::FoundSlot(_))));
-    /// # Ok::<(), Box<dyn std::error::Error>>(())
-    /// ```
+    /// [`Self::new`] has an example.
+    #[must_use]
     pub fn annotation(&self, key: &AnyId) -> Option<&Annotation> {
         self.body.annotation(key)
     }
 
     /// Iterates over the annotations with their keys, in ascending order of the keys. Does not allocate.
     ///
-    /// ```
-    /// # use cedar_store::{ast::*, entities::*};
-    /// let of = |principal| {
-    ///     let id = PolicyID::from_string("p");
-    ///     let (action, resource) = (ActionConstraint::any(), ResourceConstraint::any());
-    ///     StaticPolicy::new(id, None, Annotations::new(), Effect::Permit, principal, action, resource, None)
-    /// };
-    /// let policy = of(PrincipalConstraint::any())?;
-    /// assert_eq!((policy.id().as_ref(), policy.effect(), policy.loc()), ("p", Effect::Permit, None));
-    /// assert!(policy.annotation(&AnyId::from_normalized_str("id")?).is_none() && policy.annotations().count() == 0);
-    /// assert_eq!(policy.new_id(PolicyID::from_string("q")).id().as_ref(), "q");
-    /// // a static policy has no slots
-    /// assert!(matches!(of(PrincipalConstraint::is_eq_slot()), Err(UnexpectedSlotError::FoundSlot(_))));
-    /// # Ok::<(), Box<dyn std::error::Error>>(())
-    /// ```
+    /// [`Self::new`] has an example.
+    #[must_use]
     pub fn annotations(&self) -> Iter<'_> {
         self.body.annotations()
     }
@@ -215,175 +141,84 @@ impl StaticPolicy {
     /// Returns the constraint on the principal. Does not allocate.
     ///
     /// ```
-    /// # use cedar_store::{ast::*, entities::*};
-    /// # fn template(name: &str, principal: PrincipalConstraint) -> Template {
-    /// #     let (id, all) = (PolicyID::from_string(name), ResourceConstraint::any());
-    /// #     Template::new(id, None, Annotations::new(), Effect::Permit, principal, ActionConstraint::any(), all, None)
-    /// # }
-    /// # fn permit(name: &str) -> StaticPolicy {
-    /// #     StaticPolicy::try_from(template(name, PrincipalConstraint::any())).unwrap()
-    /// # }
-    /// let policy = permit("p");
+    /// use cedar_store::ast::{
+    ///     ActionConstraint, Annotations, Effect, PrincipalConstraint, ResourceConstraint, StaticPolicy,
+    /// };
+    ///
+    /// let policy = StaticPolicy::new(
+    ///     "p".into(),
+    ///     None,
+    ///     Annotations::new(),
+    ///     Effect::Permit,
+    ///     PrincipalConstraint::any(),
+    ///     ActionConstraint::any(),
+    ///     ResourceConstraint::any(),
+    ///     None,
+    /// )?;
     /// assert_eq!(policy.principal_constraint_expr(), policy.principal_constraint().as_expr());
     /// assert_eq!(policy.action_constraint_expr(), policy.action_constraint().as_expr());
     /// assert_eq!(policy.resource_constraint_expr(), policy.resource_constraint().as_expr());
     /// assert!(policy.non_scope_constraints().is_none());
     /// assert_eq!(policy.condition().to_string(), "true && (true && (true && true))");
+    /// # Ok::<(), Box<dyn std::error::Error>>(())
     /// ```
+    #[must_use]
     pub fn principal_constraint(&self) -> &PrincipalConstraint {
         self.body.principal_constraint()
     }
 
     /// Returns the constraint on the principal as an expression, as `PrincipalConstraint::as_expr` does.
     ///
-    /// ```
-    /// # use cedar_store::{ast::*, entities::*};
-    /// # fn template(name: &str, principal: PrincipalConstraint) -> Template {
-    /// #     let (id, all) = (PolicyID::from_string(name), ResourceConstraint::any());
-    /// #     Template::new(id, None, Annotations::new(), Effect::Permit, principal, ActionConstraint::any(), all, None)
-    /// # }
-    /// # fn permit(name: &str) -> StaticPolicy {
-    /// #     StaticPolicy::try_from(template(name, PrincipalConstraint::any())).unwrap()
-    /// # }
-    /// let policy = permit("p");
-    /// assert_eq!(policy.principal_constraint_expr(), policy.principal_constraint().as_expr());
-    /// assert_eq!(policy.action_constraint_expr(), policy.action_constraint().as_expr());
-    /// assert_eq!(policy.resource_constraint_expr(), policy.resource_constraint().as_expr());
-    /// assert!(policy.non_scope_constraints().is_none());
-    /// assert_eq!(policy.condition().to_string(), "true && (true && (true && true))");
-    /// ```
+    /// [`Self::principal_constraint`] has an example.
+    #[must_use]
     pub fn principal_constraint_expr(&self) -> Expr {
         self.body.principal_constraint_expr()
     }
 
     /// Returns the constraint on the action. Does not allocate.
     ///
-    /// ```
-    /// # use cedar_store::{ast::*, entities::*};
-    /// # fn template(name: &str, principal: PrincipalConstraint) -> Template {
-    /// #     let (id, all) = (PolicyID::from_string(name), ResourceConstraint::any());
-    /// #     Template::new(id, None, Annotations::new(), Effect::Permit, principal, ActionConstraint::any(), all, None)
-    /// # }
-    /// # fn permit(name: &str) -> StaticPolicy {
-    /// #     StaticPolicy::try_from(template(name, PrincipalConstraint::any())).unwrap()
-    /// # }
-    /// let policy = permit("p");
-    /// assert_eq!(policy.principal_constraint_expr(), policy.principal_constraint().as_expr());
-    /// assert_eq!(policy.action_constraint_expr(), policy.action_constraint().as_expr());
-    /// assert_eq!(policy.resource_constraint_expr(), policy.resource_constraint().as_expr());
-    /// assert!(policy.non_scope_constraints().is_none());
-    /// assert_eq!(policy.condition().to_string(), "true && (true && (true && true))");
-    /// ```
+    /// [`Self::principal_constraint`] has an example.
+    #[must_use]
     pub fn action_constraint(&self) -> &ActionConstraint {
         self.body.action_constraint()
     }
 
     /// Returns the constraint on the action as an expression, as `ActionConstraint::as_expr` does.
     ///
-    /// ```
-    /// # use cedar_store::{ast::*, entities::*};
-    /// # fn template(name: &str, principal: PrincipalConstraint) -> Template {
-    /// #     let (id, all) = (PolicyID::from_string(name), ResourceConstraint::any());
-    /// #     Template::new(id, None, Annotations::new(), Effect::Permit, principal, ActionConstraint::any(), all, None)
-    /// # }
-    /// # fn permit(name: &str) -> StaticPolicy {
-    /// #     StaticPolicy::try_from(template(name, PrincipalConstraint::any())).unwrap()
-    /// # }
-    /// let policy = permit("p");
-    /// assert_eq!(policy.principal_constraint_expr(), policy.principal_constraint().as_expr());
-    /// assert_eq!(policy.action_constraint_expr(), policy.action_constraint().as_expr());
-    /// assert_eq!(policy.resource_constraint_expr(), policy.resource_constraint().as_expr());
-    /// assert!(policy.non_scope_constraints().is_none());
-    /// assert_eq!(policy.condition().to_string(), "true && (true && (true && true))");
-    /// ```
+    /// [`Self::principal_constraint`] has an example.
+    #[must_use]
     pub fn action_constraint_expr(&self) -> Expr {
         self.body.action_constraint_expr()
     }
 
     /// Returns the constraint on the resource. Does not allocate.
     ///
-    /// ```
-    /// # use cedar_store::{ast::*, entities::*};
-    /// # fn template(name: &str, principal: PrincipalConstraint) -> Template {
-    /// #     let (id, all) = (PolicyID::from_string(name), ResourceConstraint::any());
-    /// #     Template::new(id, None, Annotations::new(), Effect::Permit, principal, ActionConstraint::any(), all, None)
-    /// # }
-    /// # fn permit(name: &str) -> StaticPolicy {
-    /// #     StaticPolicy::try_from(template(name, PrincipalConstraint::any())).unwrap()
-    /// # }
-    /// let policy = permit("p");
-    /// assert_eq!(policy.principal_constraint_expr(), policy.principal_constraint().as_expr());
-    /// assert_eq!(policy.action_constraint_expr(), policy.action_constraint().as_expr());
-    /// assert_eq!(policy.resource_constraint_expr(), policy.resource_constraint().as_expr());
-    /// assert!(policy.non_scope_constraints().is_none());
-    /// assert_eq!(policy.condition().to_string(), "true && (true && (true && true))");
-    /// ```
+    /// [`Self::principal_constraint`] has an example.
+    #[must_use]
     pub fn resource_constraint(&self) -> &ResourceConstraint {
         self.body.resource_constraint()
     }
 
     /// Returns the constraint on the resource as an expression, as `ResourceConstraint::as_expr` does.
     ///
-    /// ```
-    /// # use cedar_store::{ast::*, entities::*};
-    /// # fn template(name: &str, principal: PrincipalConstraint) -> Template {
-    /// #     let (id, all) = (PolicyID::from_string(name), ResourceConstraint::any());
-    /// #     Template::new(id, None, Annotations::new(), Effect::Permit, principal, ActionConstraint::any(), all, None)
-    /// # }
-    /// # fn permit(name: &str) -> StaticPolicy {
-    /// #     StaticPolicy::try_from(template(name, PrincipalConstraint::any())).unwrap()
-    /// # }
-    /// let policy = permit("p");
-    /// assert_eq!(policy.principal_constraint_expr(), policy.principal_constraint().as_expr());
-    /// assert_eq!(policy.action_constraint_expr(), policy.action_constraint().as_expr());
-    /// assert_eq!(policy.resource_constraint_expr(), policy.resource_constraint().as_expr());
-    /// assert!(policy.non_scope_constraints().is_none());
-    /// assert_eq!(policy.condition().to_string(), "true && (true && (true && true))");
-    /// ```
+    /// [`Self::principal_constraint`] has an example.
+    #[must_use]
     pub fn resource_constraint_expr(&self) -> Expr {
         self.body.resource_constraint_expr()
     }
 
     /// Returns the clause, if there is one. Does not allocate.
     ///
-    /// ```
-    /// # use cedar_store::{ast::*, entities::*};
-    /// # fn template(name: &str, principal: PrincipalConstraint) -> Template {
-    /// #     let (id, all) = (PolicyID::from_string(name), ResourceConstraint::any());
-    /// #     Template::new(id, None, Annotations::new(), Effect::Permit, principal, ActionConstraint::any(), all, None)
-    /// # }
-    /// # fn permit(name: &str) -> StaticPolicy {
-    /// #     StaticPolicy::try_from(template(name, PrincipalConstraint::any())).unwrap()
-    /// # }
-    /// let policy = permit("p");
-    /// assert_eq!(policy.principal_constraint_expr(), policy.principal_constraint().as_expr());
-    /// assert_eq!(policy.action_constraint_expr(), policy.action_constraint().as_expr());
-    /// assert_eq!(policy.resource_constraint_expr(), policy.resource_constraint().as_expr());
-    /// assert!(policy.non_scope_constraints().is_none());
-    /// assert_eq!(policy.condition().to_string(), "true && (true && (true && true))");
-    /// ```
+    /// [`Self::principal_constraint`] has an example.
+    #[must_use]
     pub fn non_scope_constraints(&self) -> Option<&Expr> {
         self.body.non_scope_constraints()
     }
 
     /// Returns the condition, as `TemplateBody::condition` does. The condition contains no slot.
     ///
-    /// ```
-    /// # use cedar_store::{ast::*, entities::*};
-    /// # fn template(name: &str, principal: PrincipalConstraint) -> Template {
-    /// #     let (id, all) = (PolicyID::from_string(name), ResourceConstraint::any());
-    /// #     Template::new(id, None, Annotations::new(), Effect::Permit, principal, ActionConstraint::any(), all, None)
-    /// # }
-    /// # fn permit(name: &str) -> StaticPolicy {
-    /// #     StaticPolicy::try_from(template(name, PrincipalConstraint::any())).unwrap()
-    /// # }
-    /// let policy = permit("p");
-    /// assert_eq!(policy.principal_constraint_expr(), policy.principal_constraint().as_expr());
-    /// assert_eq!(policy.action_constraint_expr(), policy.action_constraint().as_expr());
-    /// assert_eq!(policy.resource_constraint_expr(), policy.resource_constraint().as_expr());
-    /// assert!(policy.non_scope_constraints().is_none());
-    /// assert_eq!(policy.condition().to_string(), "true && (true && (true && true))");
-    /// ```
+    /// [`Self::principal_constraint`] has an example.
+    #[must_use]
     pub fn condition(&self) -> Expr {
         self.body.condition()
     }

@@ -41,11 +41,11 @@ impl Template {
     /// the clause.
     ///
     /// ```
-    /// # use cedar_store::{ast::*, entities::*};
-    /// # fn template(name: &str, principal: PrincipalConstraint) -> Template {
-    /// #     let (id, all) = (PolicyID::from_string(name), ResourceConstraint::any());
-    /// #     Template::new(id, None, Annotations::new(), Effect::Permit, principal, ActionConstraint::any(), all, None)
-    /// # }
+    /// use cedar_store::ast::{
+    ///     ActionConstraint, Annotations, AnyId, Effect, PolicyID, PrincipalConstraint, ResourceConstraint,
+    ///     Template, TemplateBody,
+    /// };
+    ///
     /// let template = Template::new(
     ///     PolicyID::from_string("t"),
     ///     None,
@@ -64,6 +64,7 @@ impl Template {
     /// assert_eq!(Template::from_body(TemplateBody::from(template.clone())), template);
     /// # Ok::<(), Box<dyn std::error::Error>>(())
     /// ```
+    #[must_use]
     pub fn new(
         id: PolicyID,
         loc: Option<Loc>,
@@ -94,12 +95,12 @@ impl Template {
     /// As [`Template::from_body`].
     ///
     /// ```
-    /// # use cedar_store::{ast::*, entities::*};
-    /// # fn template(name: &str, principal: PrincipalConstraint) -> Template {
-    /// #     let (id, all) = (PolicyID::from_string(name), ResourceConstraint::any());
-    /// #     Template::new(id, None, Annotations::new(), Effect::Permit, principal, ActionConstraint::any(), all, None)
-    /// # }
-    /// # use std::sync::Arc;
+    /// use cedar_store::ast::{
+    ///     ActionConstraint, Annotations, Effect, Expr, PolicyID, PrincipalConstraint, ResourceConstraint,
+    ///     Template,
+    /// };
+    /// use std::sync::Arc;
+    ///
     /// let template = Template::new_shared(
     ///     PolicyID::from_string("t"),
     ///     None,
@@ -117,6 +118,7 @@ impl Template {
     /// assert!(template.non_scope_constraints_arc().is_some());
     /// assert_eq!(template.condition().to_string(), "true && (true && ((resource in ?resource) && true))");
     /// ```
+    #[must_use]
     pub fn new_shared(
         id: PolicyID,
         loc: Option<Loc>,
@@ -147,30 +149,8 @@ impl Template {
     /// O(n), where n is the number of nodes of the clause. Allocates O(n). Does not allocate if there are no slots and
     /// no clause.
     ///
-    /// ```
-    /// # use cedar_store::{ast::*, entities::*};
-    /// # fn template(name: &str, principal: PrincipalConstraint) -> Template {
-    /// #     let (id, all) = (PolicyID::from_string(name), ResourceConstraint::any());
-    /// #     Template::new(id, None, Annotations::new(), Effect::Permit, principal, ActionConstraint::any(), all, None)
-    /// # }
-    /// let template = Template::new(
-    ///     PolicyID::from_string("t"),
-    ///     None,
-    ///     Annotations::new(),
-    ///     Effect::Permit,
-    ///     PrincipalConstraint::is_eq_slot(),
-    ///     ActionConstraint::any(),
-    ///     ResourceConstraint::any(),
-    ///     None,
-    /// );
-    /// template.check_invariant();
-    /// assert_eq!((template.id().as_ref(), template.effect()), ("t", Effect::Permit));
-    /// assert!(template.loc().is_none() && template.annotation(&AnyId::from_normalized_str("id")?).is_none());
-    /// assert_eq!((template.annotations().count(), template.annotations_arc().is_empty()), (0, true));
-    /// assert_eq!(template.new_id(PolicyID::from_string("u")).id().as_ref(), "u");
-    /// assert_eq!(Template::from_body(TemplateBody::from(template.clone())), template);
-    /// # Ok::<(), Box<dyn std::error::Error>>(())
-    /// ```
+    /// [`Self::new`] has an example.
+    #[must_use]
     pub fn from_body(body: TemplateBody) -> Self {
         let slots = slots_in(&body);
         Self { body, slots }
@@ -182,88 +162,21 @@ impl Template {
     ///
     /// In a debug build, the original checks the slots and panics if they differ.
     ///
-    /// ```
-    /// # use cedar_store::{ast::*, entities::*};
-    /// # fn template(name: &str, principal: PrincipalConstraint) -> Template {
-    /// #     let (id, all) = (PolicyID::from_string(name), ResourceConstraint::any());
-    /// #     Template::new(id, None, Annotations::new(), Effect::Permit, principal, ActionConstraint::any(), all, None)
-    /// # }
-    /// let template = Template::new(
-    ///     PolicyID::from_string("t"),
-    ///     None,
-    ///     Annotations::new(),
-    ///     Effect::Permit,
-    ///     PrincipalConstraint::is_eq_slot(),
-    ///     ActionConstraint::any(),
-    ///     ResourceConstraint::any(),
-    ///     None,
-    /// );
-    /// template.check_invariant();
-    /// assert_eq!((template.id().as_ref(), template.effect()), ("t", Effect::Permit));
-    /// assert!(template.loc().is_none() && template.annotation(&AnyId::from_normalized_str("id")?).is_none());
-    /// assert_eq!((template.annotations().count(), template.annotations_arc().is_empty()), (0, true));
-    /// assert_eq!(template.new_id(PolicyID::from_string("u")).id().as_ref(), "u");
-    /// assert_eq!(Template::from_body(TemplateBody::from(template.clone())), template);
-    /// # Ok::<(), Box<dyn std::error::Error>>(())
-    /// ```
+    /// [`Self::new`] has an example.
     pub fn check_invariant(&self) {}
 
     /// Returns the id. Does not allocate.
     ///
-    /// ```
-    /// # use cedar_store::{ast::*, entities::*};
-    /// # fn template(name: &str, principal: PrincipalConstraint) -> Template {
-    /// #     let (id, all) = (PolicyID::from_string(name), ResourceConstraint::any());
-    /// #     Template::new(id, None, Annotations::new(), Effect::Permit, principal, ActionConstraint::any(), all, None)
-    /// # }
-    /// let template = Template::new(
-    ///     PolicyID::from_string("t"),
-    ///     None,
-    ///     Annotations::new(),
-    ///     Effect::Permit,
-    ///     PrincipalConstraint::is_eq_slot(),
-    ///     ActionConstraint::any(),
-    ///     ResourceConstraint::any(),
-    ///     None,
-    /// );
-    /// template.check_invariant();
-    /// assert_eq!((template.id().as_ref(), template.effect()), ("t", Effect::Permit));
-    /// assert!(template.loc().is_none() && template.annotation(&AnyId::from_normalized_str("id")?).is_none());
-    /// assert_eq!((template.annotations().count(), template.annotations_arc().is_empty()), (0, true));
-    /// assert_eq!(template.new_id(PolicyID::from_string("u")).id().as_ref(), "u");
-    /// assert_eq!(Template::from_body(TemplateBody::from(template.clone())), template);
-    /// # Ok::<(), Box<dyn std::error::Error>>(())
-    /// ```
+    /// [`Self::new`] has an example.
+    #[must_use]
     pub fn id(&self) -> &PolicyID {
         self.body.id()
     }
 
     /// Returns the location of the whole template, if it is known. Does not allocate.
     ///
-    /// ```
-    /// # use cedar_store::{ast::*, entities::*};
-    /// # fn template(name: &str, principal: PrincipalConstraint) -> Template {
-    /// #     let (id, all) = (PolicyID::from_string(name), ResourceConstraint::any());
-    /// #     Template::new(id, None, Annotations::new(), Effect::Permit, principal, ActionConstraint::any(), all, None)
-    /// # }
-    /// let template = Template::new(
-    ///     PolicyID::from_string("t"),
-    ///     None,
-    ///     Annotations::new(),
-    ///     Effect::Permit,
-    ///     PrincipalConstraint::is_eq_slot(),
-    ///     ActionConstraint::any(),
-    ///     ResourceConstraint::any(),
-    ///     None,
-    /// );
-    /// template.check_invariant();
-    /// assert_eq!((template.id().as_ref(), template.effect()), ("t", Effect::Permit));
-    /// assert!(template.loc().is_none() && template.annotation(&AnyId::from_normalized_str("id")?).is_none());
-    /// assert_eq!((template.annotations().count(), template.annotations_arc().is_empty()), (0, true));
-    /// assert_eq!(template.new_id(PolicyID::from_string("u")).id().as_ref(), "u");
-    /// assert_eq!(Template::from_body(TemplateBody::from(template.clone())), template);
-    /// # Ok::<(), Box<dyn std::error::Error>>(())
-    /// ```
+    /// [`Self::new`] has an example.
+    #[must_use]
     pub fn loc(&self) -> Option<&Loc> {
         self.body.loc()
     }
@@ -274,30 +187,8 @@ impl Template {
     ///
     /// Allocates as `clone` does, except for the id.
     ///
-    /// ```
-    /// # use cedar_store::{ast::*, entities::*};
-    /// # fn template(name: &str, principal: PrincipalConstraint) -> Template {
-    /// #     let (id, all) = (PolicyID::from_string(name), ResourceConstraint::any());
-    /// #     Template::new(id, None, Annotations::new(), Effect::Permit, principal, ActionConstraint::any(), all, None)
-    /// # }
-    /// let template = Template::new(
-    ///     PolicyID::from_string("t"),
-    ///     None,
-    ///     Annotations::new(),
-    ///     Effect::Permit,
-    ///     PrincipalConstraint::is_eq_slot(),
-    ///     ActionConstraint::any(),
-    ///     ResourceConstraint::any(),
-    ///     None,
-    /// );
-    /// template.check_invariant();
-    /// assert_eq!((template.id().as_ref(), template.effect()), ("t", Effect::Permit));
-    /// assert!(template.loc().is_none() && template.annotation(&AnyId::from_normalized_str("id")?).is_none());
-    /// assert_eq!((template.annotations().count(), template.annotations_arc().is_empty()), (0, true));
-    /// assert_eq!(template.new_id(PolicyID::from_string("u")).id().as_ref(), "u");
-    /// assert_eq!(Template::from_body(TemplateBody::from(template.clone())), template);
-    /// # Ok::<(), Box<dyn std::error::Error>>(())
-    /// ```
+    /// [`Self::new`] has an example.
+    #[must_use]
     pub fn new_id(&self, id: PolicyID) -> Self {
         Self {
             body: self.body.new_id(id),
@@ -307,30 +198,8 @@ impl Template {
 
     /// Returns the effect. Does not allocate.
     ///
-    /// ```
-    /// # use cedar_store::{ast::*, entities::*};
-    /// # fn template(name: &str, principal: PrincipalConstraint) -> Template {
-    /// #     let (id, all) = (PolicyID::from_string(name), ResourceConstraint::any());
-    /// #     Template::new(id, None, Annotations::new(), Effect::Permit, principal, ActionConstraint::any(), all, None)
-    /// # }
-    /// let template = Template::new(
-    ///     PolicyID::from_string("t"),
-    ///     None,
-    ///     Annotations::new(),
-    ///     Effect::Permit,
-    ///     PrincipalConstraint::is_eq_slot(),
-    ///     ActionConstraint::any(),
-    ///     ResourceConstraint::any(),
-    ///     None,
-    /// );
-    /// template.check_invariant();
-    /// assert_eq!((template.id().as_ref(), template.effect()), ("t", Effect::Permit));
-    /// assert!(template.loc().is_none() && template.annotation(&AnyId::from_normalized_str("id")?).is_none());
-    /// assert_eq!((template.annotations().count(), template.annotations_arc().is_empty()), (0, true));
-    /// assert_eq!(template.new_id(PolicyID::from_string("u")).id().as_ref(), "u");
-    /// assert_eq!(Template::from_body(TemplateBody::from(template.clone())), template);
-    /// # Ok::<(), Box<dyn std::error::Error>>(())
-    /// ```
+    /// [`Self::new`] has an example.
+    #[must_use]
     pub fn effect(&self) -> Effect {
         self.body.effect()
     }
@@ -341,270 +210,72 @@ impl Template {
     ///
     /// O(log n), where n is the number of annotations.
     ///
-    /// ```
-    /// # use cedar_store::{ast::*, entities::*};
-    /// # fn template(name: &str, principal: PrincipalConstraint) -> Template {
-    /// #     let (id, all) = (PolicyID::from_string(name), ResourceConstraint::any());
-    /// #     Template::new(id, None, Annotations::new(), Effect::Permit, principal, ActionConstraint::any(), all, None)
-    /// # }
-    /// let template = Template::new(
-    ///     PolicyID::from_string("t"),
-    ///     None,
-    ///     Annotations::new(),
-    ///     Effect::Permit,
-    ///     PrincipalConstraint::is_eq_slot(),
-    ///     ActionConstraint::any(),
-    ///     ResourceConstraint::any(),
-    ///     None,
-    /// );
-    /// template.check_invariant();
-    /// assert_eq!((template.id().as_ref(), template.effect()), ("t", Effect::Permit));
-    /// assert!(template.loc().is_none() && template.annotation(&AnyId::from_normalized_str("id")?).is_none());
-    /// assert_eq!((template.annotations().count(), template.annotations_arc().is_empty()), (0, true));
-    /// assert_eq!(template.new_id(PolicyID::from_string("u")).id().as_ref(), "u");
-    /// assert_eq!(Template::from_body(TemplateBody::from(template.clone())), template);
-    /// # Ok::<(), Box<dyn std::error::Error>>(())
-    /// ```
+    /// [`Self::new`] has an example.
+    #[must_use]
     pub fn annotation(&self, key: &AnyId) -> Option<&Annotation> {
         self.body.annotation(key)
     }
 
     /// Iterates over the annotations with their keys, in ascending order of the keys. Does not allocate.
     ///
-    /// ```
-    /// # use cedar_store::{ast::*, entities::*};
-    /// # fn template(name: &str, principal: PrincipalConstraint) -> Template {
-    /// #     let (id, all) = (PolicyID::from_string(name), ResourceConstraint::any());
-    /// #     Template::new(id, None, Annotations::new(), Effect::Permit, principal, ActionConstraint::any(), all, None)
-    /// # }
-    /// let template = Template::new(
-    ///     PolicyID::from_string("t"),
-    ///     None,
-    ///     Annotations::new(),
-    ///     Effect::Permit,
-    ///     PrincipalConstraint::is_eq_slot(),
-    ///     ActionConstraint::any(),
-    ///     ResourceConstraint::any(),
-    ///     None,
-    /// );
-    /// template.check_invariant();
-    /// assert_eq!((template.id().as_ref(), template.effect()), ("t", Effect::Permit));
-    /// assert!(template.loc().is_none() && template.annotation(&AnyId::from_normalized_str("id")?).is_none());
-    /// assert_eq!((template.annotations().count(), template.annotations_arc().is_empty()), (0, true));
-    /// assert_eq!(template.new_id(PolicyID::from_string("u")).id().as_ref(), "u");
-    /// assert_eq!(Template::from_body(TemplateBody::from(template.clone())), template);
-    /// # Ok::<(), Box<dyn std::error::Error>>(())
-    /// ```
+    /// [`Self::new`] has an example.
+    #[must_use]
     pub fn annotations(&self) -> Iter<'_> {
         self.body.annotations()
     }
 
     /// Returns the shared annotations. Does not allocate.
     ///
-    /// ```
-    /// # use cedar_store::{ast::*, entities::*};
-    /// # fn template(name: &str, principal: PrincipalConstraint) -> Template {
-    /// #     let (id, all) = (PolicyID::from_string(name), ResourceConstraint::any());
-    /// #     Template::new(id, None, Annotations::new(), Effect::Permit, principal, ActionConstraint::any(), all, None)
-    /// # }
-    /// let template = Template::new(
-    ///     PolicyID::from_string("t"),
-    ///     None,
-    ///     Annotations::new(),
-    ///     Effect::Permit,
-    ///     PrincipalConstraint::is_eq_slot(),
-    ///     ActionConstraint::any(),
-    ///     ResourceConstraint::any(),
-    ///     None,
-    /// );
-    /// template.check_invariant();
-    /// assert_eq!((template.id().as_ref(), template.effect()), ("t", Effect::Permit));
-    /// assert!(template.loc().is_none() && template.annotation(&AnyId::from_normalized_str("id")?).is_none());
-    /// assert_eq!((template.annotations().count(), template.annotations_arc().is_empty()), (0, true));
-    /// assert_eq!(template.new_id(PolicyID::from_string("u")).id().as_ref(), "u");
-    /// assert_eq!(Template::from_body(TemplateBody::from(template.clone())), template);
-    /// # Ok::<(), Box<dyn std::error::Error>>(())
-    /// ```
+    /// [`Self::new`] has an example.
+    #[must_use]
     pub fn annotations_arc(&self) -> &Arc<Annotations> {
         self.body.annotations_arc()
     }
 
     /// Returns the constraint on the principal. Does not allocate.
     ///
-    /// ```
-    /// # use cedar_store::{ast::*, entities::*};
-    /// # fn template(name: &str, principal: PrincipalConstraint) -> Template {
-    /// #     let (id, all) = (PolicyID::from_string(name), ResourceConstraint::any());
-    /// #     Template::new(id, None, Annotations::new(), Effect::Permit, principal, ActionConstraint::any(), all, None)
-    /// # }
-    /// # use std::sync::Arc;
-    /// let template = Template::new_shared(
-    ///     PolicyID::from_string("t"),
-    ///     None,
-    ///     Arc::new(Annotations::new()),
-    ///     Effect::Permit,
-    ///     PrincipalConstraint::any(),
-    ///     ActionConstraint::any(),
-    ///     ResourceConstraint::is_in_slot(),
-    ///     Some(Arc::new(Expr::val(true))),
-    /// );
-    /// assert_eq!(template.resource_constraint().to_string(), "resource in ?resource");
-    /// assert_eq!(template.principal_constraint(), &PrincipalConstraint::any());
-    /// assert_eq!(template.action_constraint(), &ActionConstraint::Any);
-    /// assert_eq!(template.non_scope_constraints(), Some(&Expr::val(true)));
-    /// assert!(template.non_scope_constraints_arc().is_some());
-    /// assert_eq!(template.condition().to_string(), "true && (true && ((resource in ?resource) && true))");
-    /// ```
+    /// [`Self::new_shared`] has an example.
+    #[must_use]
     pub fn principal_constraint(&self) -> &PrincipalConstraint {
         self.body.principal_constraint()
     }
 
     /// Returns the constraint on the action. Does not allocate.
     ///
-    /// ```
-    /// # use cedar_store::{ast::*, entities::*};
-    /// # fn template(name: &str, principal: PrincipalConstraint) -> Template {
-    /// #     let (id, all) = (PolicyID::from_string(name), ResourceConstraint::any());
-    /// #     Template::new(id, None, Annotations::new(), Effect::Permit, principal, ActionConstraint::any(), all, None)
-    /// # }
-    /// # use std::sync::Arc;
-    /// let template = Template::new_shared(
-    ///     PolicyID::from_string("t"),
-    ///     None,
-    ///     Arc::new(Annotations::new()),
-    ///     Effect::Permit,
-    ///     PrincipalConstraint::any(),
-    ///     ActionConstraint::any(),
-    ///     ResourceConstraint::is_in_slot(),
-    ///     Some(Arc::new(Expr::val(true))),
-    /// );
-    /// assert_eq!(template.resource_constraint().to_string(), "resource in ?resource");
-    /// assert_eq!(template.principal_constraint(), &PrincipalConstraint::any());
-    /// assert_eq!(template.action_constraint(), &ActionConstraint::Any);
-    /// assert_eq!(template.non_scope_constraints(), Some(&Expr::val(true)));
-    /// assert!(template.non_scope_constraints_arc().is_some());
-    /// assert_eq!(template.condition().to_string(), "true && (true && ((resource in ?resource) && true))");
-    /// ```
+    /// [`Self::new_shared`] has an example.
+    #[must_use]
     pub fn action_constraint(&self) -> &ActionConstraint {
         self.body.action_constraint()
     }
 
     /// Returns the constraint on the resource. Does not allocate.
     ///
-    /// ```
-    /// # use cedar_store::{ast::*, entities::*};
-    /// # fn template(name: &str, principal: PrincipalConstraint) -> Template {
-    /// #     let (id, all) = (PolicyID::from_string(name), ResourceConstraint::any());
-    /// #     Template::new(id, None, Annotations::new(), Effect::Permit, principal, ActionConstraint::any(), all, None)
-    /// # }
-    /// # use std::sync::Arc;
-    /// let template = Template::new_shared(
-    ///     PolicyID::from_string("t"),
-    ///     None,
-    ///     Arc::new(Annotations::new()),
-    ///     Effect::Permit,
-    ///     PrincipalConstraint::any(),
-    ///     ActionConstraint::any(),
-    ///     ResourceConstraint::is_in_slot(),
-    ///     Some(Arc::new(Expr::val(true))),
-    /// );
-    /// assert_eq!(template.resource_constraint().to_string(), "resource in ?resource");
-    /// assert_eq!(template.principal_constraint(), &PrincipalConstraint::any());
-    /// assert_eq!(template.action_constraint(), &ActionConstraint::Any);
-    /// assert_eq!(template.non_scope_constraints(), Some(&Expr::val(true)));
-    /// assert!(template.non_scope_constraints_arc().is_some());
-    /// assert_eq!(template.condition().to_string(), "true && (true && ((resource in ?resource) && true))");
-    /// ```
+    /// [`Self::new_shared`] has an example.
+    #[must_use]
     pub fn resource_constraint(&self) -> &ResourceConstraint {
         self.body.resource_constraint()
     }
 
     /// Returns the clause, if there is one. Does not allocate.
     ///
-    /// ```
-    /// # use cedar_store::{ast::*, entities::*};
-    /// # fn template(name: &str, principal: PrincipalConstraint) -> Template {
-    /// #     let (id, all) = (PolicyID::from_string(name), ResourceConstraint::any());
-    /// #     Template::new(id, None, Annotations::new(), Effect::Permit, principal, ActionConstraint::any(), all, None)
-    /// # }
-    /// # use std::sync::Arc;
-    /// let template = Template::new_shared(
-    ///     PolicyID::from_string("t"),
-    ///     None,
-    ///     Arc::new(Annotations::new()),
-    ///     Effect::Permit,
-    ///     PrincipalConstraint::any(),
-    ///     ActionConstraint::any(),
-    ///     ResourceConstraint::is_in_slot(),
-    ///     Some(Arc::new(Expr::val(true))),
-    /// );
-    /// assert_eq!(template.resource_constraint().to_string(), "resource in ?resource");
-    /// assert_eq!(template.principal_constraint(), &PrincipalConstraint::any());
-    /// assert_eq!(template.action_constraint(), &ActionConstraint::Any);
-    /// assert_eq!(template.non_scope_constraints(), Some(&Expr::val(true)));
-    /// assert!(template.non_scope_constraints_arc().is_some());
-    /// assert_eq!(template.condition().to_string(), "true && (true && ((resource in ?resource) && true))");
-    /// ```
+    /// [`Self::new_shared`] has an example.
+    #[must_use]
     pub fn non_scope_constraints(&self) -> Option<&Expr> {
         self.body.non_scope_constraints()
     }
 
     /// Returns the shared clause, if there is one. Does not allocate.
     ///
-    /// ```
-    /// # use cedar_store::{ast::*, entities::*};
-    /// # fn template(name: &str, principal: PrincipalConstraint) -> Template {
-    /// #     let (id, all) = (PolicyID::from_string(name), ResourceConstraint::any());
-    /// #     Template::new(id, None, Annotations::new(), Effect::Permit, principal, ActionConstraint::any(), all, None)
-    /// # }
-    /// # use std::sync::Arc;
-    /// let template = Template::new_shared(
-    ///     PolicyID::from_string("t"),
-    ///     None,
-    ///     Arc::new(Annotations::new()),
-    ///     Effect::Permit,
-    ///     PrincipalConstraint::any(),
-    ///     ActionConstraint::any(),
-    ///     ResourceConstraint::is_in_slot(),
-    ///     Some(Arc::new(Expr::val(true))),
-    /// );
-    /// assert_eq!(template.resource_constraint().to_string(), "resource in ?resource");
-    /// assert_eq!(template.principal_constraint(), &PrincipalConstraint::any());
-    /// assert_eq!(template.action_constraint(), &ActionConstraint::Any);
-    /// assert_eq!(template.non_scope_constraints(), Some(&Expr::val(true)));
-    /// assert!(template.non_scope_constraints_arc().is_some());
-    /// assert_eq!(template.condition().to_string(), "true && (true && ((resource in ?resource) && true))");
-    /// ```
+    /// [`Self::new_shared`] has an example.
+    #[must_use]
     pub fn non_scope_constraints_arc(&self) -> Option<&Arc<Expr>> {
         self.body.non_scope_constraints_arc()
     }
 
     /// Returns the condition, as `TemplateBody::condition` does.
     ///
-    /// ```
-    /// # use cedar_store::{ast::*, entities::*};
-    /// # fn template(name: &str, principal: PrincipalConstraint) -> Template {
-    /// #     let (id, all) = (PolicyID::from_string(name), ResourceConstraint::any());
-    /// #     Template::new(id, None, Annotations::new(), Effect::Permit, principal, ActionConstraint::any(), all, None)
-    /// # }
-    /// # use std::sync::Arc;
-    /// let template = Template::new_shared(
-    ///     PolicyID::from_string("t"),
-    ///     None,
-    ///     Arc::new(Annotations::new()),
-    ///     Effect::Permit,
-    ///     PrincipalConstraint::any(),
-    ///     ActionConstraint::any(),
-    ///     ResourceConstraint::is_in_slot(),
-    ///     Some(Arc::new(Expr::val(true))),
-    /// );
-    /// assert_eq!(template.resource_constraint().to_string(), "resource in ?resource");
-    /// assert_eq!(template.principal_constraint(), &PrincipalConstraint::any());
-    /// assert_eq!(template.action_constraint(), &ActionConstraint::Any);
-    /// assert_eq!(template.non_scope_constraints(), Some(&Expr::val(true)));
-    /// assert!(template.non_scope_constraints_arc().is_some());
-    /// assert_eq!(template.condition().to_string(), "true && (true && ((resource in ?resource) && true))");
-    /// ```
+    /// [`Self::new_shared`] has an example.
+    #[must_use]
     pub fn condition(&self) -> Expr {
         self.body.condition()
     }
@@ -614,17 +285,25 @@ impl Template {
     /// children come from the last to the first. Does not allocate.
     ///
     /// ```
-    /// # use cedar_store::{ast::*, entities::*};
-    /// # fn uid(text: &str) -> EntityUID { EntityUID::from_normalized_str(text).unwrap() }
-    /// # fn template(name: &str, principal: PrincipalConstraint) -> Template {
-    /// #     let (id, all) = (PolicyID::from_string(name), ResourceConstraint::any());
-    /// #     Template::new(id, None, Annotations::new(), Effect::Permit, principal, ActionConstraint::any(), all, None)
-    /// # }
-    /// # use std::sync::Arc;
-    /// let template = Arc::new(template("t", PrincipalConstraint::is_eq_slot()));
+    /// use cedar_store::ast::{
+    ///     ActionConstraint, Annotations, Effect, LinkingError, PolicyID, PrincipalConstraint,
+    ///     ResourceConstraint, SlotEnv, SlotId, Template,
+    /// };
+    /// use std::sync::Arc;
+    ///
+    /// let template = Arc::new(Template::new(
+    ///     "t".into(),
+    ///     None,
+    ///     Annotations::new(),
+    ///     Effect::Permit,
+    ///     PrincipalConstraint::is_eq_slot(),
+    ///     ActionConstraint::any(),
+    ///     ResourceConstraint::any(),
+    ///     None,
+    /// ));
     /// assert!(!template.is_static());
     /// assert_eq!(template.slots().map(|slot| slot.id).collect::<Vec<_>>(), [SlotId::principal()]);
-    /// let bound = SlotEnv::from([(SlotId::principal(), uid(r#"User::"alice""#))]);
+    /// let bound = SlotEnv::from([(SlotId::principal(), r#"User::"alice""#.parse()?)]);
     /// assert!(Template::check_binding(&template, &bound).is_ok());
     /// let link = Template::link(Arc::clone(&template), PolicyID::from_string("l"), bound)?;
     /// assert_eq!(link.to_string(), r#"Template Instance of t, slots: [?principal -> User::"alice"]"#);
@@ -634,33 +313,15 @@ impl Template {
     /// }
     /// # Ok::<(), Box<dyn std::error::Error>>(())
     /// ```
+    #[must_use]
     pub fn slots(&self) -> Slots<'_> {
         Slots::of(&self.slots)
     }
 
     /// Returns whether there are no slots, so that the template represents a static policy. Does not allocate.
     ///
-    /// ```
-    /// # use cedar_store::{ast::*, entities::*};
-    /// # fn uid(text: &str) -> EntityUID { EntityUID::from_normalized_str(text).unwrap() }
-    /// # fn template(name: &str, principal: PrincipalConstraint) -> Template {
-    /// #     let (id, all) = (PolicyID::from_string(name), ResourceConstraint::any());
-    /// #     Template::new(id, None, Annotations::new(), Effect::Permit, principal, ActionConstraint::any(), all, None)
-    /// # }
-    /// # use std::sync::Arc;
-    /// let template = Arc::new(template("t", PrincipalConstraint::is_eq_slot()));
-    /// assert!(!template.is_static());
-    /// assert_eq!(template.slots().map(|slot| slot.id).collect::<Vec<_>>(), [SlotId::principal()]);
-    /// let bound = SlotEnv::from([(SlotId::principal(), uid(r#"User::"alice""#))]);
-    /// assert!(Template::check_binding(&template, &bound).is_ok());
-    /// let link = Template::link(Arc::clone(&template), PolicyID::from_string("l"), bound)?;
-    /// assert_eq!(link.to_string(), r#"Template Instance of t, slots: [?principal -> User::"alice"]"#);
-    /// match Template::link(template, PolicyID::from_string("m"), SlotEnv::new()) {
-    ///     Err(LinkingError::ArityError { unbound_values, .. }) => assert_eq!(unbound_values, [SlotId::principal()]),
-    ///     other => panic!("{other:?}"),
-    /// }
-    /// # Ok::<(), Box<dyn std::error::Error>>(())
-    /// ```
+    /// [`Self::slots`] has an example.
+    #[must_use]
     pub fn is_static(&self) -> bool {
         self.slots.is_empty()
     }
@@ -678,27 +339,7 @@ impl Template {
     ///
     /// Reads each slot a few times. Allocates only for the error.
     ///
-    /// ```
-    /// # use cedar_store::{ast::*, entities::*};
-    /// # fn uid(text: &str) -> EntityUID { EntityUID::from_normalized_str(text).unwrap() }
-    /// # fn template(name: &str, principal: PrincipalConstraint) -> Template {
-    /// #     let (id, all) = (PolicyID::from_string(name), ResourceConstraint::any());
-    /// #     Template::new(id, None, Annotations::new(), Effect::Permit, principal, ActionConstraint::any(), all, None)
-    /// # }
-    /// # use std::sync::Arc;
-    /// let template = Arc::new(template("t", PrincipalConstraint::is_eq_slot()));
-    /// assert!(!template.is_static());
-    /// assert_eq!(template.slots().map(|slot| slot.id).collect::<Vec<_>>(), [SlotId::principal()]);
-    /// let bound = SlotEnv::from([(SlotId::principal(), uid(r#"User::"alice""#))]);
-    /// assert!(Template::check_binding(&template, &bound).is_ok());
-    /// let link = Template::link(Arc::clone(&template), PolicyID::from_string("l"), bound)?;
-    /// assert_eq!(link.to_string(), r#"Template Instance of t, slots: [?principal -> User::"alice"]"#);
-    /// match Template::link(template, PolicyID::from_string("m"), SlotEnv::new()) {
-    ///     Err(LinkingError::ArityError { unbound_values, .. }) => assert_eq!(unbound_values, [SlotId::principal()]),
-    ///     other => panic!("{other:?}"),
-    /// }
-    /// # Ok::<(), Box<dyn std::error::Error>>(())
-    /// ```
+    /// [`Self::slots`] has an example.
     pub fn check_binding(template: &Self, values: &SlotEnv) -> Result<(), LinkingError> {
         check_bindings(&template.slots, values)
     }
@@ -711,27 +352,7 @@ impl Template {
     ///
     /// After an error all arguments are dropped.
     ///
-    /// ```
-    /// # use cedar_store::{ast::*, entities::*};
-    /// # fn uid(text: &str) -> EntityUID { EntityUID::from_normalized_str(text).unwrap() }
-    /// # fn template(name: &str, principal: PrincipalConstraint) -> Template {
-    /// #     let (id, all) = (PolicyID::from_string(name), ResourceConstraint::any());
-    /// #     Template::new(id, None, Annotations::new(), Effect::Permit, principal, ActionConstraint::any(), all, None)
-    /// # }
-    /// # use std::sync::Arc;
-    /// let template = Arc::new(template("t", PrincipalConstraint::is_eq_slot()));
-    /// assert!(!template.is_static());
-    /// assert_eq!(template.slots().map(|slot| slot.id).collect::<Vec<_>>(), [SlotId::principal()]);
-    /// let bound = SlotEnv::from([(SlotId::principal(), uid(r#"User::"alice""#))]);
-    /// assert!(Template::check_binding(&template, &bound).is_ok());
-    /// let link = Template::link(Arc::clone(&template), PolicyID::from_string("l"), bound)?;
-    /// assert_eq!(link.to_string(), r#"Template Instance of t, slots: [?principal -> User::"alice"]"#);
-    /// match Template::link(template, PolicyID::from_string("m"), SlotEnv::new()) {
-    ///     Err(LinkingError::ArityError { unbound_values, .. }) => assert_eq!(unbound_values, [SlotId::principal()]),
-    ///     other => panic!("{other:?}"),
-    /// }
-    /// # Ok::<(), Box<dyn std::error::Error>>(())
-    /// ```
+    /// [`Self::slots`] has an example.
     pub fn link(template: Arc<Self>, new_id: PolicyID, values: SlotEnv) -> Result<Policy, LinkingError> {
         Self::check_binding(&template, &values)?;
         let values = fitted_bindings(values);
@@ -761,16 +382,23 @@ impl Template {
     /// - `ArityError`: the template has slots. `unbound_values` has all of them.
     ///
     /// ```
-    /// # use cedar_store::{ast::*, entities::*};
-    /// # fn template(name: &str, principal: PrincipalConstraint) -> Template {
-    /// #     let (id, all) = (PolicyID::from_string(name), ResourceConstraint::any());
-    /// #     Template::new(id, None, Annotations::new(), Effect::Permit, principal, ActionConstraint::any(), all, None)
-    /// # }
-    /// # fn permit(name: &str) -> StaticPolicy {
-    /// #     StaticPolicy::try_from(template(name, PrincipalConstraint::any())).unwrap()
-    /// # }
-    /// # use std::sync::Arc;
-    /// let (template, policy) = Template::link_static_policy(permit("p"));
+    /// use cedar_store::ast::{
+    ///     ActionConstraint, Annotations, Effect, PrincipalConstraint, ResourceConstraint, StaticPolicy,
+    ///     Template,
+    /// };
+    /// use std::sync::Arc;
+    ///
+    /// let permit = StaticPolicy::new(
+    ///     "p".into(),
+    ///     None,
+    ///     Annotations::new(),
+    ///     Effect::Permit,
+    ///     PrincipalConstraint::any(),
+    ///     ActionConstraint::any(),
+    ///     ResourceConstraint::any(),
+    ///     None,
+    /// )?;
+    /// let (template, policy) = Template::link_static_policy(permit);
     /// assert_eq!((template.id(), policy.id()), (policy.id(), template.id()));
     /// assert!(Template::try_as_policy(template)?.is_static());
     /// # Ok::<(), Box<dyn std::error::Error>>(())
@@ -783,21 +411,8 @@ impl Template {
 
     /// Returns the template of a static policy, and the policy of that template. Both have the id of the static policy.
     ///
-    /// ```
-    /// # use cedar_store::{ast::*, entities::*};
-    /// # fn template(name: &str, principal: PrincipalConstraint) -> Template {
-    /// #     let (id, all) = (PolicyID::from_string(name), ResourceConstraint::any());
-    /// #     Template::new(id, None, Annotations::new(), Effect::Permit, principal, ActionConstraint::any(), all, None)
-    /// # }
-    /// # fn permit(name: &str) -> StaticPolicy {
-    /// #     StaticPolicy::try_from(template(name, PrincipalConstraint::any())).unwrap()
-    /// # }
-    /// # use std::sync::Arc;
-    /// let (template, policy) = Template::link_static_policy(permit("p"));
-    /// assert_eq!((template.id(), policy.id()), (policy.id(), template.id()));
-    /// assert!(Template::try_as_policy(template)?.is_static());
-    /// # Ok::<(), Box<dyn std::error::Error>>(())
-    /// ```
+    /// [`Self::try_as_policy`] has an example.
+    #[must_use]
     pub fn link_static_policy(policy: StaticPolicy) -> (Arc<Self>, Policy) {
         let template = Arc::new(Self::of_static(policy));
         let policy = Policy::unlinked(template.clone());
@@ -831,12 +446,22 @@ impl Template {
     /// O(n), where n is the number of nodes of the clause and of uids in the action constraint. Allocates O(n).
     ///
     /// ```
-    /// # use cedar_store::{ast::*, entities::*};
-    /// # fn template(name: &str, principal: PrincipalConstraint) -> Template {
-    /// #     let (id, all) = (PolicyID::from_string(name), ResourceConstraint::any());
-    /// #     Template::new(id, None, Annotations::new(), Effect::Permit, principal, ActionConstraint::any(), all, None)
-    /// # }
-    /// assert!(template("t", PrincipalConstraint::is_eq_slot()).try_validate().is_ok());
+    /// use cedar_store::ast::{
+    ///     ActionConstraint, Annotations, Effect, Expr, PolicyID, PrincipalConstraint, ResourceConstraint,
+    ///     SlotId, Template, TemplateValidationError,
+    /// };
+    ///
+    /// let template = Template::new(
+    ///     "t".into(),
+    ///     None,
+    ///     Annotations::new(),
+    ///     Effect::Permit,
+    ///     PrincipalConstraint::is_eq_slot(),
+    ///     ActionConstraint::any(),
+    ///     ResourceConstraint::any(),
+    ///     None,
+    /// );
+    /// assert!(template.try_validate().is_ok());
     /// let slotted = Template::new(
     ///     PolicyID::from_string("t"),
     ///     None,

@@ -27,10 +27,5 @@ fn put<S: BuildHasher>(uids: &mut HashSet<EntityUID, S>, uid: Option<EntityUID>)
 // Returns the uid that an unknown represents, if there is one.
 fn is_entity_name(unknown: &Unknown) -> Option<EntityUID> {
     unknown.type_annotation.as_ref()?;
-    uid_read(unknown.name.as_str())
-}
-
-// Returns the uid whose printed form is the text, if there is one.
-fn uid_read(text: &str) -> Option<EntityUID> {
-    EntityUID::from_normalized_str(text).ok()
+    EntityUID::from_normalized_str(unknown.name.as_str()).ok()
 }

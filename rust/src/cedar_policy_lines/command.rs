@@ -7,7 +7,6 @@ use crate::cedar_body::Effect;
 use crate::cedar_ids::entity::EntityUID;
 use crate::cedar_ids::policy_id::PolicyID;
 use crate::cedar_lines::known_types::KnownTypes;
-use crate::cedar_lines::room::text_in;
 use crate::cedar_policy::SlotEnv;
 use crate::cedar_policy_lines::field::{TemplateSlots, binding_of, effect_of, renaming_of, slots_of};
 use crate::cedar_policy_lines::slot_flags::SlotFlags;
@@ -80,10 +79,12 @@ fn no_id() -> PolicyID {
     PolicyID::from_smolstr(String::new())
 }
 
-// Sets an id to this text, and reuses its buffer.
+// Sets an id to this text. Many links after one another name the same template.
 fn set_id(id: &mut PolicyID, text: &str) {
-    let mut before = mem::replace(id, no_id()).into_smolstr();
-    *id = PolicyID::from_smolstr(text_in(&mut before, text));
+    if id.as_ref() == text {
+        return;
+    }
+    *id = PolicyID::from_string(text);
 }
 
 // Returns the field, if there is exactly one.
@@ -110,14 +111,9 @@ fn unbind_unless(values: &mut SlotEnv, slot: SlotId, is_named: bool) {
     }
 }
 
-// Returns whether all bound slots are named.
-fn has_all_flags(values: &SlotEnv, named: SlotFlags) -> bool {
-    values.keys().all(|slot| named.has(*slot))
-}
-
 // Unbinds the slots that are not named. The check before avoids hashing, because mostly there are none.
 fn unbind_unflagged(values: &mut SlotEnv, named: SlotFlags) {
-    if has_all_flags(values, named) {
+    if values.keys().all(|slot| named.has(*slot)) {
         return;
     }
     unbind_unless(values, SlotId::Principal, named.has(SlotId::Principal));
@@ -151,22 +147,12 @@ pub(crate) fn read_static(fields: &[&str]) -> Option<(PolicyID, Effect)> {
     Some((PolicyID::from_string(id), effect))
 }
 
-// Reads the command `static`.
-fn static_of(fields: &[&str]) -> Option<PolicyCommand> {
-    read_static(fields).map(|(id, effect)| PolicyCommand::Static(id, effect))
-}
-
 // Reads the id and the slots after `template`.
 pub(crate) fn read_template(fields: &[&str]) -> Option<(PolicyID, TemplateSlots)> {
     let (id, rest) = fields.split_first()?;
     let word = only(rest)?;
     let slots = slots_of(word)?;
     Some((PolicyID::from_string(id), slots))
-}
-
-// Reads the command `template`.
-fn template_of(fields: &[&str]) -> Option<PolicyCommand> {
-    read_template(fields).map(|(id, slots)| PolicyCommand::Template(id, slots))
 }
 
 // Reads the command `link`.
@@ -209,10 +195,10 @@ fn ids_of(fields: &[&str]) -> Option<PolicyCommand> {
 // Reads the command with this word and these fields after it.
 fn command_by(known: &mut KnownTypes, room: &mut LinkRoom, word: &str, fields: &[&str]) -> Option<PolicyCommand> {
     if word == "static" {
-        return static_of(fields);
+        return read_static(fields).map(|(id, effect)| PolicyCommand::Static(id, effect));
     }
     if word == "template" {
-        return template_of(fields);
+        return read_template(fields).map(|(id, slots)| PolicyCommand::Template(id, slots));
     }
     if word == "link" {
         return link_of(known, room, fields);

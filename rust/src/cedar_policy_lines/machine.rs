@@ -27,7 +27,7 @@ use std::sync::Arc;
 // `room` is reused by all links. Its content between lines has no meaning. The bodies of all lines share `annotations`,
 // which is empty.
 #[derive(Debug)]
-pub struct PolicySets<S: BuildHasher = KeyedState> {
+pub struct PolicySets<S = KeyedState> {
     current: PolicySet<S>,
     aside: PolicySet<S>,
     room: LinkRoom,

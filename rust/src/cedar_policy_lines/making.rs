@@ -25,7 +25,7 @@ pub(crate) fn unconstrained(annotations: Arc<Annotations>, id: PolicyID, effect:
     );
     match StaticPolicy::try_from(template) {
         Ok(policy) => policy,
-        Err(UnexpectedSlotError::FoundSlot(_)) => unreachable!(),
+        Err(UnexpectedSlotError::FoundSlot(_)) => unreachable!("the constraints have no slot"),
     }
 }
 

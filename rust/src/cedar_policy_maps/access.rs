@@ -7,7 +7,7 @@ use crate::cedar_policy::{Policy, Template};
 use crate::cedar_policy_maps::iters::{LinkedIds, SharedBodies};
 use crate::cedar_policy_maps::lists::{has_no_slots, is_link};
 use crate::cedar_policy_maps::maps::{
-    insert_reserved, list_policy, reserve_with_body, room_for_body, room_for_list, unlist,
+    insert_reserved, list_policy, remove_body, reserve_with_body, room_for_body, room_for_list, unlist,
 };
 use crate::cedar_policy_maps::policy_maps::PolicyMaps;
 use crate::cedar_policy_maps::policy_or_template::PolicyOrTemplate;
@@ -36,8 +36,8 @@ impl<S: BuildHasher + Clone> PolicyMaps<S> {
         self.links.get(id)
     }
 
-    /// Returns the shared body with this id, if there is one. Tries the place `next` first, and sets it to the place after
-    /// the body. Lookups in the order of the bodies do not hash. Does not allocate.
+    /// Returns the shared body with this id, if there is one. Tries the place `next` first, and sets it to the place
+    /// after the body. Lookups in the order of the bodies do not hash. Does not allocate.
     pub fn body_near(&self, id: &PolicyID, next: &mut usize) -> Option<&Arc<Template>> {
         self.templates.get_near(id, next).map(|(_, template)| template)
     }
@@ -83,6 +83,19 @@ impl<S: BuildHasher + Clone> PolicyMaps<S> {
         match self.policy_at(id) {
             Some(policy) => Some(PolicyOrTemplate::Policy(policy)),
             None => self.body_at(id).map(PolicyOrTemplate::Template),
+        }
+    }
+
+    /// Returns the policy or template with this id, as [`PolicyMaps::found`] does. If it is a policy, sets `place` to
+    /// its place, from which [`PolicyMaps::take_near`] removes it. Does not allocate.
+    pub fn found_near(&self, id: &PolicyID, place: &mut usize) -> Option<PolicyOrTemplate<'_>> {
+        let mut next = usize::MAX;
+        match self.policy_near(id, &mut next) {
+            Some((at, policy)) => {
+                *place = at;
+                Some(PolicyOrTemplate::Policy(policy))
+            }
+            None => self.found(id),
         }
     }
 
@@ -172,9 +185,15 @@ impl<S: BuildHasher + Clone> PolicyMaps<S> {
     /// Removes the entries with this id, and returns the body and the policy. The order of the other entries does not
     /// change. The caller must ensure that no template with this id has links. Does not allocate.
     pub fn take(&mut self, id: &PolicyID) -> (Option<Arc<Template>>, Option<Policy>) {
-        let template = self.templates.shift_remove(id);
-        let policy = self.links.shift_remove(id);
-        self.template_to_links_map.shift_remove(id);
+        self.take_near(id, usize::MAX)
+    }
+
+    /// Removes the entries with this id, as [`PolicyMaps::take`] does. Tries this place of the policy first, so that a
+    /// removal after [`PolicyMaps::found_near`] does not look the id up again. The caller must ensure that no template with
+    /// this id has links. Does not allocate.
+    pub fn take_near(&mut self, id: &PolicyID, place: usize) -> (Option<Arc<Template>>, Option<Policy>) {
+        let policy = self.links.shift_remove_near(id, place);
+        let template = remove_body(&mut self.templates, &mut self.template_to_links_map, &policy, id);
         unlist(&mut self.template_to_links_map, &policy, id);
         (template, policy)
     }
@@ -182,7 +201,7 @@ impl<S: BuildHasher + Clone> PolicyMaps<S> {
     /// Returns the last policy. The caller must ensure that there is a policy. Does not allocate.
     pub fn last(&self) -> &Policy {
         match self.links.last() {
-            None => unreachable!(),
+            None => unreachable!("the caller ensures that there is a policy"),
             Some((_, policy)) => policy,
         }
     }
@@ -190,8 +209,5 @@ impl<S: BuildHasher + Clone> PolicyMaps<S> {
 
 // Returns whether there are ids.
 fn has_ids<S: BuildHasher + Clone>(ids: Option<&LinkedSet<PolicyID, S>>) -> bool {
-    match ids {
-        None => false,
-        Some(ids) => !ids.is_empty(),
-    }
+    ids.is_some_and(|ids| !ids.is_empty())
 }

@@ -31,7 +31,7 @@ impl<T> SharedAndNew<T> {
 }
 
 // The entries to append to the three maps, and the ids to append to lists of existing templates.
-struct Entering<S: BuildHasher> {
+struct Entering<S> {
     templates: OrderedMap<PolicyID, Arc<Template>, S>,
     links: OrderedMap<PolicyID, Policy, S>,
     listed: OrderedMap<PolicyID, LinkedSet<PolicyID, S>, S>,
@@ -114,7 +114,7 @@ fn make_room<S: BuildHasher + Clone>(
 }
 
 // Appends entries with new keys. The space must be reserved.
-pub(crate) fn push_all<V, S: BuildHasher + Clone>(
+pub(crate) fn push_all<V: Clone, S: BuildHasher + Clone>(
     map: &mut LinkedMap<PolicyID, V, S>,
     entries: OrderedMap<PolicyID, V, S>,
 ) {
@@ -128,13 +128,8 @@ fn room_in_list<S: BuildHasher + Clone>(
     count: usize,
 ) {
     if let Some(ids) = map.get_mut(body) {
-        room_in_set(ids, count);
+        ids.reserve(count);
     }
-}
-
-// Reserves space in a set.
-fn room_in_set<S: BuildHasher + Clone>(ids: &mut LinkedSet<PolicyID, S>, count: usize) {
-    ids.reserve(count);
 }
 
 // Reserves space in lists for the ids to append to each.
@@ -199,14 +194,9 @@ fn replace_body(stands: &mut Arc<Template>, template: Arc<Template>) {
     if Arc::ptr_eq(stands, &template) {
         return;
     }
-    if is_body(&template, stands) {
+    if &template == stands {
         *stands = template;
     }
-}
-
-// Returns whether two templates are equal.
-fn is_body(template: &Template, other: &Template) -> bool {
-    template == other
 }
 
 // Replaces the templates of the policies at some places, each if the two are equal.
@@ -242,12 +232,7 @@ fn replace_equal_policy<S: BuildHasher + Clone>(links: &mut LinkedMap<PolicyID, 
 
 // Replaces a policy by another one, if they are equal.
 fn replace_policy(stands: &mut Policy, policy: Policy) {
-    if is_policy(&policy, stands) {
+    if &policy == stands {
         *stands = policy;
     }
-}
-
-// Returns whether two policies are equal.
-fn is_policy(policy: &Policy, other: &Policy) -> bool {
-    policy == other
 }

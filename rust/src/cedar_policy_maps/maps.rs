@@ -11,7 +11,11 @@ use std::hash::BuildHasher;
 use std::sync::Arc;
 
 // Appends a value with a new key. The space must be reserved.
-pub(crate) fn insert_reserved<V, S: BuildHasher + Clone>(map: &mut LinkedMap<PolicyID, V, S>, key: PolicyID, value: V) {
+pub(crate) fn insert_reserved<V: Clone, S: BuildHasher + Clone>(
+    map: &mut LinkedMap<PolicyID, V, S>,
+    key: PolicyID,
+    value: V,
+) {
     map.push(key, value);
 }
 
@@ -43,7 +47,8 @@ pub(crate) fn room_for_body<S: BuildHasher + Clone>(
     (id, listed)
 }
 
-// Reserves space for one more policy, appends its id to the list of its template, and returns a copy of the id.
+// Reserves space for one more policy, appends its id to the list of its template, and returns a copy of the id. The list
+// must not contain the id.
 pub(crate) fn list_policy<S: BuildHasher + Clone>(
     links: &mut LinkedMap<PolicyID, Policy, S>,
     map: &mut LinkedMap<PolicyID, LinkedSet<PolicyID, S>, S>,
@@ -94,27 +99,23 @@ fn set_of<S: BuildHasher + Clone>(hasher: S, id: &PolicyID) -> LinkedSet<PolicyI
 
 // Appends a copy of an id to a set, unless the set contains it.
 fn insert_id_copy<S: BuildHasher + Clone>(ids: &mut LinkedSet<PolicyID, S>, id: &PolicyID) {
-    insert_id(ids, id.clone());
+    ids.insert(id.clone());
 }
 
-// Appends an id to a set, unless the set contains it.
-fn insert_id<S: BuildHasher + Clone>(ids: &mut LinkedSet<PolicyID, S>, id: PolicyID) {
-    ids.insert(id);
+// Appends an id to a set that does not contain it.
+fn push_new_id<S: BuildHasher + Clone>(ids: &mut LinkedSet<PolicyID, S>, id: PolicyID) {
+    ids.reserve(1);
+    ids.push(id);
 }
 
-// Removes an id from a set. The order of the other ids does not change.
-fn remove_id<S: BuildHasher + Clone>(ids: &mut LinkedSet<PolicyID, S>, id: &PolicyID) {
-    ids.shift_remove(id);
-}
-
-// Appends an id to the list of a template, if there is one.
+// Appends an id to the list of a template, if there is one. The list must not contain the id.
 pub(crate) fn list_link<S: BuildHasher + Clone>(
     map: &mut LinkedMap<PolicyID, LinkedSet<PolicyID, S>, S>,
     body: &PolicyID,
     id: PolicyID,
 ) {
     if let Some(ids) = map.get_mut(body) {
-        insert_id(ids, id);
+        push_new_id(ids, id);
     }
 }
 
@@ -125,8 +126,37 @@ fn unlist_id<S: BuildHasher + Clone>(
     id: &PolicyID,
 ) {
     if let Some(ids) = map.get_mut(body) {
-        remove_id(ids, id);
+        ids.shift_remove(id);
     }
+}
+
+// Removes the body with this id and its list, and returns the body. `policy` is the policy with the id, if there is one:
+// then the id has no list, and if the policy is a link, it has no body.
+pub(crate) fn remove_body<S: BuildHasher + Clone>(
+    templates: &mut LinkedMap<PolicyID, Arc<Template>, S>,
+    map: &mut LinkedMap<PolicyID, LinkedSet<PolicyID, S>, S>,
+    policy: &Option<Policy>,
+    id: &PolicyID,
+) -> Option<Arc<Template>> {
+    match policy {
+        None => {
+            map.shift_remove(id);
+            templates.shift_remove(id)
+        }
+        Some(policy) => remove_static_body(templates, policy, id),
+    }
+}
+
+// Removes the body with the id of this policy, and returns the body. A link has none.
+fn remove_static_body<S: BuildHasher + Clone>(
+    bodies: &mut LinkedMap<PolicyID, Arc<Template>, S>,
+    policy: &Policy,
+    id: &PolicyID,
+) -> Option<Arc<Template>> {
+    if is_link(policy) {
+        return None;
+    }
+    bodies.shift_remove(id)
 }
 
 // Removes the id of a removed policy, if there is one, from the list of its template.
@@ -190,7 +220,7 @@ fn insert_policy<S: BuildHasher + Clone>(links: &mut OrderedMap<PolicyID, Policy
 }
 
 // The lists of ids to append.
-pub(crate) struct EnteringLists<S: BuildHasher> {
+pub(crate) struct EnteringLists<S> {
     // The ids of the links of each new template.
     pub(crate) listed: OrderedMap<PolicyID, LinkedSet<PolicyID, S>, S>,
     // The ids of the new links of each existing template.
@@ -290,25 +320,4 @@ fn push_list<S: BuildHasher + Clone>(
 ) {
     let ids = set_of(map.hasher().clone(), id);
     insert_new(map, body.clone(), ids);
-}
-
-// Copies the map of bodies. The bodies are shared.
-pub(crate) fn copy_of_bodies<S: BuildHasher + Clone>(
-    templates: &LinkedMap<PolicyID, Arc<Template>, S>,
-) -> LinkedMap<PolicyID, Arc<Template>, S> {
-    templates.clone()
-}
-
-// Copies the map of policies.
-pub(crate) fn copy_of_policies<S: BuildHasher + Clone>(
-    links: &LinkedMap<PolicyID, Policy, S>,
-) -> LinkedMap<PolicyID, Policy, S> {
-    links.clone()
-}
-
-// Copies the map of lists.
-pub(crate) fn copy_of_ids<S: BuildHasher + Clone>(
-    map: &LinkedMap<PolicyID, LinkedSet<PolicyID, S>, S>,
-) -> LinkedMap<PolicyID, LinkedSet<PolicyID, S>, S> {
-    map.clone()
 }

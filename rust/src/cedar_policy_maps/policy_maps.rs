@@ -4,8 +4,7 @@
 
 use crate::cedar_ids::policy_id::PolicyID;
 use crate::cedar_policy::{Policy, Template};
-use crate::cedar_policy_maps::iters::{AllTemplates, IntoPolicies, Policies, SharedBodies, StaticPolicies, Templates};
-use crate::cedar_policy_maps::maps::{copy_of_bodies, copy_of_ids, copy_of_policies};
+use crate::cedar_policy_maps::iters::{AllTemplates, IntoPolicies, Policies, StaticPolicies, Templates};
 use crate::linked_map::{LinkedMap, LinkedSet};
 use std::fmt;
 use std::hash::BuildHasher;
@@ -14,9 +13,10 @@ use std::sync::Arc;
 /// The maps of a policy set. They contain the bodies of templates and static policies by id, the policies by id, and
 /// the ids of the links of each template. `S` builds the hashers for ids.
 ///
-/// `clone` copies the three maps and the policies. Lookups use hashing. A removal takes constant time and keeps the
-/// order of the other entries.
-pub struct PolicyMaps<S: BuildHasher> {
+/// Copies share their entries. Lookups use hashing. A removal takes constant time and keeps the order of the other
+/// entries.
+#[derive(Clone)]
+pub struct PolicyMaps<S> {
     pub(crate) templates: LinkedMap<PolicyID, Arc<Template>, S>,
     pub(crate) links: LinkedMap<PolicyID, Policy, S>,
     // The ids of the links of each template. Bodies of static policies are not keys, because each has only its own
@@ -41,7 +41,7 @@ impl<S: BuildHasher + Clone> PolicyMaps<S> {
 
     /// Returns whether the set is empty. Does not allocate.
     pub fn is_empty(&self) -> bool {
-        are_empty(self.shared_bodies(), self.policies())
+        self.shared_bodies().next().is_none() && self.policies().next().is_none()
     }
 
     /// Iterates over all policies, static policies and links, in insertion order. Does not allocate.
@@ -72,25 +72,7 @@ impl<S: BuildHasher + Clone> PolicyMaps<S> {
     }
 }
 
-// Returns whether both iterators have no items.
-fn are_empty(mut bodies: SharedBodies<'_>, mut policies: Policies<'_>) -> bool {
-    bodies.next().is_none() && policies.next().is_none()
-}
-
-impl<S: BuildHasher + Clone> Clone for PolicyMaps<S> {
-    fn clone(&self) -> Self {
-        let templates = copy_of_bodies(&self.templates);
-        let links = copy_of_policies(&self.links);
-        let template_to_links_map = copy_of_ids(&self.template_to_links_map);
-        Self {
-            templates,
-            links,
-            template_to_links_map,
-        }
-    }
-}
-
-impl<S: BuildHasher> fmt::Debug for PolicyMaps<S> {
+impl<S> fmt::Debug for PolicyMaps<S> {
     /// Writes the three maps as the fields of a `PolicySet`.
     fn fmt(&self, f: &mut fmt::Formatter<'_>) -> fmt::Result {
         f.debug_struct("PolicySet")

@@ -74,22 +74,12 @@ fn id_of(stem: &str, digit: u8, id: PolicyID) -> PolicyID {
     PolicyID::from_smolstr(text)
 }
 
-// Returns the id of the number that is tried. Reuses the buffer of `id`.
-fn numbered(trial: &Trial, id: PolicyID) -> PolicyID {
-    id_of(trial.stem.as_str(), trial.digit, id)
-}
-
-// Returns whether one of the two sets uses the id.
-fn is_bound_in_either<S: BuildHasher + Clone>(here: &PolicyMaps<S>, other: &PolicyMaps<S>, id: &PolicyID) -> bool {
-    here.is_bound(id) || other.is_bound(id)
-}
-
 // Returns the first free id from this number on, and advances `trial` to its number.
 fn next_free<S: BuildHasher + Clone>(here: &PolicyMaps<S>, other: &PolicyMaps<S>, trial: &mut Trial) -> PolicyID {
     let mut id = PolicyID::from_smolstr(String::with_capacity(ROOM));
     loop {
-        id = numbered(trial, id);
-        if !is_bound_in_either(here, other, &id) {
+        id = id_of(trial.stem.as_str(), trial.digit, id);
+        if !here.is_bound(&id) && !other.is_bound(&id) {
             return id;
         }
         go_on(trial);

@@ -126,7 +126,7 @@ fn gather_body<S: BuildHasher + Clone>(
     match body_at(here, own, &mut places.body) {
         None => list_id(links, own, here.has_policy(own)),
         Some(stands) => {
-            let clashes = is_different_body(here, other, stands, template, places);
+            let clashes = stands != template || !have_policies_alike(here, other, template.id(), places);
             gather_id(ids, own, clashes);
         }
     }
@@ -158,7 +158,7 @@ fn gather_policy<S: BuildHasher + Clone>(
     match policy_at(here, own, next) {
         None => list_id(templates, own, here.has_body(own)),
         Some(stands) => {
-            let clashes = is_different_policy(ids, stands, policy);
+            let clashes = (is_link(stands) || is_link(policy)) && !is_same_policy(ids, stands, policy);
             gather_id(ids, own, clashes);
         }
     }
@@ -178,18 +178,6 @@ fn list_id(ids: &mut Vec<PolicyID>, id: &PolicyID, clashes: bool) {
     }
 }
 
-// Returns whether two bodies with one id are bound differently. If both sets have a policy with the id and the bodies
-// are equal, both policies are static and equal.
-fn is_different_body<S: BuildHasher + Clone>(
-    here: &PolicyMaps<S>,
-    other: &PolicyMaps<S>,
-    stands: &Template,
-    template: &Template,
-    places: &mut Places,
-) -> bool {
-    stands != template || !have_policies_alike(here, other, template.id(), places)
-}
-
 // Returns whether both sets or neither set have a policy with the id.
 fn have_policies_alike<S: BuildHasher + Clone>(
     here: &PolicyMaps<S>,
@@ -204,20 +192,10 @@ fn have_policies_alike<S: BuildHasher + Clone>(
     }
 }
 
-// Returns whether two policies with one id are bound differently and one of them is a link. Static policies are
-// compared by their bodies.
-fn is_different_policy<S: BuildHasher + Clone>(
-    ids: &OrderedSet<PolicyID, S>,
-    stands: &Policy,
-    policy: &Policy,
-) -> bool {
-    has_link(stands, policy) && !is_same_policy(ids, stands, policy)
-}
-
 // Returns whether two policies with one id are equal.
 fn is_same_policy<S: BuildHasher + Clone>(ids: &OrderedSet<PolicyID, S>, stands: &Policy, policy: &Policy) -> bool {
     is_same_template(ids, stands.template(), policy.template())
-        && have_links_alike(stands, policy)
+        && is_link(stands) == is_link(policy)
         && same_bindings(stands.env(), policy.env())
 }
 
@@ -231,32 +209,10 @@ fn is_same_template<S: BuildHasher + Clone>(
     if stands.id() != template.id() {
         return false;
     }
-    if is_listed_id(ids, template.id()) {
+    if !ids.is_empty() && ids.contains(template.id()) {
         return stands == template;
     }
     true
-}
-
-// Returns whether an id is in the set. Does not hash the id if the set is empty.
-fn is_listed_id<S: BuildHasher + Clone>(ids: &OrderedSet<PolicyID, S>, id: &PolicyID) -> bool {
-    if ids.is_empty() {
-        return false;
-    }
-    ids.contains(id)
-}
-
-// Returns whether both policies are links or neither is.
-fn have_links_alike(stands: &Policy, policy: &Policy) -> bool {
-    if is_link(stands) {
-        is_link(policy)
-    } else {
-        !is_link(policy)
-    }
-}
-
-// Returns whether one of the two policies is a link.
-fn has_link(stands: &Policy, policy: &Policy) -> bool {
-    is_link(stands) || is_link(policy)
 }
 
 // Returns the new id of an id, if it is renamed. Does not hash the id if there are no renamed ids.
@@ -278,10 +234,7 @@ fn is_bound_in_target<S: BuildHasher + Clone>(
     id: &PolicyID,
     next: &mut usize,
 ) -> bool {
-    match new {
-        Some(_) => false,
-        None => has_body(here, id, next) || here.has_policy(id),
-    }
+    new.is_none() && (has_body(here, id, next) || here.has_policy(id))
 }
 
 // Returns this set's policy with this id after renaming, and its place. This set uses no new id.
@@ -294,15 +247,6 @@ fn policy_in_target<'a, S: BuildHasher + Clone>(
     match new {
         Some(_) => None,
         None => here.policy_near(id, next),
-    }
-}
-
-// Returns whether this set has a body with the id `new` or, if there is no new id, `id`. A new id is never in use in
-// this set, so the result is then false.
-fn contains_body<S: BuildHasher + Clone>(here: &PolicyMaps<S>, new: Option<&PolicyID>, id: &PolicyID) -> bool {
-    match new {
-        Some(_) => false,
-        None => here.has_body(id),
     }
 }
 
@@ -372,7 +316,8 @@ struct SharedAndNewPolicies {
     joined: usize,
 }
 
-// Splits the policies of the other set, under their new ids.
+// Renames the policies of the other set, and splits them: policies that this set has too, and policies that are new to
+// it.
 fn parted_policies<S: BuildHasher + Clone>(
     here: &PolicyMaps<S>,
     other: &PolicyMaps<S>,
@@ -417,7 +362,7 @@ fn part_policy<S: BuildHasher + Clone>(
         push_shared(parted, place, stands, policy);
         return;
     }
-    if contains_body(here, new, policy.id()) {
+    if new.is_none() && here.has_body(policy.id()) {
         return;
     }
     let renamed = joining(policy, new, renaming, joined, &mut parted.joined);
@@ -447,7 +392,7 @@ fn on_new_body(policy: &Policy, new: Option<&PolicyID>, joined: &[Arc<Template>]
     let id = new?;
     match new_body_at(joined, id, next) {
         None => None,
-        Some(template) => static_on(template),
+        Some(template) => Template::try_as_policy(template.clone()).ok(),
     }
 }
 
@@ -461,11 +406,6 @@ fn push_shared(parted: &mut SharedAndNewPolicies, place: usize, stands: &Policy,
     if !Arc::ptr_eq(stands.template_arc(), policy.template_arc()) {
         parted.shares.push((place, policy.template_arc().clone()));
     }
-}
-
-// Returns the static policy of a body, unless the body has slots.
-fn static_on(template: &Arc<Template>) -> Option<Policy> {
-    Template::try_as_policy(template.clone()).ok()
 }
 
 // Returns a policy under its new id. A link gets its template under the template's new id.

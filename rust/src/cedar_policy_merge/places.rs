@@ -19,10 +19,9 @@ pub(crate) fn are_placed_as(stands: &SlotEnv, values: &SlotEnv) -> bool {
 
 // Returns whether there is a uid in `stands`, and it and its type have the same locations as `uid` and its type.
 fn is_placed_as(stands: Option<&EntityUID>, uid: &EntityUID) -> bool {
-    match stands {
-        None => false,
-        Some(stands) => is_at(stands.loc(), uid.loc()) && is_at(stands.entity_type().loc(), uid.entity_type().loc()),
-    }
+    stands.is_some_and(|stands| {
+        is_at(stands.loc(), uid.loc()) && is_at(stands.entity_type().loc(), uid.entity_type().loc())
+    })
 }
 
 // Returns whether two optional locations are both absent, or are the same range of the same text.

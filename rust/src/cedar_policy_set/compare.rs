@@ -7,13 +7,6 @@ use crate::cedar_policy_maps::{AllTemplates, Policies};
 use crate::cedar_policy_set::policy_set::PolicySet;
 use std::hash::BuildHasher;
 
-impl<S: BuildHasher + Clone> Clone for PolicySet<S> {
-    fn clone(&self) -> Self {
-        let maps = self.maps.clone();
-        Self { maps }
-    }
-}
-
 impl<S: BuildHasher + Clone> PartialEq for PolicySet<S> {
     fn eq(&self, other: &Self) -> bool {
         same_bodies(self.maps.all_templates(), other.maps.all_templates())
@@ -35,10 +28,7 @@ fn same_bodies(bodies: AllTemplates<'_>, mut others: AllTemplates<'_>) -> bool {
 
 // Returns whether a body is equal to an optional one.
 fn is_same_body(body: &Template, other: Option<&Template>) -> bool {
-    match other {
-        None => false,
-        Some(other) => body == other,
-    }
+    other.is_some_and(|other| body == other)
 }
 
 // Returns whether two lists of policies are equal, element by element.
@@ -53,8 +43,5 @@ fn same_policies(policies: Policies<'_>, mut others: Policies<'_>) -> bool {
 
 // Returns whether a policy is equal to an optional one.
 fn is_same_policy(policy: &Policy, other: Option<&Policy>) -> bool {
-    match other {
-        None => false,
-        Some(other) => policy == other,
-    }
+    other.is_some_and(|other| policy == other)
 }

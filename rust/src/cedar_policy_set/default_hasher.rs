@@ -11,26 +11,44 @@ impl PolicySet {
     /// Creates an empty policy set. Does not allocate.
     ///
     /// ```
-    /// # use cedar_store::{ast::*, entities::*};
-    /// # fn template(name: &str, principal: PrincipalConstraint) -> Template {
-    /// #     let (id, all) = (PolicyID::from_string(name), ResourceConstraint::any());
-    /// #     Template::new(id, None, Annotations::new(), Effect::Permit, principal, ActionConstraint::any(), all, None)
-    /// # }
-    /// # fn permit(name: &str) -> StaticPolicy {
-    /// #     StaticPolicy::try_from(template(name, PrincipalConstraint::any())).unwrap()
-    /// # }
+    /// use cedar_store::ast::{
+    ///     ActionConstraint, Annotations, Effect, PolicyID, PolicySet, PrincipalConstraint,
+    ///     ResourceConstraint, StaticPolicy, Template,
+    /// };
+    ///
     /// let mut set = PolicySet::new();
     /// assert!(set.is_empty());
-    /// set.add_static(permit("p"))?;
-    /// set.add_template(template("t", PrincipalConstraint::is_eq_slot()))?;
+    /// let permit = StaticPolicy::new(
+    ///     "p".into(),
+    ///     None,
+    ///     Annotations::new(),
+    ///     Effect::Permit,
+    ///     PrincipalConstraint::any(),
+    ///     ActionConstraint::any(),
+    ///     ResourceConstraint::any(),
+    ///     None,
+    /// )?;
+    /// set.add_static(permit.clone())?;
+    /// let template = Template::new(
+    ///     "t".into(),
+    ///     None,
+    ///     Annotations::new(),
+    ///     Effect::Permit,
+    ///     PrincipalConstraint::is_eq_slot(),
+    ///     ActionConstraint::any(),
+    ///     ResourceConstraint::any(),
+    ///     None,
+    /// );
+    /// set.add_template(template)?;
     /// assert!(set.get(&PolicyID::from_string("p")).is_some() && set.get(&PolicyID::from_string("t")).is_none());
     /// assert!(set.get_template(&PolicyID::from_string("t")).is_some());
     /// assert!(set.get_template_arc(&PolicyID::from_string("p")).is_some());
     /// // an id can be bound only once
-    /// let error = set.add_static(permit("t")).unwrap_err();
+    /// let error = set.add_static(permit.new_id("t".into())).unwrap_err();
     /// assert_eq!(error.to_string(), "duplicate template or policy id `t`");
     /// # Ok::<(), Box<dyn std::error::Error>>(())
     /// ```
+    #[must_use]
     pub fn new() -> Self {
         Self::with_hasher(KeyedState::default())
     }
@@ -44,24 +62,8 @@ impl PolicySet {
     ///
     /// The original accepts any link.
     ///
-    /// ```
-    /// # use cedar_store::{ast::*, entities::*};
-    /// # fn uid(text: &str) -> EntityUID { EntityUID::from_normalized_str(text).unwrap() }
-    /// # fn template(name: &str, principal: PrincipalConstraint) -> Template {
-    /// #     let (id, all) = (PolicyID::from_string(name), ResourceConstraint::any());
-    /// #     Template::new(id, None, Annotations::new(), Effect::Permit, principal, ActionConstraint::any(), all, None)
-    /// # }
-    /// # use std::sync::Arc;
-    /// let bound = SlotEnv::from([(SlotId::principal(), uid(r#"User::"alice""#))]);
-    /// let template = Arc::new(template("t", PrincipalConstraint::is_eq_slot()));
-    /// let link = Template::link(template, PolicyID::from_string("l"), bound)?;
-    /// // a link is added with its template
-    /// let mut set = PolicySet::new();
-    /// set.add(link.clone())?;
-    /// assert!(set.get_template(&PolicyID::from_string("t")).is_some());
-    /// assert_eq!(PolicySet::singleton(link), set);
-    /// # Ok::<(), Box<dyn std::error::Error>>(())
-    /// ```
+    /// [`Self::add`] has an example.
+    #[must_use]
     pub fn singleton(policy: Policy) -> Self {
         debug_assert!(
             policy.is_static() || policy.id() != policy.template().id(),
@@ -81,15 +83,9 @@ impl PolicySet {
     /// - `Occupied`: an id is already in use.
     ///
     /// ```
-    /// # use cedar_store::{ast::*, entities::*};
-    /// # fn template(name: &str, principal: PrincipalConstraint) -> Template {
-    /// #     let (id, all) = (PolicyID::from_string(name), ResourceConstraint::any());
-    /// #     Template::new(id, None, Annotations::new(), Effect::Permit, principal, ActionConstraint::any(), all, None)
-    /// # }
-    /// # fn permit(name: &str) -> StaticPolicy {
-    /// #     StaticPolicy::try_from(template(name, PrincipalConstraint::any())).unwrap()
-    /// # }
-    /// let both = || ["p", "q"].map(|name| Policy::from(permit(name)));
+    /// use cedar_store::ast::{Effect, Expr, Policy, PolicySet};
+    ///
+    /// let both = || ["p", "q"].map(|id| Policy::from_when_clause(Effect::Permit, Expr::val(true), id.into(), None));
     /// let set = PolicySet::try_from_iter(both())?;
     /// assert_eq!(set.policies().count(), 2);
     /// let keyed = PolicySet::try_from_iter_with_hasher(cedar_store::KeyedState::with_keys(1, 2), both())?;

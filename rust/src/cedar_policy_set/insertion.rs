@@ -20,22 +20,7 @@ impl<S: BuildHasher + Clone> PolicySet<S> {
     ///
     /// - `Occupied`: an id is already in use.
     ///
-    /// ```
-    /// # use cedar_store::{ast::*, entities::*};
-    /// # fn template(name: &str, principal: PrincipalConstraint) -> Template {
-    /// #     let (id, all) = (PolicyID::from_string(name), ResourceConstraint::any());
-    /// #     Template::new(id, None, Annotations::new(), Effect::Permit, principal, ActionConstraint::any(), all, None)
-    /// # }
-    /// # fn permit(name: &str) -> StaticPolicy {
-    /// #     StaticPolicy::try_from(template(name, PrincipalConstraint::any())).unwrap()
-    /// # }
-    /// let both = || ["p", "q"].map(|name| Policy::from(permit(name)));
-    /// let set = PolicySet::try_from_iter(both())?;
-    /// assert_eq!(set.policies().count(), 2);
-    /// let keyed = PolicySet::try_from_iter_with_hasher(cedar_store::KeyedState::with_keys(1, 2), both())?;
-    /// assert_eq!(set, keyed);
-    /// # Ok::<(), Box<dyn std::error::Error>>(())
-    /// ```
+    /// [`Self::try_from_iter`] has an example.
     pub fn try_from_iter_with_hasher(
         hasher: S,
         policies: impl IntoIterator<Item = Policy>,
@@ -73,27 +58,7 @@ impl<S: BuildHasher + Clone> PolicySet<S> {
     ///
     /// O(1) lookups. Allocates the shared body, the policy's block, and space in the two maps.
     ///
-    /// ```
-    /// # use cedar_store::{ast::*, entities::*};
-    /// # fn template(name: &str, principal: PrincipalConstraint) -> Template {
-    /// #     let (id, all) = (PolicyID::from_string(name), ResourceConstraint::any());
-    /// #     Template::new(id, None, Annotations::new(), Effect::Permit, principal, ActionConstraint::any(), all, None)
-    /// # }
-    /// # fn permit(name: &str) -> StaticPolicy {
-    /// #     StaticPolicy::try_from(template(name, PrincipalConstraint::any())).unwrap()
-    /// # }
-    /// let mut set = PolicySet::new();
-    /// assert!(set.is_empty());
-    /// set.add_static(permit("p"))?;
-    /// set.add_template(template("t", PrincipalConstraint::is_eq_slot()))?;
-    /// assert!(set.get(&PolicyID::from_string("p")).is_some() && set.get(&PolicyID::from_string("t")).is_none());
-    /// assert!(set.get_template(&PolicyID::from_string("t")).is_some());
-    /// assert!(set.get_template_arc(&PolicyID::from_string("p")).is_some());
-    /// // an id can be bound only once
-    /// let error = set.add_static(permit("t")).unwrap_err();
-    /// assert_eq!(error.to_string(), "duplicate template or policy id `t`");
-    /// # Ok::<(), Box<dyn std::error::Error>>(())
-    /// ```
+    /// [`Self::new`] has an example.
     pub fn add_static(&mut self, policy: StaticPolicy) -> Result<(), PolicySetError> {
         self.check_free(policy.id())?;
         let policy = Policy::from_static(policy);
@@ -113,27 +78,7 @@ impl<S: BuildHasher + Clone> PolicySet<S> {
     ///
     /// O(1) lookups. Allocates the shared template and space in the map.
     ///
-    /// ```
-    /// # use cedar_store::{ast::*, entities::*};
-    /// # fn template(name: &str, principal: PrincipalConstraint) -> Template {
-    /// #     let (id, all) = (PolicyID::from_string(name), ResourceConstraint::any());
-    /// #     Template::new(id, None, Annotations::new(), Effect::Permit, principal, ActionConstraint::any(), all, None)
-    /// # }
-    /// # fn permit(name: &str) -> StaticPolicy {
-    /// #     StaticPolicy::try_from(template(name, PrincipalConstraint::any())).unwrap()
-    /// # }
-    /// let mut set = PolicySet::new();
-    /// assert!(set.is_empty());
-    /// set.add_static(permit("p"))?;
-    /// set.add_template(template("t", PrincipalConstraint::is_eq_slot()))?;
-    /// assert!(set.get(&PolicyID::from_string("p")).is_some() && set.get(&PolicyID::from_string("t")).is_none());
-    /// assert!(set.get_template(&PolicyID::from_string("t")).is_some());
-    /// assert!(set.get_template_arc(&PolicyID::from_string("p")).is_some());
-    /// // an id can be bound only once
-    /// let error = set.add_static(permit("t")).unwrap_err();
-    /// assert_eq!(error.to_string(), "duplicate template or policy id `t`");
-    /// # Ok::<(), Box<dyn std::error::Error>>(())
-    /// ```
+    /// [`Self::new`] has an example.
     pub fn add_template(&mut self, template: Template) -> Result<(), PolicySetError> {
         self.check_free(template.id())?;
         let template = Arc::new(template);
@@ -166,15 +111,23 @@ impl<S: BuildHasher + Clone> PolicySet<S> {
     /// - a link whose template is equal to a static policy
     ///
     /// ```
-    /// # use cedar_store::{ast::*, entities::*};
-    /// # fn uid(text: &str) -> EntityUID { EntityUID::from_normalized_str(text).unwrap() }
-    /// # fn template(name: &str, principal: PrincipalConstraint) -> Template {
-    /// #     let (id, all) = (PolicyID::from_string(name), ResourceConstraint::any());
-    /// #     Template::new(id, None, Annotations::new(), Effect::Permit, principal, ActionConstraint::any(), all, None)
-    /// # }
-    /// # use std::sync::Arc;
-    /// let bound = SlotEnv::from([(SlotId::principal(), uid(r#"User::"alice""#))]);
-    /// let template = Arc::new(template("t", PrincipalConstraint::is_eq_slot()));
+    /// use cedar_store::ast::{
+    ///     ActionConstraint, Annotations, Effect, PolicyID, PolicySet, PrincipalConstraint,
+    ///     ResourceConstraint, SlotEnv, SlotId, Template,
+    /// };
+    /// use std::sync::Arc;
+    ///
+    /// let bound = SlotEnv::from([(SlotId::principal(), r#"User::"alice""#.parse()?)]);
+    /// let template = Arc::new(Template::new(
+    ///     "t".into(),
+    ///     None,
+    ///     Annotations::new(),
+    ///     Effect::Permit,
+    ///     PrincipalConstraint::is_eq_slot(),
+    ///     ActionConstraint::any(),
+    ///     ResourceConstraint::any(),
+    ///     None,
+    /// ));
     /// let link = Template::link(template, PolicyID::from_string("l"), bound)?;
     /// // a link is added with its template
     /// let mut set = PolicySet::new();
@@ -330,7 +283,7 @@ fn single_id_of(link: Policy) -> PolicyID {
     let (_, id, _) = link.into_components();
     match id {
         Some(id) => id,
-        None => unreachable!(),
+        None => unreachable!("a link has an id of its own"),
     }
 }
 

@@ -24,16 +24,25 @@ impl<S: BuildHasher + Clone> PolicySet<S> {
     /// O(1) lookups, and the check of the bindings. Allocates the link, space in the maps, and the lists of an error.
     ///
     /// ```
-    /// # use cedar_store::{ast::*, entities::*};
-    /// # fn uid(text: &str) -> EntityUID { EntityUID::from_normalized_str(text).unwrap() }
-    /// # fn template(name: &str, principal: PrincipalConstraint) -> Template {
-    /// #     let (id, all) = (PolicyID::from_string(name), ResourceConstraint::any());
-    /// #     Template::new(id, None, Annotations::new(), Effect::Permit, principal, ActionConstraint::any(), all, None)
-    /// # }
+    /// use cedar_store::ast::{
+    ///     ActionConstraint, Annotations, Effect, PolicyID, PolicySet, PolicySetUnlinkError,
+    ///     PrincipalConstraint, ResourceConstraint, SlotEnv, SlotId, Template,
+    /// };
+    ///
     /// let mut set = PolicySet::new();
-    /// set.add_template(template("t", PrincipalConstraint::is_eq_slot()))?;
+    /// let template = Template::new(
+    ///     "t".into(),
+    ///     None,
+    ///     Annotations::new(),
+    ///     Effect::Permit,
+    ///     PrincipalConstraint::is_eq_slot(),
+    ///     ActionConstraint::any(),
+    ///     ResourceConstraint::any(),
+    ///     None,
+    /// );
+    /// set.add_template(template)?;
     /// let (t, l) = (PolicyID::from_string("t"), PolicyID::from_string("l"));
-    /// let bound = SlotEnv::from([(SlotId::principal(), uid(r#"User::"alice""#))]);
+    /// let bound = SlotEnv::from([(SlotId::principal(), r#"User::"alice""#.parse()?)]);
     /// let link = set.link(t.clone(), l.clone(), bound)?;
     /// assert_eq!(link.template().id(), &t);
     /// assert_eq!(set.get_linked_policies(&t)?.collect::<Vec<_>>(), [&l]);

@@ -47,7 +47,8 @@ impl<S: BuildHasher + Clone> PolicySet<S> {
     /// static policy.
     ///
     /// ```
-    /// # use cedar_store::{ast::*, entities::*};
+    /// use cedar_store::ast::{Effect, Expr, Policy, PolicyID, PolicySet};
+    ///
     /// let one = |clause| PolicySet::singleton(Policy::from_when_clause(
     ///     Effect::Permit, Expr::val(clause), PolicyID::from_string("policy0"), None,
     /// ));

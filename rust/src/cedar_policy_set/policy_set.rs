@@ -18,19 +18,24 @@ use std::sync::Arc;
 /// A set has two orders. The bodies belong to static policies and templates, in insertion order. The policies are the
 /// static policies and links, in insertion order.
 ///
-/// Equality compares both orders and all values. It ignores locations and does not allocate. `clone` allocates three
-/// maps and the copies of the policies. `Display` does not allocate. A lookup by id scans nothing.
+/// Equality compares both orders and all values. It ignores locations and does not allocate. `Display` does not
+/// allocate. A lookup by id scans nothing.
+///
+/// A clone shares the policies, the templates and the maps. For n policies and templates it costs O(n / 128). A change
+/// of either set costs what it changes. In addition it copies each part of a map that it changes for the first time, of
+/// up to 128 entries.
 ///
 /// # Hashing
 ///
 /// The maps hash ids with a key that is drawn once for the process. [`PolicySet::with_hasher`] takes another. `S` is
 /// the type of the builder. The maps that the calls create use the same builder. The choice of hasher never changes a
 /// result.
-pub struct PolicySet<S: BuildHasher = KeyedState> {
+#[derive(Clone)]
+pub struct PolicySet<S = KeyedState> {
     pub(crate) maps: PolicyMaps<S>,
 }
 
-impl<S: BuildHasher> fmt::Debug for PolicySet<S> {
+impl<S> fmt::Debug for PolicySet<S> {
     /// Writes the three maps of the set.
     fn fmt(&self, f: &mut fmt::Formatter<'_>) -> fmt::Result {
         fmt::Debug::fmt(&self.maps, f)
@@ -45,11 +50,13 @@ impl<S: BuildHasher + Clone> PolicySet<S> {
     /// The original has only one hasher.
     ///
     /// ```
-    /// # use cedar_store::{ast::*, entities::*};
+    /// use cedar_store::ast::PolicySet;
+    ///
     /// let set = PolicySet::with_hasher(cedar_store::KeyedState::with_keys(1, 2));
     /// let other = PolicySet::with_hasher(*set.hasher());
     /// assert_eq!(set, other);
     /// ```
+    #[must_use]
     pub fn with_hasher(hasher: S) -> Self {
         Self {
             maps: PolicyMaps::with_hasher(hasher),
@@ -58,66 +65,24 @@ impl<S: BuildHasher + Clone> PolicySet<S> {
 
     /// Returns the builder of hashers. Does not allocate.
     ///
-    /// ```
-    /// # use cedar_store::{ast::*, entities::*};
-    /// let set = PolicySet::with_hasher(cedar_store::KeyedState::with_keys(1, 2));
-    /// let other = PolicySet::with_hasher(*set.hasher());
-    /// assert_eq!(set, other);
-    /// ```
+    /// [`Self::with_hasher`] has an example.
+    #[must_use]
     pub fn hasher(&self) -> &S {
         self.maps.hasher()
     }
 
     /// Returns whether nothing is bound. Does not allocate.
     ///
-    /// ```
-    /// # use cedar_store::{ast::*, entities::*};
-    /// # fn template(name: &str, principal: PrincipalConstraint) -> Template {
-    /// #     let (id, all) = (PolicyID::from_string(name), ResourceConstraint::any());
-    /// #     Template::new(id, None, Annotations::new(), Effect::Permit, principal, ActionConstraint::any(), all, None)
-    /// # }
-    /// # fn permit(name: &str) -> StaticPolicy {
-    /// #     StaticPolicy::try_from(template(name, PrincipalConstraint::any())).unwrap()
-    /// # }
-    /// let mut set = PolicySet::new();
-    /// assert!(set.is_empty());
-    /// set.add_static(permit("p"))?;
-    /// set.add_template(template("t", PrincipalConstraint::is_eq_slot()))?;
-    /// assert!(set.get(&PolicyID::from_string("p")).is_some() && set.get(&PolicyID::from_string("t")).is_none());
-    /// assert!(set.get_template(&PolicyID::from_string("t")).is_some());
-    /// assert!(set.get_template_arc(&PolicyID::from_string("p")).is_some());
-    /// // an id can be bound only once
-    /// let error = set.add_static(permit("t")).unwrap_err();
-    /// assert_eq!(error.to_string(), "duplicate template or policy id `t`");
-    /// # Ok::<(), Box<dyn std::error::Error>>(())
-    /// ```
+    /// [`Self::new`] has an example.
+    #[must_use]
     pub fn is_empty(&self) -> bool {
         self.maps.is_empty()
     }
 
     /// Returns the policy with this id, a static policy or a link. Makes one lookup, and does not allocate.
     ///
-    /// ```
-    /// # use cedar_store::{ast::*, entities::*};
-    /// # fn template(name: &str, principal: PrincipalConstraint) -> Template {
-    /// #     let (id, all) = (PolicyID::from_string(name), ResourceConstraint::any());
-    /// #     Template::new(id, None, Annotations::new(), Effect::Permit, principal, ActionConstraint::any(), all, None)
-    /// # }
-    /// # fn permit(name: &str) -> StaticPolicy {
-    /// #     StaticPolicy::try_from(template(name, PrincipalConstraint::any())).unwrap()
-    /// # }
-    /// let mut set = PolicySet::new();
-    /// assert!(set.is_empty());
-    /// set.add_static(permit("p"))?;
-    /// set.add_template(template("t", PrincipalConstraint::is_eq_slot()))?;
-    /// assert!(set.get(&PolicyID::from_string("p")).is_some() && set.get(&PolicyID::from_string("t")).is_none());
-    /// assert!(set.get_template(&PolicyID::from_string("t")).is_some());
-    /// assert!(set.get_template_arc(&PolicyID::from_string("p")).is_some());
-    /// // an id can be bound only once
-    /// let error = set.add_static(permit("t")).unwrap_err();
-    /// assert_eq!(error.to_string(), "duplicate template or policy id `t`");
-    /// # Ok::<(), Box<dyn std::error::Error>>(())
-    /// ```
+    /// [`Self::new`] has an example.
+    #[must_use]
     pub fn get(&self, id: &PolicyID) -> Option<&Policy> {
         self.maps.policy_at(id)
     }
@@ -128,54 +93,16 @@ impl<S: BuildHasher + Clone> PolicySet<S> {
     ///
     /// The original returns a new reference to the body.
     ///
-    /// ```
-    /// # use cedar_store::{ast::*, entities::*};
-    /// # fn template(name: &str, principal: PrincipalConstraint) -> Template {
-    /// #     let (id, all) = (PolicyID::from_string(name), ResourceConstraint::any());
-    /// #     Template::new(id, None, Annotations::new(), Effect::Permit, principal, ActionConstraint::any(), all, None)
-    /// # }
-    /// # fn permit(name: &str) -> StaticPolicy {
-    /// #     StaticPolicy::try_from(template(name, PrincipalConstraint::any())).unwrap()
-    /// # }
-    /// let mut set = PolicySet::new();
-    /// assert!(set.is_empty());
-    /// set.add_static(permit("p"))?;
-    /// set.add_template(template("t", PrincipalConstraint::is_eq_slot()))?;
-    /// assert!(set.get(&PolicyID::from_string("p")).is_some() && set.get(&PolicyID::from_string("t")).is_none());
-    /// assert!(set.get_template(&PolicyID::from_string("t")).is_some());
-    /// assert!(set.get_template_arc(&PolicyID::from_string("p")).is_some());
-    /// // an id can be bound only once
-    /// let error = set.add_static(permit("t")).unwrap_err();
-    /// assert_eq!(error.to_string(), "duplicate template or policy id `t`");
-    /// # Ok::<(), Box<dyn std::error::Error>>(())
-    /// ```
+    /// [`Self::new`] has an example.
+    #[must_use]
     pub fn get_template_arc(&self, id: &PolicyID) -> Option<Arc<Template>> {
         self.maps.body_at(id).cloned()
     }
 
     /// Returns the body of the static policy or template with this id. Makes one lookup, and does not allocate.
     ///
-    /// ```
-    /// # use cedar_store::{ast::*, entities::*};
-    /// # fn template(name: &str, principal: PrincipalConstraint) -> Template {
-    /// #     let (id, all) = (PolicyID::from_string(name), ResourceConstraint::any());
-    /// #     Template::new(id, None, Annotations::new(), Effect::Permit, principal, ActionConstraint::any(), all, None)
-    /// # }
-    /// # fn permit(name: &str) -> StaticPolicy {
-    /// #     StaticPolicy::try_from(template(name, PrincipalConstraint::any())).unwrap()
-    /// # }
-    /// let mut set = PolicySet::new();
-    /// assert!(set.is_empty());
-    /// set.add_static(permit("p"))?;
-    /// set.add_template(template("t", PrincipalConstraint::is_eq_slot()))?;
-    /// assert!(set.get(&PolicyID::from_string("p")).is_some() && set.get(&PolicyID::from_string("t")).is_none());
-    /// assert!(set.get_template(&PolicyID::from_string("t")).is_some());
-    /// assert!(set.get_template_arc(&PolicyID::from_string("p")).is_some());
-    /// // an id can be bound only once
-    /// let error = set.add_static(permit("t")).unwrap_err();
-    /// assert_eq!(error.to_string(), "duplicate template or policy id `t`");
-    /// # Ok::<(), Box<dyn std::error::Error>>(())
-    /// ```
+    /// [`Self::new`] has an example.
+    #[must_use]
     pub fn get_template(&self, id: &PolicyID) -> Option<&Template> {
         self.maps.template_at(id)
     }
@@ -183,47 +110,49 @@ impl<S: BuildHasher + Clone> PolicySet<S> {
     /// Iterates over the policies, static policies and links, in insertion order. Does not allocate.
     ///
     /// ```
-    /// # use cedar_store::{ast::*, entities::*};
-    /// # fn template(name: &str, principal: PrincipalConstraint) -> Template {
-    /// #     let (id, all) = (PolicyID::from_string(name), ResourceConstraint::any());
-    /// #     Template::new(id, None, Annotations::new(), Effect::Permit, principal, ActionConstraint::any(), all, None)
-    /// # }
-    /// # fn permit(name: &str) -> StaticPolicy {
-    /// #     StaticPolicy::try_from(template(name, PrincipalConstraint::any())).unwrap()
-    /// # }
+    /// use cedar_store::ast::{
+    ///     ActionConstraint, Annotations, Effect, PolicySet, PrincipalConstraint, ResourceConstraint,
+    ///     StaticPolicy, Template,
+    /// };
+    ///
     /// let mut set = PolicySet::new();
-    /// set.add_static(permit("p"))?;
-    /// set.add_template(template("t", PrincipalConstraint::is_eq_slot()))?;
+    /// let permit = StaticPolicy::new(
+    ///     "p".into(),
+    ///     None,
+    ///     Annotations::new(),
+    ///     Effect::Permit,
+    ///     PrincipalConstraint::any(),
+    ///     ActionConstraint::any(),
+    ///     ResourceConstraint::any(),
+    ///     None,
+    /// )?;
+    /// set.add_static(permit)?;
+    /// let template = Template::new(
+    ///     "t".into(),
+    ///     None,
+    ///     Annotations::new(),
+    ///     Effect::Permit,
+    ///     PrincipalConstraint::is_eq_slot(),
+    ///     ActionConstraint::any(),
+    ///     ResourceConstraint::any(),
+    ///     None,
+    /// );
+    /// set.add_template(template)?;
     /// assert_eq!((set.policies().count(), set.static_policies().count()), (1, 1));
     /// // `all_templates` includes the bodies of static policies, and `templates` does not
     /// assert_eq!((set.all_templates().count(), set.templates().count()), (2, 1));
     /// assert_eq!(set.into_policies().map(|policy| policy.id().to_string()).collect::<Vec<_>>(), ["p"]);
     /// # Ok::<(), Box<dyn std::error::Error>>(())
     /// ```
+    #[must_use]
     pub fn policies(&self) -> Policies<'_> {
         self.maps.policies()
     }
 
     /// Iterates over the policies, static policies and links, in insertion order. Consumes the set. Does not allocate.
     ///
-    /// ```
-    /// # use cedar_store::{ast::*, entities::*};
-    /// # fn template(name: &str, principal: PrincipalConstraint) -> Template {
-    /// #     let (id, all) = (PolicyID::from_string(name), ResourceConstraint::any());
-    /// #     Template::new(id, None, Annotations::new(), Effect::Permit, principal, ActionConstraint::any(), all, None)
-    /// # }
-    /// # fn permit(name: &str) -> StaticPolicy {
-    /// #     StaticPolicy::try_from(template(name, PrincipalConstraint::any())).unwrap()
-    /// # }
-    /// let mut set = PolicySet::new();
-    /// set.add_static(permit("p"))?;
-    /// set.add_template(template("t", PrincipalConstraint::is_eq_slot()))?;
-    /// assert_eq!((set.policies().count(), set.static_policies().count()), (1, 1));
-    /// // `all_templates` includes the bodies of static policies, and `templates` does not
-    /// assert_eq!((set.all_templates().count(), set.templates().count()), (2, 1));
-    /// assert_eq!(set.into_policies().map(|policy| policy.id().to_string()).collect::<Vec<_>>(), ["p"]);
-    /// # Ok::<(), Box<dyn std::error::Error>>(())
-    /// ```
+    /// [`Self::policies`] has an example.
+    #[must_use]
     pub fn into_policies(self) -> IntoPolicies {
         let Self { maps } = self;
         maps.into_policies()
@@ -231,72 +160,24 @@ impl<S: BuildHasher + Clone> PolicySet<S> {
 
     /// Iterates over the bodies of all static policies and templates, in insertion order. Does not allocate.
     ///
-    /// ```
-    /// # use cedar_store::{ast::*, entities::*};
-    /// # fn template(name: &str, principal: PrincipalConstraint) -> Template {
-    /// #     let (id, all) = (PolicyID::from_string(name), ResourceConstraint::any());
-    /// #     Template::new(id, None, Annotations::new(), Effect::Permit, principal, ActionConstraint::any(), all, None)
-    /// # }
-    /// # fn permit(name: &str) -> StaticPolicy {
-    /// #     StaticPolicy::try_from(template(name, PrincipalConstraint::any())).unwrap()
-    /// # }
-    /// let mut set = PolicySet::new();
-    /// set.add_static(permit("p"))?;
-    /// set.add_template(template("t", PrincipalConstraint::is_eq_slot()))?;
-    /// assert_eq!((set.policies().count(), set.static_policies().count()), (1, 1));
-    /// // `all_templates` includes the bodies of static policies, and `templates` does not
-    /// assert_eq!((set.all_templates().count(), set.templates().count()), (2, 1));
-    /// assert_eq!(set.into_policies().map(|policy| policy.id().to_string()).collect::<Vec<_>>(), ["p"]);
-    /// # Ok::<(), Box<dyn std::error::Error>>(())
-    /// ```
+    /// [`Self::policies`] has an example.
+    #[must_use]
     pub fn all_templates(&self) -> AllTemplates<'_> {
         self.maps.all_templates()
     }
 
     /// Iterates over the bodies that have slots, in insertion order. Does not allocate.
     ///
-    /// ```
-    /// # use cedar_store::{ast::*, entities::*};
-    /// # fn template(name: &str, principal: PrincipalConstraint) -> Template {
-    /// #     let (id, all) = (PolicyID::from_string(name), ResourceConstraint::any());
-    /// #     Template::new(id, None, Annotations::new(), Effect::Permit, principal, ActionConstraint::any(), all, None)
-    /// # }
-    /// # fn permit(name: &str) -> StaticPolicy {
-    /// #     StaticPolicy::try_from(template(name, PrincipalConstraint::any())).unwrap()
-    /// # }
-    /// let mut set = PolicySet::new();
-    /// set.add_static(permit("p"))?;
-    /// set.add_template(template("t", PrincipalConstraint::is_eq_slot()))?;
-    /// assert_eq!((set.policies().count(), set.static_policies().count()), (1, 1));
-    /// // `all_templates` includes the bodies of static policies, and `templates` does not
-    /// assert_eq!((set.all_templates().count(), set.templates().count()), (2, 1));
-    /// assert_eq!(set.into_policies().map(|policy| policy.id().to_string()).collect::<Vec<_>>(), ["p"]);
-    /// # Ok::<(), Box<dyn std::error::Error>>(())
-    /// ```
+    /// [`Self::policies`] has an example.
+    #[must_use]
     pub fn templates(&self) -> Templates<'_> {
         self.maps.templates()
     }
 
     /// Iterates over the static policies, in insertion order. Does not allocate.
     ///
-    /// ```
-    /// # use cedar_store::{ast::*, entities::*};
-    /// # fn template(name: &str, principal: PrincipalConstraint) -> Template {
-    /// #     let (id, all) = (PolicyID::from_string(name), ResourceConstraint::any());
-    /// #     Template::new(id, None, Annotations::new(), Effect::Permit, principal, ActionConstraint::any(), all, None)
-    /// # }
-    /// # fn permit(name: &str) -> StaticPolicy {
-    /// #     StaticPolicy::try_from(template(name, PrincipalConstraint::any())).unwrap()
-    /// # }
-    /// let mut set = PolicySet::new();
-    /// set.add_static(permit("p"))?;
-    /// set.add_template(template("t", PrincipalConstraint::is_eq_slot()))?;
-    /// assert_eq!((set.policies().count(), set.static_policies().count()), (1, 1));
-    /// // `all_templates` includes the bodies of static policies, and `templates` does not
-    /// assert_eq!((set.all_templates().count(), set.templates().count()), (2, 1));
-    /// assert_eq!(set.into_policies().map(|policy| policy.id().to_string()).collect::<Vec<_>>(), ["p"]);
-    /// # Ok::<(), Box<dyn std::error::Error>>(())
-    /// ```
+    /// [`Self::policies`] has an example.
+    #[must_use]
     pub fn static_policies(&self) -> StaticPolicies<'_> {
         self.maps.static_policies()
     }
@@ -312,24 +193,7 @@ impl<S: BuildHasher + Clone> PolicySet<S> {
     ///
     /// At most two lookups. Allocates only for an error.
     ///
-    /// ```
-    /// # use cedar_store::{ast::*, entities::*};
-    /// # fn uid(text: &str) -> EntityUID { EntityUID::from_normalized_str(text).unwrap() }
-    /// # fn template(name: &str, principal: PrincipalConstraint) -> Template {
-    /// #     let (id, all) = (PolicyID::from_string(name), ResourceConstraint::any());
-    /// #     Template::new(id, None, Annotations::new(), Effect::Permit, principal, ActionConstraint::any(), all, None)
-    /// # }
-    /// let mut set = PolicySet::new();
-    /// set.add_template(template("t", PrincipalConstraint::is_eq_slot()))?;
-    /// let (t, l) = (PolicyID::from_string("t"), PolicyID::from_string("l"));
-    /// let bound = SlotEnv::from([(SlotId::principal(), uid(r#"User::"alice""#))]);
-    /// let link = set.link(t.clone(), l.clone(), bound)?;
-    /// assert_eq!(link.template().id(), &t);
-    /// assert_eq!(set.get_linked_policies(&t)?.collect::<Vec<_>>(), [&l]);
-    /// assert_eq!(set.unlink(&l)?.id(), &l);
-    /// assert!(matches!(set.unlink(&l), Err(PolicySetUnlinkError::UnlinkingError(id)) if id == l));
-    /// # Ok::<(), Box<dyn std::error::Error>>(())
-    /// ```
+    /// [`Self::link`] has an example.
     pub fn get_linked_policies(&self, id: &PolicyID) -> Result<LinkedIds<'_>, PolicySetGetLinksError> {
         match self.maps.linked_ids(id) {
             None => Err(PolicySetGetLinksError::MissingTemplate(id.clone())),

@@ -29,26 +29,10 @@ impl<S: BuildHasher + Clone> PolicySet<S> {
     ///
     /// The original panics if its map of links does not contain the template.
     ///
-    /// ```
-    /// # use cedar_store::{ast::*, entities::*};
-    /// # fn uid(text: &str) -> EntityUID { EntityUID::from_normalized_str(text).unwrap() }
-    /// # fn template(name: &str, principal: PrincipalConstraint) -> Template {
-    /// #     let (id, all) = (PolicyID::from_string(name), ResourceConstraint::any());
-    /// #     Template::new(id, None, Annotations::new(), Effect::Permit, principal, ActionConstraint::any(), all, None)
-    /// # }
-    /// let mut set = PolicySet::new();
-    /// set.add_template(template("t", PrincipalConstraint::is_eq_slot()))?;
-    /// let (t, l) = (PolicyID::from_string("t"), PolicyID::from_string("l"));
-    /// let bound = SlotEnv::from([(SlotId::principal(), uid(r#"User::"alice""#))]);
-    /// let link = set.link(t.clone(), l.clone(), bound)?;
-    /// assert_eq!(link.template().id(), &t);
-    /// assert_eq!(set.get_linked_policies(&t)?.collect::<Vec<_>>(), [&l]);
-    /// assert_eq!(set.unlink(&l)?.id(), &l);
-    /// assert!(matches!(set.unlink(&l), Err(PolicySetUnlinkError::UnlinkingError(id)) if id == l));
-    /// # Ok::<(), Box<dyn std::error::Error>>(())
-    /// ```
+    /// [`Self::link`] has an example.
     pub fn unlink(&mut self, id: &PolicyID) -> Result<Policy, PolicySetUnlinkError> {
-        match self.maps.found(id) {
+        let mut place = usize::MAX;
+        match self.maps.found_near(id, &mut place) {
             None => return Err(PolicySetUnlinkError::UnlinkingError(id.clone())),
             Some(PolicyOrTemplate::Template(_)) => {
                 return Err(PolicySetUnlinkError::NotLinkError(id.clone()));
@@ -59,10 +43,10 @@ impl<S: BuildHasher + Clone> PolicySet<S> {
                 }
             }
         }
-        let (_, policy) = self.maps.take(id);
+        let (_, policy) = self.maps.take_near(id, place);
         match policy {
             Some(policy) => Ok(policy),
-            None => unreachable!(),
+            None => unreachable!("the id of a policy is bound until its removal"),
         }
     }
 
@@ -85,17 +69,34 @@ impl<S: BuildHasher + Clone> PolicySet<S> {
     /// In the original a call that fails because the id belongs to a link moves the link to the end.
     ///
     /// ```
-    /// # use cedar_store::{ast::*, entities::*};
-    /// # fn template(name: &str, principal: PrincipalConstraint) -> Template {
-    /// #     let (id, all) = (PolicyID::from_string(name), ResourceConstraint::any());
-    /// #     Template::new(id, None, Annotations::new(), Effect::Permit, principal, ActionConstraint::any(), all, None)
-    /// # }
-    /// # fn permit(name: &str) -> StaticPolicy {
-    /// #     StaticPolicy::try_from(template(name, PrincipalConstraint::any())).unwrap()
-    /// # }
+    /// use cedar_store::ast::{
+    ///     ActionConstraint, Annotations, Effect, PolicyID, PolicySet, PrincipalConstraint,
+    ///     ResourceConstraint, StaticPolicy, Template,
+    /// };
+    ///
     /// let mut set = PolicySet::new();
-    /// set.add_static(permit("p"))?;
-    /// set.add_template(template("t", PrincipalConstraint::any()))?;
+    /// let permit = StaticPolicy::new(
+    ///     "p".into(),
+    ///     None,
+    ///     Annotations::new(),
+    ///     Effect::Permit,
+    ///     PrincipalConstraint::any(),
+    ///     ActionConstraint::any(),
+    ///     ResourceConstraint::any(),
+    ///     None,
+    /// )?;
+    /// set.add_static(permit)?;
+    /// let template = Template::new(
+    ///     "t".into(),
+    ///     None,
+    ///     Annotations::new(),
+    ///     Effect::Permit,
+    ///     PrincipalConstraint::any(),
+    ///     ActionConstraint::any(),
+    ///     ResourceConstraint::any(),
+    ///     None,
+    /// );
+    /// set.add_template(template)?;
     /// assert!(set.remove_template(&PolicyID::from_string("p")).is_err());
     /// assert_eq!(set.remove_template(&PolicyID::from_string("t"))?.id().as_ref(), "t");
     /// assert_eq!(set.remove_static(&PolicyID::from_string("p"))?.id().as_ref(), "p");
@@ -103,7 +104,8 @@ impl<S: BuildHasher + Clone> PolicySet<S> {
     /// # Ok::<(), Box<dyn std::error::Error>>(())
     /// ```
     pub fn remove_static(&mut self, id: &PolicyID) -> Result<Policy, PolicySetPolicyRemovalError> {
-        match self.maps.found(id) {
+        let mut place = usize::MAX;
+        match self.maps.found_near(id, &mut place) {
             None => return Err(PolicySetPolicyRemovalError::RemovePolicyNoLinkError(id.clone())),
             Some(PolicyOrTemplate::Template(_)) => {
                 return Err(PolicySetPolicyRemovalError::RemovePolicyNoLinkError(id.clone()));
@@ -114,10 +116,10 @@ impl<S: BuildHasher + Clone> PolicySet<S> {
                 }
             }
         }
-        let (_, policy) = self.maps.take(id);
+        let (_, policy) = self.maps.take_near(id, place);
         match policy {
             Some(policy) => Ok(policy),
-            None => unreachable!(),
+            None => unreachable!("the id of a policy is bound until its removal"),
         }
     }
 
@@ -139,24 +141,7 @@ impl<S: BuildHasher + Clone> PolicySet<S> {
     ///
     /// The original panics if its map of links does not contain the template.
     ///
-    /// ```
-    /// # use cedar_store::{ast::*, entities::*};
-    /// # fn template(name: &str, principal: PrincipalConstraint) -> Template {
-    /// #     let (id, all) = (PolicyID::from_string(name), ResourceConstraint::any());
-    /// #     Template::new(id, None, Annotations::new(), Effect::Permit, principal, ActionConstraint::any(), all, None)
-    /// # }
-    /// # fn permit(name: &str) -> StaticPolicy {
-    /// #     StaticPolicy::try_from(template(name, PrincipalConstraint::any())).unwrap()
-    /// # }
-    /// let mut set = PolicySet::new();
-    /// set.add_static(permit("p"))?;
-    /// set.add_template(template("t", PrincipalConstraint::any()))?;
-    /// assert!(set.remove_template(&PolicyID::from_string("p")).is_err());
-    /// assert_eq!(set.remove_template(&PolicyID::from_string("t"))?.id().as_ref(), "t");
-    /// assert_eq!(set.remove_static(&PolicyID::from_string("p"))?.id().as_ref(), "p");
-    /// assert!(set.is_empty());
-    /// # Ok::<(), Box<dyn std::error::Error>>(())
-    /// ```
+    /// [`Self::remove_static`] has an example.
     pub fn remove_template(&mut self, id: &PolicyID) -> Result<Template, PolicySetTemplateRemovalError> {
         let template = match self.maps.found(id) {
             None => {

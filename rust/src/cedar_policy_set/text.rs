@@ -2,7 +2,7 @@
 
 //! `Display` of policy sets.
 
-use crate::cedar_policy::{Policy, Template};
+use crate::cedar_policy::Template;
 use crate::cedar_policy_maps::{AllTemplates, Policies, PolicyMaps};
 use crate::cedar_policy_set::policy_set::PolicySet;
 use std::fmt;
@@ -42,21 +42,13 @@ fn write_bodies(mut bodies: AllTemplates<'_>, f: &mut fmt::Formatter<'_>) -> fmt
 
 // Writes a body, and then the other bodies, each after a line feed.
 fn write_parted(first: &Template, rest: AllTemplates<'_>, f: &mut fmt::Formatter<'_>) -> fmt::Result {
-    write_body(first, f)?;
+    write!(f, "{first}")?;
     write_body_lines(rest, f)
-}
-
-fn write_body_line(body: &Template, f: &mut fmt::Formatter<'_>) -> fmt::Result {
-    write!(f, "\n{body}")
-}
-
-fn write_body(body: &Template, f: &mut fmt::Formatter<'_>) -> fmt::Result {
-    write!(f, "{body}")
 }
 
 fn write_body_lines(bodies: AllTemplates<'_>, f: &mut fmt::Formatter<'_>) -> fmt::Result {
     for body in bodies {
-        write_body_line(body, f)?;
+        write!(f, "\n{body}")?;
     }
     Ok(())
 }
@@ -66,23 +58,15 @@ fn write_policies(mut policies: Policies<'_>, f: &mut fmt::Formatter<'_>) -> fmt
     match policies.next() {
         None => Ok(()),
         Some(first) => {
-            write_policy(first, f)?;
+            write!(f, "{first}")?;
             write_policy_lines(policies, f)
         }
     }
 }
 
-fn write_policy_line(policy: &Policy, f: &mut fmt::Formatter<'_>) -> fmt::Result {
-    write!(f, "\n{policy}")
-}
-
-fn write_policy(policy: &Policy, f: &mut fmt::Formatter<'_>) -> fmt::Result {
-    write!(f, "{policy}")
-}
-
 fn write_policy_lines(policies: Policies<'_>, f: &mut fmt::Formatter<'_>) -> fmt::Result {
     for policy in policies {
-        write_policy_line(policy, f)?;
+        write!(f, "\n{policy}")?;
     }
     Ok(())
 }

@@ -25,13 +25,23 @@ impl<S: BuildHasher + Clone> PolicySet<S> {
     /// O(n), where n is the size of the set. Allocates a copy of each body for its check.
     ///
     /// ```
-    /// # use cedar_store::{ast::*, entities::*};
-    /// # fn template(name: &str, principal: PrincipalConstraint) -> Template {
-    /// #     let (id, all) = (PolicyID::from_string(name), ResourceConstraint::any());
-    /// #     Template::new(id, None, Annotations::new(), Effect::Permit, principal, ActionConstraint::any(), all, None)
-    /// # }
+    /// use cedar_store::ast::{
+    ///     ActionConstraint, Annotations, Effect, PolicyID, PolicySet, PrincipalConstraint,
+    ///     ResourceConstraint, SlotEnv, Template,
+    /// };
+    ///
     /// let mut set = PolicySet::new();
-    /// set.add_template(template("t", PrincipalConstraint::any()))?;
+    /// let template = Template::new(
+    ///     "t".into(),
+    ///     None,
+    ///     Annotations::new(),
+    ///     Effect::Permit,
+    ///     PrincipalConstraint::any(),
+    ///     ActionConstraint::any(),
+    ///     ResourceConstraint::any(),
+    ///     None,
+    /// );
+    /// set.add_template(template)?;
     /// set.link(PolicyID::from_string("t"), PolicyID::from_string("l"), SlotEnv::new())?;
     /// assert_eq!(
     ///     set.try_validate().unwrap_err().to_string(),
@@ -60,11 +70,7 @@ impl<S: BuildHasher + Clone> PolicySet<S> {
 // Returns the first link of a template without slots.
 fn first_slotless(policies: Policies<'_>) -> Option<&Policy> {
     let mut policies = policies;
-    policies.find(|policy| is_slotless_link(policy))
-}
-
-fn is_slotless_link(policy: &Policy) -> bool {
-    is_link(policy) && has_no_slots(policy.template())
+    policies.find(|policy| is_link(policy) && has_no_slots(policy.template()))
 }
 
 // Returns an error for the first invalid body.

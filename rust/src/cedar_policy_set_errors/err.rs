@@ -161,7 +161,7 @@ impl Error for PolicySetValidationError {
     fn source(&self) -> Option<&(dyn Error + 'static)> {
         match self {
             Self::InvalidTemplate { error, .. } => Some(error),
-            _ => None,
+            Self::LinkToSlotlessTemplate { .. } => None,
         }
     }
 }

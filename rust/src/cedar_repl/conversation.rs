@@ -9,7 +9,7 @@ use std::hash::BuildHasher;
 
 // The state of a conversation: the session that ran the completed lines, their number, and the bytes of the incomplete
 // line.
-pub(crate) struct Conversation<S: BuildHasher> {
+pub(crate) struct Conversation<S> {
     session: Session<S>,
     manner: ErrorMode,
     part: Vec<u8>,
@@ -57,10 +57,7 @@ fn answer<S: BuildHasher + Clone>(
     line: &[u8],
     out: &mut Vec<u8>,
 ) -> bool {
-    if session.apply_line(line, out) {
-        return true;
-    }
-    refuse(manner, number, line, out)
+    session.apply_line(line, out) || refuse(manner, number, line, out)
 }
 
 impl<S: BuildHasher + Clone> Conversation<S> {

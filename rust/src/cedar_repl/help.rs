@@ -46,14 +46,15 @@ help prints this text. help store, help policies and help fields print one part 
 /// The original has no such function.
 ///
 /// ```
-/// # use cedar_store::{ast::*, entities::*};
 /// use cedar_store::program::{ErrorMode, help_texts, talk};
+///
 /// let key = cedar_store::KeyedState::with_keys(1, 2);
 /// let (mut lines, mut written) = (&b"build\nfrob\nhelp store\n"[..], Vec::new());
 /// assert_eq!(talk(key, ErrorMode::Lenient, &mut lines, &mut written)?, 0);
 /// assert_eq!(written, [b"ok 0\nline 2: not a command\n", help_texts().0.as_bytes()].concat());
 /// # Ok::<(), Box<dyn std::error::Error>>(())
 /// ```
+#[must_use]
 pub fn help_texts() -> (&'static str, &'static str, &'static str) {
     (STORE_HELP, POLICY_HELP, FIELD_HELP)
 }

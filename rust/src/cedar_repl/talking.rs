@@ -42,11 +42,6 @@ fn send<W: Write>(writer: &mut W, bytes: &[u8]) -> Result<(), TalkError> {
         .map_err(|_| TalkError::Write)
 }
 
-// Reads the next bytes into the beginning of the buffer. Returns their number, which is 0 at the end.
-fn read_some<R: Read>(reader: &mut R, buffer: &mut [u8]) -> Result<usize, TalkError> {
-    read_retrying(reader, buffer).map_err(|_| TalkError::Read)
-}
-
 // Finishes at the end of the input: writes the output for an incomplete last line, and returns the status.
 fn finish<S: BuildHasher + Clone, W: Write>(
     conversation: &mut Conversation<S>,
@@ -65,7 +60,7 @@ fn converse<S: BuildHasher + Clone, R: Read, W: Write>(
 ) -> Result<u8, TalkError> {
     let mut buffer = [0u8; ROOM];
     loop {
-        let count = read_some(reader, &mut buffer)?;
+        let count = read_retrying(reader, &mut buffer).map_err(|_| TalkError::Read)?;
         if count == 0 {
             return finish(conversation, writer);
         }
@@ -109,8 +104,8 @@ fn converse<S: BuildHasher + Clone, R: Read, W: Write>(
 /// The original has no such function.
 ///
 /// ```
-/// # use cedar_store::{ast::*, entities::*};
 /// use cedar_store::program::{ErrorMode, help_texts, talk};
+///
 /// let key = cedar_store::KeyedState::with_keys(1, 2);
 /// let (mut lines, mut written) = (&b"build\nfrob\nhelp store\n"[..], Vec::new());
 /// assert_eq!(talk(key, ErrorMode::Lenient, &mut lines, &mut written)?, 0);

@@ -9,7 +9,6 @@ use crate::cedar_policy_set::{
     PolicySet, PolicySetError, PolicySetPolicyRemovalError, PolicySetTemplateRemovalError, PolicySetUnlinkError,
 };
 use crate::handwritten::renaming::Renaming;
-use std::hash::BuildHasher;
 
 /// A call on a policy set, with its arguments.
 ///
@@ -17,7 +16,7 @@ use std::hash::BuildHasher;
 ///
 /// The original has no such type.
 #[derive(Debug)]
-pub enum PolicyCall<S: BuildHasher = KeyedState> {
+pub enum PolicyCall<S = KeyedState> {
     /// [`PolicySet::add_static`].
     AddStatic(StaticPolicy),
     /// [`PolicySet::add_template`].
@@ -42,7 +41,7 @@ pub enum PolicyCall<S: BuildHasher = KeyedState> {
 ///
 /// The original has no such type.
 #[derive(Debug)]
-pub enum Answer<S: BuildHasher = KeyedState> {
+pub enum Answer<S = KeyedState> {
     /// The result of [`PolicyCall::AddStatic`].
     AddStatic(Result<(), PolicySetError>),
     /// The result of [`PolicyCall::AddTemplate`].

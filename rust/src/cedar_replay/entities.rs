@@ -63,22 +63,19 @@ fn replay_one<S: BuildHasher + Clone>(store: Entities<S>, call: EntityCall) -> R
 /// The original has no such function.
 ///
 /// ```
-/// # use cedar_store::{ast::*, entities::*};
-/// # fn uid(text: &str) -> EntityUID { EntityUID::from_normalized_str(text).unwrap() }
-/// # fn entity_with(own: &str, parents: &[&str]) -> Entity {
-/// #     let mut entity = Entity::with_uid(uid(own));
-/// #     parents.iter().for_each(|parent| entity.add_parent(uid(parent)));
-/// #     entity
-/// # }
+/// use cedar_store::ast::{Entity, EntityUID};
 /// use cedar_store::replay::{EntityCall, replay_entities, replay_entities_with_hasher};
-/// let calls = || {
-///     let chain = vec![entity_with(r#"A::"a""#, &[r#"A::"b""#]), entity_with(r#"A::"b""#, &[])];
-///     vec![EntityCall::From(chain), EntityCall::Remove(vec![uid(r#"A::"b""#)])]
-/// };
+///
+/// let staff: EntityUID = r#"Group::"staff""#.parse()?;
+/// let mut alice = Entity::with_uid(r#"User::"alice""#.parse()?);
+/// alice.add_parent(staff.clone());
+/// let all = vec![alice, Entity::with_uid(staff.clone())];
+/// let calls = || vec![EntityCall::From(all.clone()), EntityCall::Remove(vec![staff.clone()])];
 /// let store = replay_entities(calls()).expect("every call succeeds");
 /// assert_eq!(store.len(), 1);
 /// let keyed = cedar_store::KeyedState::with_keys(1, 2);
 /// assert_eq!(replay_entities_with_hasher(keyed, calls()).expect("every call succeeds").len(), 1);
+/// # Ok::<(), Box<dyn std::error::Error>>(())
 /// ```
 pub fn replay_entities(calls: impl IntoIterator<Item = EntityCall>) -> Result<Entities, (usize, EntitiesError)> {
     replay_entities_with_hasher(KeyedState::default(), calls)
@@ -90,24 +87,7 @@ pub fn replay_entities(calls: impl IntoIterator<Item = EntityCall>) -> Result<En
 ///
 /// As [`replay_entities`].
 ///
-/// ```
-/// # use cedar_store::{ast::*, entities::*};
-/// # fn uid(text: &str) -> EntityUID { EntityUID::from_normalized_str(text).unwrap() }
-/// # fn entity_with(own: &str, parents: &[&str]) -> Entity {
-/// #     let mut entity = Entity::with_uid(uid(own));
-/// #     parents.iter().for_each(|parent| entity.add_parent(uid(parent)));
-/// #     entity
-/// # }
-/// use cedar_store::replay::{EntityCall, replay_entities, replay_entities_with_hasher};
-/// let calls = || {
-///     let chain = vec![entity_with(r#"A::"a""#, &[r#"A::"b""#]), entity_with(r#"A::"b""#, &[])];
-///     vec![EntityCall::From(chain), EntityCall::Remove(vec![uid(r#"A::"b""#)])]
-/// };
-/// let store = replay_entities(calls()).expect("every call succeeds");
-/// assert_eq!(store.len(), 1);
-/// let keyed = cedar_store::KeyedState::with_keys(1, 2);
-/// assert_eq!(replay_entities_with_hasher(keyed, calls()).expect("every call succeeds").len(), 1);
-/// ```
+/// [`replay_entities`] has an example.
 pub fn replay_entities_with_hasher<S: BuildHasher + Clone>(
     hasher: S,
     calls: impl IntoIterator<Item = EntityCall>,

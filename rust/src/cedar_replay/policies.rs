@@ -33,11 +33,6 @@ fn replay_one<S: BuildHasher + Clone>(set: &mut PolicySet<S>, call: PolicyCall<S
     }
 }
 
-// Appends a result. The space must be reserved.
-fn append<S: BuildHasher>(answers: &mut Vec<Answer<S>>, answer: Answer<S>) {
-    answers.push(answer);
-}
-
 /// Runs calls on the set, one after another, and returns all results in order. A failed call leaves the set unchanged,
 /// and the next call follows.
 ///
@@ -50,25 +45,33 @@ fn append<S: BuildHasher>(answers: &mut Vec<Answer<S>>, answer: Answer<S>) {
 /// The original has no such function.
 ///
 /// ```
-/// # use cedar_store::{ast::*, entities::*};
-/// # fn template(name: &str, principal: PrincipalConstraint) -> Template {
-/// #     let (id, all) = (PolicyID::from_string(name), ResourceConstraint::any());
-/// #     Template::new(id, None, Annotations::new(), Effect::Permit, principal, ActionConstraint::any(), all, None)
-/// # }
-/// # fn permit(name: &str) -> StaticPolicy {
-/// #     StaticPolicy::try_from(template(name, PrincipalConstraint::any())).unwrap()
-/// # }
+/// use cedar_store::ast::{
+///     ActionConstraint, Annotations, Effect, PolicySet, PrincipalConstraint, ResourceConstraint,
+///     StaticPolicy,
+/// };
 /// use cedar_store::replay::{Answer, PolicyCall, replay_policies};
+///
 /// let mut set = PolicySet::new();
-/// let calls = vec![PolicyCall::AddStatic(permit("p")), PolicyCall::AddStatic(permit("p"))];
+/// let permit = StaticPolicy::new(
+///     "p".into(),
+///     None,
+///     Annotations::new(),
+///     Effect::Permit,
+///     PrincipalConstraint::any(),
+///     ActionConstraint::any(),
+///     ResourceConstraint::any(),
+///     None,
+/// )?;
+/// let calls = vec![PolicyCall::AddStatic(permit.clone()), PolicyCall::AddStatic(permit)];
 /// let results = replay_policies(&mut set, calls);
 /// assert!(matches!(results[..], [Answer::AddStatic(Ok(())), Answer::AddStatic(Err(_))]));
+/// # Ok::<(), Box<dyn std::error::Error>>(())
 /// ```
 pub fn replay_policies<S: BuildHasher + Clone>(set: &mut PolicySet<S>, calls: Vec<PolicyCall<S>>) -> Vec<Answer<S>> {
     let mut answers = Vec::with_capacity(calls.len());
     for call in calls {
         let answer = replay_one(set, call);
-        append(&mut answers, answer);
+        answers.push(answer);
     }
     answers
 }

@@ -19,7 +19,7 @@ use std::sync::Arc;
 ///
 /// The order is by kind, in the order of the variants, then by the type, then by the reference. Equality, order and
 /// hash ignore locations and do not allocate. `clone` shares types and uids.
-#[derive(Debug)]
+#[derive(Clone, Debug)]
 pub enum PrincipalOrResourceConstraint {
     /// Any entity.
     Any,
@@ -37,89 +37,51 @@ impl PrincipalOrResourceConstraint {
     /// Returns the constraint that allows any entity. Does not allocate.
     ///
     /// ```
-    /// # use cedar_store::{ast::*, entities::*};
-    /// # fn uid(text: &str) -> EntityUID { EntityUID::from_normalized_str(text).unwrap() }
-    /// # use std::sync::Arc;
-    /// let staff = Arc::new(uid(r#"Group::"staff""#));
+    /// use cedar_store::ast::{EntityUID, PrincipalOrResource, PrincipalOrResourceConstraint};
+    /// use std::sync::Arc;
+    ///
+    /// let staff: Arc<EntityUID> = Arc::new(r#"Group::"staff""#.parse()?);
     /// let shown = |constraint: PrincipalOrResourceConstraint| constraint.display(PrincipalOrResource::Principal);
     /// assert_eq!(shown(PrincipalOrResourceConstraint::any()), "principal");
     /// assert_eq!(shown(PrincipalOrResourceConstraint::is_eq(Arc::clone(&staff))), r#"principal == Group::"staff""#);
     /// assert_eq!(shown(PrincipalOrResourceConstraint::is_in(staff)), r#"principal in Group::"staff""#);
     /// assert_eq!(shown(PrincipalOrResourceConstraint::is_eq_slot()), "principal == ?principal");
     /// assert_eq!(shown(PrincipalOrResourceConstraint::is_in_slot()), "principal in ?principal");
+    /// # Ok::<(), Box<dyn std::error::Error>>(())
     /// ```
+    #[must_use]
     pub fn any() -> Self {
         Self::Any
     }
 
     /// Returns the constraint `== euid`. Does not allocate.
     ///
-    /// ```
-    /// # use cedar_store::{ast::*, entities::*};
-    /// # fn uid(text: &str) -> EntityUID { EntityUID::from_normalized_str(text).unwrap() }
-    /// # use std::sync::Arc;
-    /// let staff = Arc::new(uid(r#"Group::"staff""#));
-    /// let shown = |constraint: PrincipalOrResourceConstraint| constraint.display(PrincipalOrResource::Principal);
-    /// assert_eq!(shown(PrincipalOrResourceConstraint::any()), "principal");
-    /// assert_eq!(shown(PrincipalOrResourceConstraint::is_eq(Arc::clone(&staff))), r#"principal == Group::"staff""#);
-    /// assert_eq!(shown(PrincipalOrResourceConstraint::is_in(staff)), r#"principal in Group::"staff""#);
-    /// assert_eq!(shown(PrincipalOrResourceConstraint::is_eq_slot()), "principal == ?principal");
-    /// assert_eq!(shown(PrincipalOrResourceConstraint::is_in_slot()), "principal in ?principal");
-    /// ```
+    /// [`Self::any`] has an example.
+    #[must_use]
     pub fn is_eq(euid: Arc<EntityUID>) -> Self {
         Self::Eq(EntityReference::euid(euid))
     }
 
     /// Returns the constraint `== slot`. The slot has no location. Does not allocate.
     ///
-    /// ```
-    /// # use cedar_store::{ast::*, entities::*};
-    /// # fn uid(text: &str) -> EntityUID { EntityUID::from_normalized_str(text).unwrap() }
-    /// # use std::sync::Arc;
-    /// let staff = Arc::new(uid(r#"Group::"staff""#));
-    /// let shown = |constraint: PrincipalOrResourceConstraint| constraint.display(PrincipalOrResource::Principal);
-    /// assert_eq!(shown(PrincipalOrResourceConstraint::any()), "principal");
-    /// assert_eq!(shown(PrincipalOrResourceConstraint::is_eq(Arc::clone(&staff))), r#"principal == Group::"staff""#);
-    /// assert_eq!(shown(PrincipalOrResourceConstraint::is_in(staff)), r#"principal in Group::"staff""#);
-    /// assert_eq!(shown(PrincipalOrResourceConstraint::is_eq_slot()), "principal == ?principal");
-    /// assert_eq!(shown(PrincipalOrResourceConstraint::is_in_slot()), "principal in ?principal");
-    /// ```
+    /// [`Self::any`] has an example.
+    #[must_use]
     pub fn is_eq_slot() -> Self {
         Self::Eq(EntityReference::Slot(None))
     }
 
     /// Returns the constraint `in euid`. Does not allocate.
     ///
-    /// ```
-    /// # use cedar_store::{ast::*, entities::*};
-    /// # fn uid(text: &str) -> EntityUID { EntityUID::from_normalized_str(text).unwrap() }
-    /// # use std::sync::Arc;
-    /// let staff = Arc::new(uid(r#"Group::"staff""#));
-    /// let shown = |constraint: PrincipalOrResourceConstraint| constraint.display(PrincipalOrResource::Principal);
-    /// assert_eq!(shown(PrincipalOrResourceConstraint::any()), "principal");
-    /// assert_eq!(shown(PrincipalOrResourceConstraint::is_eq(Arc::clone(&staff))), r#"principal == Group::"staff""#);
-    /// assert_eq!(shown(PrincipalOrResourceConstraint::is_in(staff)), r#"principal in Group::"staff""#);
-    /// assert_eq!(shown(PrincipalOrResourceConstraint::is_eq_slot()), "principal == ?principal");
-    /// assert_eq!(shown(PrincipalOrResourceConstraint::is_in_slot()), "principal in ?principal");
-    /// ```
+    /// [`Self::any`] has an example.
+    #[must_use]
     pub fn is_in(euid: Arc<EntityUID>) -> Self {
         Self::In(EntityReference::euid(euid))
     }
 
     /// Returns the constraint `in slot`. The slot has no location. Does not allocate.
     ///
-    /// ```
-    /// # use cedar_store::{ast::*, entities::*};
-    /// # fn uid(text: &str) -> EntityUID { EntityUID::from_normalized_str(text).unwrap() }
-    /// # use std::sync::Arc;
-    /// let staff = Arc::new(uid(r#"Group::"staff""#));
-    /// let shown = |constraint: PrincipalOrResourceConstraint| constraint.display(PrincipalOrResource::Principal);
-    /// assert_eq!(shown(PrincipalOrResourceConstraint::any()), "principal");
-    /// assert_eq!(shown(PrincipalOrResourceConstraint::is_eq(Arc::clone(&staff))), r#"principal == Group::"staff""#);
-    /// assert_eq!(shown(PrincipalOrResourceConstraint::is_in(staff)), r#"principal in Group::"staff""#);
-    /// assert_eq!(shown(PrincipalOrResourceConstraint::is_eq_slot()), "principal == ?principal");
-    /// assert_eq!(shown(PrincipalOrResourceConstraint::is_in_slot()), "principal in ?principal");
-    /// ```
+    /// [`Self::any`] has an example.
+    #[must_use]
     pub fn is_in_slot() -> Self {
         Self::In(EntityReference::Slot(None))
     }
@@ -127,10 +89,11 @@ impl PrincipalOrResourceConstraint {
     /// Returns the constraint `is entity_type`. Does not allocate.
     ///
     /// ```
-    /// # use cedar_store::{ast::*, entities::*};
-    /// # fn uid(text: &str) -> EntityUID { EntityUID::from_normalized_str(text).unwrap() }
-    /// # use std::sync::Arc;
-    /// let (user, staff) = (Arc::new(EntityType::from_normalized_str("User")?), Arc::new(uid(r#"Group::"staff""#)));
+    /// use cedar_store::ast::{EntityType, EntityUID, PrincipalOrResource, PrincipalOrResourceConstraint};
+    /// use std::sync::Arc;
+    ///
+    /// let user = Arc::new(EntityType::from_normalized_str("User")?);
+    /// let staff: Arc<EntityUID> = Arc::new(r#"Group::"staff""#.parse()?);
     /// let typed = PrincipalOrResourceConstraint::is_entity_type(Arc::clone(&user));
     /// assert_eq!(typed.as_expr(PrincipalOrResource::Resource).to_string(), "resource is User");
     /// assert!(typed.get_euid().is_none());
@@ -141,48 +104,23 @@ impl PrincipalOrResourceConstraint {
     /// assert_eq!(slot.display(PrincipalOrResource::Resource), "resource is User in ?resource");
     /// # Ok::<(), Box<dyn std::error::Error>>(())
     /// ```
+    #[must_use]
     pub fn is_entity_type(entity_type: Arc<EntityType>) -> Self {
         Self::Is(entity_type)
     }
 
     /// Returns the constraint `is entity_type in in_entity`. Does not allocate.
     ///
-    /// ```
-    /// # use cedar_store::{ast::*, entities::*};
-    /// # fn uid(text: &str) -> EntityUID { EntityUID::from_normalized_str(text).unwrap() }
-    /// # use std::sync::Arc;
-    /// let (user, staff) = (Arc::new(EntityType::from_normalized_str("User")?), Arc::new(uid(r#"Group::"staff""#)));
-    /// let typed = PrincipalOrResourceConstraint::is_entity_type(Arc::clone(&user));
-    /// assert_eq!(typed.as_expr(PrincipalOrResource::Resource).to_string(), "resource is User");
-    /// assert!(typed.get_euid().is_none());
-    /// let both = PrincipalOrResourceConstraint::is_entity_type_in(Arc::clone(&user), Arc::clone(&staff));
-    /// assert_eq!(both.get_euid(), Some(&staff));
-    /// assert_eq!(both.iter_entity_type_names().map(ToString::to_string).collect::<Vec<_>>(), ["Group", "User"]);
-    /// let slot = PrincipalOrResourceConstraint::is_entity_type_in_slot(user);
-    /// assert_eq!(slot.display(PrincipalOrResource::Resource), "resource is User in ?resource");
-    /// # Ok::<(), Box<dyn std::error::Error>>(())
-    /// ```
+    /// [`Self::is_entity_type`] has an example.
+    #[must_use]
     pub fn is_entity_type_in(entity_type: Arc<EntityType>, in_entity: Arc<EntityUID>) -> Self {
         Self::IsIn(entity_type, EntityReference::euid(in_entity))
     }
 
     /// Returns the constraint `is entity_type in slot`. The slot has no location. Does not allocate.
     ///
-    /// ```
-    /// # use cedar_store::{ast::*, entities::*};
-    /// # fn uid(text: &str) -> EntityUID { EntityUID::from_normalized_str(text).unwrap() }
-    /// # use std::sync::Arc;
-    /// let (user, staff) = (Arc::new(EntityType::from_normalized_str("User")?), Arc::new(uid(r#"Group::"staff""#)));
-    /// let typed = PrincipalOrResourceConstraint::is_entity_type(Arc::clone(&user));
-    /// assert_eq!(typed.as_expr(PrincipalOrResource::Resource).to_string(), "resource is User");
-    /// assert!(typed.get_euid().is_none());
-    /// let both = PrincipalOrResourceConstraint::is_entity_type_in(Arc::clone(&user), Arc::clone(&staff));
-    /// assert_eq!(both.get_euid(), Some(&staff));
-    /// assert_eq!(both.iter_entity_type_names().map(ToString::to_string).collect::<Vec<_>>(), ["Group", "User"]);
-    /// let slot = PrincipalOrResourceConstraint::is_entity_type_in_slot(user);
-    /// assert_eq!(slot.display(PrincipalOrResource::Resource), "resource is User in ?resource");
-    /// # Ok::<(), Box<dyn std::error::Error>>(())
-    /// ```
+    /// [`Self::is_entity_type`] has an example.
+    #[must_use]
     pub fn is_entity_type_in_slot(entity_type: Arc<EntityType>) -> Self {
         Self::IsIn(entity_type, EntityReference::Slot(None))
     }
@@ -194,21 +132,8 @@ impl PrincipalOrResourceConstraint {
     ///
     /// O(1). Allocates at most seven nodes.
     ///
-    /// ```
-    /// # use cedar_store::{ast::*, entities::*};
-    /// # fn uid(text: &str) -> EntityUID { EntityUID::from_normalized_str(text).unwrap() }
-    /// # use std::sync::Arc;
-    /// let (user, staff) = (Arc::new(EntityType::from_normalized_str("User")?), Arc::new(uid(r#"Group::"staff""#)));
-    /// let typed = PrincipalOrResourceConstraint::is_entity_type(Arc::clone(&user));
-    /// assert_eq!(typed.as_expr(PrincipalOrResource::Resource).to_string(), "resource is User");
-    /// assert!(typed.get_euid().is_none());
-    /// let both = PrincipalOrResourceConstraint::is_entity_type_in(Arc::clone(&user), Arc::clone(&staff));
-    /// assert_eq!(both.get_euid(), Some(&staff));
-    /// assert_eq!(both.iter_entity_type_names().map(ToString::to_string).collect::<Vec<_>>(), ["Group", "User"]);
-    /// let slot = PrincipalOrResourceConstraint::is_entity_type_in_slot(user);
-    /// assert_eq!(slot.display(PrincipalOrResource::Resource), "resource is User in ?resource");
-    /// # Ok::<(), Box<dyn std::error::Error>>(())
-    /// ```
+    /// [`Self::is_entity_type`] has an example.
+    #[must_use]
     pub fn as_expr(&self, v: PrincipalOrResource) -> Expr {
         match self {
             Self::Any => Expr::val(Literal::Bool(true)),
@@ -222,39 +147,16 @@ impl PrincipalOrResourceConstraint {
     /// Returns the text of the constraint on the variable `v` and its slot, for example `principal is T in ?principal`.
     /// An eid that is not ASCII is written as by `str::escape_debug`.
     ///
-    /// ```
-    /// # use cedar_store::{ast::*, entities::*};
-    /// # fn uid(text: &str) -> EntityUID { EntityUID::from_normalized_str(text).unwrap() }
-    /// # use std::sync::Arc;
-    /// let staff = Arc::new(uid(r#"Group::"staff""#));
-    /// let shown = |constraint: PrincipalOrResourceConstraint| constraint.display(PrincipalOrResource::Principal);
-    /// assert_eq!(shown(PrincipalOrResourceConstraint::any()), "principal");
-    /// assert_eq!(shown(PrincipalOrResourceConstraint::is_eq(Arc::clone(&staff))), r#"principal == Group::"staff""#);
-    /// assert_eq!(shown(PrincipalOrResourceConstraint::is_in(staff)), r#"principal in Group::"staff""#);
-    /// assert_eq!(shown(PrincipalOrResourceConstraint::is_eq_slot()), "principal == ?principal");
-    /// assert_eq!(shown(PrincipalOrResourceConstraint::is_in_slot()), "principal in ?principal");
-    /// ```
+    /// [`Self::any`] has an example.
+    #[must_use]
     pub fn display(&self, v: PrincipalOrResource) -> String {
         OnVariable { constraint: self, v }.to_string()
     }
 
     /// Returns the referenced uid, if there is one. Does not allocate.
     ///
-    /// ```
-    /// # use cedar_store::{ast::*, entities::*};
-    /// # fn uid(text: &str) -> EntityUID { EntityUID::from_normalized_str(text).unwrap() }
-    /// # use std::sync::Arc;
-    /// let (user, staff) = (Arc::new(EntityType::from_normalized_str("User")?), Arc::new(uid(r#"Group::"staff""#)));
-    /// let typed = PrincipalOrResourceConstraint::is_entity_type(Arc::clone(&user));
-    /// assert_eq!(typed.as_expr(PrincipalOrResource::Resource).to_string(), "resource is User");
-    /// assert!(typed.get_euid().is_none());
-    /// let both = PrincipalOrResourceConstraint::is_entity_type_in(Arc::clone(&user), Arc::clone(&staff));
-    /// assert_eq!(both.get_euid(), Some(&staff));
-    /// assert_eq!(both.iter_entity_type_names().map(ToString::to_string).collect::<Vec<_>>(), ["Group", "User"]);
-    /// let slot = PrincipalOrResourceConstraint::is_entity_type_in_slot(user);
-    /// assert_eq!(slot.display(PrincipalOrResource::Resource), "resource is User in ?resource");
-    /// # Ok::<(), Box<dyn std::error::Error>>(())
-    /// ```
+    /// [`Self::is_entity_type`] has an example.
+    #[must_use]
     pub fn get_euid(&self) -> Option<&Arc<EntityUID>> {
         match self {
             Self::In(EntityReference::EUID(euid))
@@ -271,21 +173,8 @@ impl PrincipalOrResourceConstraint {
     /// Iterates over the types in the constraint: the type of the uid, then the stated type, each if there is one. Does
     /// not allocate.
     ///
-    /// ```
-    /// # use cedar_store::{ast::*, entities::*};
-    /// # fn uid(text: &str) -> EntityUID { EntityUID::from_normalized_str(text).unwrap() }
-    /// # use std::sync::Arc;
-    /// let (user, staff) = (Arc::new(EntityType::from_normalized_str("User")?), Arc::new(uid(r#"Group::"staff""#)));
-    /// let typed = PrincipalOrResourceConstraint::is_entity_type(Arc::clone(&user));
-    /// assert_eq!(typed.as_expr(PrincipalOrResource::Resource).to_string(), "resource is User");
-    /// assert!(typed.get_euid().is_none());
-    /// let both = PrincipalOrResourceConstraint::is_entity_type_in(Arc::clone(&user), Arc::clone(&staff));
-    /// assert_eq!(both.get_euid(), Some(&staff));
-    /// assert_eq!(both.iter_entity_type_names().map(ToString::to_string).collect::<Vec<_>>(), ["Group", "User"]);
-    /// let slot = PrincipalOrResourceConstraint::is_entity_type_in_slot(user);
-    /// assert_eq!(slot.display(PrincipalOrResource::Resource), "resource is User in ?resource");
-    /// # Ok::<(), Box<dyn std::error::Error>>(())
-    /// ```
+    /// [`Self::is_entity_type`] has an example.
+    #[must_use]
     pub fn iter_entity_type_names(&self) -> ConstraintTypeNames<'_> {
         let stated = self.stated_type();
         match self.get_euid() {
@@ -425,18 +314,6 @@ struct OnVariable<'a> {
 impl fmt::Display for OnVariable<'_> {
     fn fmt(&self, f: &mut fmt::Formatter<'_>) -> fmt::Result {
         self.constraint.write(self.v, f)
-    }
-}
-
-impl Clone for PrincipalOrResourceConstraint {
-    fn clone(&self) -> Self {
-        match self {
-            Self::Any => Self::Any,
-            Self::In(reference) => Self::In(reference.clone()),
-            Self::Eq(reference) => Self::Eq(reference.clone()),
-            Self::Is(ty) => Self::Is(ty.clone()),
-            Self::IsIn(ty, reference) => Self::IsIn(ty.clone(), reference.clone()),
-        }
     }
 }
 

@@ -57,7 +57,7 @@ pub type ResourceConstraint = VariableConstraint<Resource>;
 /// Equality, order and hash use only the constraint, and ignore locations. `clone` shares types and uids. `Display`
 /// writes the constraint with its variable, for example `principal`, and with its slot, for example `?principal`. An
 /// eid that is not ASCII is written as by `str::escape_debug`. Writing does not allocate.
-pub struct VariableConstraint<V: ScopeVariable> {
+pub struct VariableConstraint<V> {
     constraint: PrincipalOrResourceConstraint,
     variable: PhantomData<V>,
 }
@@ -66,10 +66,10 @@ impl<V: ScopeVariable> VariableConstraint<V> {
     /// Creates the constraint on the variable. Does not allocate.
     ///
     /// ```
-    /// # use cedar_store::{ast::*, entities::*};
-    /// # fn uid(text: &str) -> EntityUID { EntityUID::from_normalized_str(text).unwrap() }
-    /// # use std::sync::Arc;
-    /// let alice = Arc::new(uid(r#"User::"alice""#));
+    /// use cedar_store::ast::{EntityUID, PrincipalConstraint};
+    /// use std::sync::Arc;
+    ///
+    /// let alice: Arc<EntityUID> = Arc::new(r#"User::"alice""#.parse()?);
     /// let constraint = PrincipalConstraint::is_eq(Arc::clone(&alice));
     /// assert_eq!(constraint.to_string(), r#"principal == User::"alice""#);
     /// assert_eq!(constraint.as_expr().to_string(), r#"principal == User::"alice""#);
@@ -77,7 +77,9 @@ impl<V: ScopeVariable> VariableConstraint<V> {
     /// assert_eq!(PrincipalConstraint::new(constraint.clone().into_inner()), constraint);
     /// assert_eq!(PrincipalConstraint::is_in(alice).to_string(), r#"principal in User::"alice""#);
     /// assert_eq!(PrincipalConstraint::any().as_expr().to_string(), "true");
+    /// # Ok::<(), Box<dyn std::error::Error>>(())
     /// ```
+    #[must_use]
     pub fn new(constraint: PrincipalOrResourceConstraint) -> Self {
         Self {
             constraint,
@@ -87,95 +89,40 @@ impl<V: ScopeVariable> VariableConstraint<V> {
 
     /// Returns the constraint. Does not allocate.
     ///
-    /// ```
-    /// # use cedar_store::{ast::*, entities::*};
-    /// # fn uid(text: &str) -> EntityUID { EntityUID::from_normalized_str(text).unwrap() }
-    /// # use std::sync::Arc;
-    /// let alice = Arc::new(uid(r#"User::"alice""#));
-    /// let constraint = PrincipalConstraint::is_eq(Arc::clone(&alice));
-    /// assert_eq!(constraint.to_string(), r#"principal == User::"alice""#);
-    /// assert_eq!(constraint.as_expr().to_string(), r#"principal == User::"alice""#);
-    /// assert_eq!(constraint.as_inner().get_euid(), Some(&alice));
-    /// assert_eq!(PrincipalConstraint::new(constraint.clone().into_inner()), constraint);
-    /// assert_eq!(PrincipalConstraint::is_in(alice).to_string(), r#"principal in User::"alice""#);
-    /// assert_eq!(PrincipalConstraint::any().as_expr().to_string(), "true");
-    /// ```
+    /// [`Self::new`] has an example.
+    #[must_use]
     pub fn as_inner(&self) -> &PrincipalOrResourceConstraint {
         &self.constraint
     }
 
     /// Returns the constraint. Does not allocate.
     ///
-    /// ```
-    /// # use cedar_store::{ast::*, entities::*};
-    /// # fn uid(text: &str) -> EntityUID { EntityUID::from_normalized_str(text).unwrap() }
-    /// # use std::sync::Arc;
-    /// let alice = Arc::new(uid(r#"User::"alice""#));
-    /// let constraint = PrincipalConstraint::is_eq(Arc::clone(&alice));
-    /// assert_eq!(constraint.to_string(), r#"principal == User::"alice""#);
-    /// assert_eq!(constraint.as_expr().to_string(), r#"principal == User::"alice""#);
-    /// assert_eq!(constraint.as_inner().get_euid(), Some(&alice));
-    /// assert_eq!(PrincipalConstraint::new(constraint.clone().into_inner()), constraint);
-    /// assert_eq!(PrincipalConstraint::is_in(alice).to_string(), r#"principal in User::"alice""#);
-    /// assert_eq!(PrincipalConstraint::any().as_expr().to_string(), "true");
-    /// ```
+    /// [`Self::new`] has an example.
+    #[must_use]
     pub fn into_inner(self) -> PrincipalOrResourceConstraint {
         self.constraint
     }
 
     /// Returns the constraint as an expression, as [`PrincipalOrResourceConstraint::as_expr`] does for the variable.
     ///
-    /// ```
-    /// # use cedar_store::{ast::*, entities::*};
-    /// # fn uid(text: &str) -> EntityUID { EntityUID::from_normalized_str(text).unwrap() }
-    /// # use std::sync::Arc;
-    /// let alice = Arc::new(uid(r#"User::"alice""#));
-    /// let constraint = PrincipalConstraint::is_eq(Arc::clone(&alice));
-    /// assert_eq!(constraint.to_string(), r#"principal == User::"alice""#);
-    /// assert_eq!(constraint.as_expr().to_string(), r#"principal == User::"alice""#);
-    /// assert_eq!(constraint.as_inner().get_euid(), Some(&alice));
-    /// assert_eq!(PrincipalConstraint::new(constraint.clone().into_inner()), constraint);
-    /// assert_eq!(PrincipalConstraint::is_in(alice).to_string(), r#"principal in User::"alice""#);
-    /// assert_eq!(PrincipalConstraint::any().as_expr().to_string(), "true");
-    /// ```
+    /// [`Self::new`] has an example.
+    #[must_use]
     pub fn as_expr(&self) -> Expr {
         self.constraint.as_expr(V::variable())
     }
 
     /// Returns the constraint that allows any entity. Does not allocate.
     ///
-    /// ```
-    /// # use cedar_store::{ast::*, entities::*};
-    /// # fn uid(text: &str) -> EntityUID { EntityUID::from_normalized_str(text).unwrap() }
-    /// # use std::sync::Arc;
-    /// let alice = Arc::new(uid(r#"User::"alice""#));
-    /// let constraint = PrincipalConstraint::is_eq(Arc::clone(&alice));
-    /// assert_eq!(constraint.to_string(), r#"principal == User::"alice""#);
-    /// assert_eq!(constraint.as_expr().to_string(), r#"principal == User::"alice""#);
-    /// assert_eq!(constraint.as_inner().get_euid(), Some(&alice));
-    /// assert_eq!(PrincipalConstraint::new(constraint.clone().into_inner()), constraint);
-    /// assert_eq!(PrincipalConstraint::is_in(alice).to_string(), r#"principal in User::"alice""#);
-    /// assert_eq!(PrincipalConstraint::any().as_expr().to_string(), "true");
-    /// ```
+    /// [`Self::new`] has an example.
+    #[must_use]
     pub fn any() -> Self {
         VariableConstraint::<V>::new(PrincipalOrResourceConstraint::any())
     }
 
     /// Returns the constraint `== euid`. Does not allocate.
     ///
-    /// ```
-    /// # use cedar_store::{ast::*, entities::*};
-    /// # fn uid(text: &str) -> EntityUID { EntityUID::from_normalized_str(text).unwrap() }
-    /// # use std::sync::Arc;
-    /// let alice = Arc::new(uid(r#"User::"alice""#));
-    /// let constraint = PrincipalConstraint::is_eq(Arc::clone(&alice));
-    /// assert_eq!(constraint.to_string(), r#"principal == User::"alice""#);
-    /// assert_eq!(constraint.as_expr().to_string(), r#"principal == User::"alice""#);
-    /// assert_eq!(constraint.as_inner().get_euid(), Some(&alice));
-    /// assert_eq!(PrincipalConstraint::new(constraint.clone().into_inner()), constraint);
-    /// assert_eq!(PrincipalConstraint::is_in(alice).to_string(), r#"principal in User::"alice""#);
-    /// assert_eq!(PrincipalConstraint::any().as_expr().to_string(), "true");
-    /// ```
+    /// [`Self::new`] has an example.
+    #[must_use]
     pub fn is_eq(euid: Arc<EntityUID>) -> Self {
         VariableConstraint::<V>::new(PrincipalOrResourceConstraint::is_eq(euid))
     }
@@ -183,10 +130,11 @@ impl<V: ScopeVariable> VariableConstraint<V> {
     /// Returns the constraint `== slot`. Does not allocate.
     ///
     /// ```
-    /// # use cedar_store::{ast::*, entities::*};
-    /// # fn uid(text: &str) -> EntityUID { EntityUID::from_normalized_str(text).unwrap() }
-    /// # use std::sync::Arc;
-    /// let (ty, album) = (Arc::new(EntityType::from_normalized_str("Photo")?), Arc::new(uid(r#"Album::"a""#)));
+    /// use cedar_store::ast::{EntityType, EntityUID, ResourceConstraint};
+    /// use std::sync::Arc;
+    ///
+    /// let ty = Arc::new(EntityType::from_normalized_str("Photo")?);
+    /// let album: Arc<EntityUID> = Arc::new(r#"Album::"a""#.parse()?);
     /// let filled = |constraint: ResourceConstraint| constraint.with_filled_slot(Arc::clone(&album)).to_string();
     /// assert_eq!(filled(ResourceConstraint::is_eq_slot()), r#"resource == Album::"a""#);
     /// assert_eq!(filled(ResourceConstraint::is_in_slot()), r#"resource in Album::"a""#);
@@ -195,98 +143,43 @@ impl<V: ScopeVariable> VariableConstraint<V> {
     ///     r#"resource is Photo in Album::"a""#
     /// );
     /// assert_eq!(filled(ResourceConstraint::is_entity_type(Arc::clone(&ty))), "resource is Photo");
-    /// let other = Arc::new(uid(r#"Album::"b""#));
+    /// let other = Arc::new(r#"Album::"b""#.parse()?);
     /// assert_eq!(filled(ResourceConstraint::is_entity_type_in(ty, other)), r#"resource is Photo in Album::"b""#);
     /// # Ok::<(), Box<dyn std::error::Error>>(())
     /// ```
+    #[must_use]
     pub fn is_eq_slot() -> Self {
         VariableConstraint::<V>::new(PrincipalOrResourceConstraint::is_eq_slot())
     }
 
     /// Returns the constraint `in euid`. Does not allocate.
     ///
-    /// ```
-    /// # use cedar_store::{ast::*, entities::*};
-    /// # fn uid(text: &str) -> EntityUID { EntityUID::from_normalized_str(text).unwrap() }
-    /// # use std::sync::Arc;
-    /// let alice = Arc::new(uid(r#"User::"alice""#));
-    /// let constraint = PrincipalConstraint::is_eq(Arc::clone(&alice));
-    /// assert_eq!(constraint.to_string(), r#"principal == User::"alice""#);
-    /// assert_eq!(constraint.as_expr().to_string(), r#"principal == User::"alice""#);
-    /// assert_eq!(constraint.as_inner().get_euid(), Some(&alice));
-    /// assert_eq!(PrincipalConstraint::new(constraint.clone().into_inner()), constraint);
-    /// assert_eq!(PrincipalConstraint::is_in(alice).to_string(), r#"principal in User::"alice""#);
-    /// assert_eq!(PrincipalConstraint::any().as_expr().to_string(), "true");
-    /// ```
+    /// [`Self::new`] has an example.
+    #[must_use]
     pub fn is_in(euid: Arc<EntityUID>) -> Self {
         VariableConstraint::<V>::new(PrincipalOrResourceConstraint::is_in(euid))
     }
 
     /// Returns the constraint `in slot`. Does not allocate.
     ///
-    /// ```
-    /// # use cedar_store::{ast::*, entities::*};
-    /// # fn uid(text: &str) -> EntityUID { EntityUID::from_normalized_str(text).unwrap() }
-    /// # use std::sync::Arc;
-    /// let (ty, album) = (Arc::new(EntityType::from_normalized_str("Photo")?), Arc::new(uid(r#"Album::"a""#)));
-    /// let filled = |constraint: ResourceConstraint| constraint.with_filled_slot(Arc::clone(&album)).to_string();
-    /// assert_eq!(filled(ResourceConstraint::is_eq_slot()), r#"resource == Album::"a""#);
-    /// assert_eq!(filled(ResourceConstraint::is_in_slot()), r#"resource in Album::"a""#);
-    /// assert_eq!(
-    ///     filled(ResourceConstraint::is_entity_type_in_slot(Arc::clone(&ty))),
-    ///     r#"resource is Photo in Album::"a""#
-    /// );
-    /// assert_eq!(filled(ResourceConstraint::is_entity_type(Arc::clone(&ty))), "resource is Photo");
-    /// let other = Arc::new(uid(r#"Album::"b""#));
-    /// assert_eq!(filled(ResourceConstraint::is_entity_type_in(ty, other)), r#"resource is Photo in Album::"b""#);
-    /// # Ok::<(), Box<dyn std::error::Error>>(())
-    /// ```
+    /// [`Self::is_eq_slot`] has an example.
+    #[must_use]
     pub fn is_in_slot() -> Self {
         VariableConstraint::<V>::new(PrincipalOrResourceConstraint::is_in_slot())
     }
 
     /// Returns the constraint `is entity_type`. Does not allocate.
     ///
-    /// ```
-    /// # use cedar_store::{ast::*, entities::*};
-    /// # fn uid(text: &str) -> EntityUID { EntityUID::from_normalized_str(text).unwrap() }
-    /// # use std::sync::Arc;
-    /// let (ty, album) = (Arc::new(EntityType::from_normalized_str("Photo")?), Arc::new(uid(r#"Album::"a""#)));
-    /// let filled = |constraint: ResourceConstraint| constraint.with_filled_slot(Arc::clone(&album)).to_string();
-    /// assert_eq!(filled(ResourceConstraint::is_eq_slot()), r#"resource == Album::"a""#);
-    /// assert_eq!(filled(ResourceConstraint::is_in_slot()), r#"resource in Album::"a""#);
-    /// assert_eq!(
-    ///     filled(ResourceConstraint::is_entity_type_in_slot(Arc::clone(&ty))),
-    ///     r#"resource is Photo in Album::"a""#
-    /// );
-    /// assert_eq!(filled(ResourceConstraint::is_entity_type(Arc::clone(&ty))), "resource is Photo");
-    /// let other = Arc::new(uid(r#"Album::"b""#));
-    /// assert_eq!(filled(ResourceConstraint::is_entity_type_in(ty, other)), r#"resource is Photo in Album::"b""#);
-    /// # Ok::<(), Box<dyn std::error::Error>>(())
-    /// ```
+    /// [`Self::is_eq_slot`] has an example.
+    #[must_use]
     pub fn is_entity_type(entity_type: Arc<EntityType>) -> Self {
         VariableConstraint::<V>::new(PrincipalOrResourceConstraint::is_entity_type(entity_type))
     }
 
     /// Returns the constraint `is entity_type in in_entity`. Does not allocate.
     ///
-    /// ```
-    /// # use cedar_store::{ast::*, entities::*};
-    /// # fn uid(text: &str) -> EntityUID { EntityUID::from_normalized_str(text).unwrap() }
-    /// # use std::sync::Arc;
-    /// let (ty, album) = (Arc::new(EntityType::from_normalized_str("Photo")?), Arc::new(uid(r#"Album::"a""#)));
-    /// let filled = |constraint: ResourceConstraint| constraint.with_filled_slot(Arc::clone(&album)).to_string();
-    /// assert_eq!(filled(ResourceConstraint::is_eq_slot()), r#"resource == Album::"a""#);
-    /// assert_eq!(filled(ResourceConstraint::is_in_slot()), r#"resource in Album::"a""#);
-    /// assert_eq!(
-    ///     filled(ResourceConstraint::is_entity_type_in_slot(Arc::clone(&ty))),
-    ///     r#"resource is Photo in Album::"a""#
-    /// );
-    /// assert_eq!(filled(ResourceConstraint::is_entity_type(Arc::clone(&ty))), "resource is Photo");
-    /// let other = Arc::new(uid(r#"Album::"b""#));
-    /// assert_eq!(filled(ResourceConstraint::is_entity_type_in(ty, other)), r#"resource is Photo in Album::"b""#);
-    /// # Ok::<(), Box<dyn std::error::Error>>(())
-    /// ```
+    /// [`Self::is_eq_slot`] has an example.
+    #[must_use]
     pub fn is_entity_type_in(entity_type: Arc<EntityType>, in_entity: Arc<EntityUID>) -> Self {
         let constraint = PrincipalOrResourceConstraint::is_entity_type_in(entity_type, in_entity);
         VariableConstraint::<V>::new(constraint)
@@ -294,23 +187,8 @@ impl<V: ScopeVariable> VariableConstraint<V> {
 
     /// Returns the constraint `is entity_type in slot`. Does not allocate.
     ///
-    /// ```
-    /// # use cedar_store::{ast::*, entities::*};
-    /// # fn uid(text: &str) -> EntityUID { EntityUID::from_normalized_str(text).unwrap() }
-    /// # use std::sync::Arc;
-    /// let (ty, album) = (Arc::new(EntityType::from_normalized_str("Photo")?), Arc::new(uid(r#"Album::"a""#)));
-    /// let filled = |constraint: ResourceConstraint| constraint.with_filled_slot(Arc::clone(&album)).to_string();
-    /// assert_eq!(filled(ResourceConstraint::is_eq_slot()), r#"resource == Album::"a""#);
-    /// assert_eq!(filled(ResourceConstraint::is_in_slot()), r#"resource in Album::"a""#);
-    /// assert_eq!(
-    ///     filled(ResourceConstraint::is_entity_type_in_slot(Arc::clone(&ty))),
-    ///     r#"resource is Photo in Album::"a""#
-    /// );
-    /// assert_eq!(filled(ResourceConstraint::is_entity_type(Arc::clone(&ty))), "resource is Photo");
-    /// let other = Arc::new(uid(r#"Album::"b""#));
-    /// assert_eq!(filled(ResourceConstraint::is_entity_type_in(ty, other)), r#"resource is Photo in Album::"b""#);
-    /// # Ok::<(), Box<dyn std::error::Error>>(())
-    /// ```
+    /// [`Self::is_eq_slot`] has an example.
+    #[must_use]
     pub fn is_entity_type_in_slot(entity_type: Arc<EntityType>) -> Self {
         VariableConstraint::<V>::new(PrincipalOrResourceConstraint::is_entity_type_in_slot(entity_type))
     }
@@ -318,23 +196,8 @@ impl<V: ScopeVariable> VariableConstraint<V> {
     /// Replaces the slot, if there is one, by the uid. A constraint without a slot is returned unchanged. The result
     /// has no slot, so a second call changes nothing. Does not allocate.
     ///
-    /// ```
-    /// # use cedar_store::{ast::*, entities::*};
-    /// # fn uid(text: &str) -> EntityUID { EntityUID::from_normalized_str(text).unwrap() }
-    /// # use std::sync::Arc;
-    /// let (ty, album) = (Arc::new(EntityType::from_normalized_str("Photo")?), Arc::new(uid(r#"Album::"a""#)));
-    /// let filled = |constraint: ResourceConstraint| constraint.with_filled_slot(Arc::clone(&album)).to_string();
-    /// assert_eq!(filled(ResourceConstraint::is_eq_slot()), r#"resource == Album::"a""#);
-    /// assert_eq!(filled(ResourceConstraint::is_in_slot()), r#"resource in Album::"a""#);
-    /// assert_eq!(
-    ///     filled(ResourceConstraint::is_entity_type_in_slot(Arc::clone(&ty))),
-    ///     r#"resource is Photo in Album::"a""#
-    /// );
-    /// assert_eq!(filled(ResourceConstraint::is_entity_type(Arc::clone(&ty))), "resource is Photo");
-    /// let other = Arc::new(uid(r#"Album::"b""#));
-    /// assert_eq!(filled(ResourceConstraint::is_entity_type_in(ty, other)), r#"resource is Photo in Album::"b""#);
-    /// # Ok::<(), Box<dyn std::error::Error>>(())
-    /// ```
+    /// [`Self::is_eq_slot`] has an example.
+    #[must_use]
     pub fn with_filled_slot(self, euid: Arc<EntityUID>) -> Self {
         VariableConstraint::<V>::new(self.constraint.with_filled_slot(euid))
     }

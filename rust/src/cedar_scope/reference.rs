@@ -32,29 +32,25 @@ impl EntityReference {
     /// Creates the reference to this uid. Does not allocate.
     ///
     /// ```
-    /// # use cedar_store::{ast::*, entities::*};
-    /// # fn uid(text: &str) -> EntityUID { EntityUID::from_normalized_str(text).unwrap() }
-    /// # use std::sync::Arc;
-    /// let alice = EntityReference::from_uid(uid(r#"User::"alice""#));
-    /// assert_eq!(alice, EntityReference::euid(Arc::new(uid(r#"User::"alice""#))));
+    /// use cedar_store::ast::{EntityReference, EntityUID, SlotId};
+    /// use std::sync::Arc;
+    ///
+    /// let uid: EntityUID = r#"User::"alice""#.parse()?;
+    /// let alice = EntityReference::from_uid(uid.clone());
+    /// assert_eq!(alice, EntityReference::euid(Arc::new(uid)));
     /// assert_eq!(alice.into_expr(SlotId::principal()).to_string(), r#"User::"alice""#);
     /// assert_eq!(EntityReference::Slot(None).into_expr(SlotId::principal()).to_string(), "?principal");
+    /// # Ok::<(), Box<dyn std::error::Error>>(())
     /// ```
+    #[must_use]
     pub fn euid(euid: Arc<EntityUID>) -> Self {
         Self::EUID(euid)
     }
 
     /// Creates the reference to this uid, and allocates a shared copy.
     ///
-    /// ```
-    /// # use cedar_store::{ast::*, entities::*};
-    /// # fn uid(text: &str) -> EntityUID { EntityUID::from_normalized_str(text).unwrap() }
-    /// # use std::sync::Arc;
-    /// let alice = EntityReference::from_uid(uid(r#"User::"alice""#));
-    /// assert_eq!(alice, EntityReference::euid(Arc::new(uid(r#"User::"alice""#))));
-    /// assert_eq!(alice.into_expr(SlotId::principal()).to_string(), r#"User::"alice""#);
-    /// assert_eq!(EntityReference::Slot(None).into_expr(SlotId::principal()).to_string(), "?principal");
-    /// ```
+    /// [`Self::euid`] has an example.
+    #[must_use]
     pub fn from_uid(uid: EntityUID) -> Self {
         let euid = Arc::new(uid);
         Self::euid(euid)
@@ -63,15 +59,8 @@ impl EntityReference {
     /// Returns the reference as an expression: the uid, or the given slot. The node of the slot has the location of the
     /// reference. The uid is shared.
     ///
-    /// ```
-    /// # use cedar_store::{ast::*, entities::*};
-    /// # fn uid(text: &str) -> EntityUID { EntityUID::from_normalized_str(text).unwrap() }
-    /// # use std::sync::Arc;
-    /// let alice = EntityReference::from_uid(uid(r#"User::"alice""#));
-    /// assert_eq!(alice, EntityReference::euid(Arc::new(uid(r#"User::"alice""#))));
-    /// assert_eq!(alice.into_expr(SlotId::principal()).to_string(), r#"User::"alice""#);
-    /// assert_eq!(EntityReference::Slot(None).into_expr(SlotId::principal()).to_string(), "?principal");
-    /// ```
+    /// [`Self::euid`] has an example.
+    #[must_use]
     pub fn into_expr(&self, slot: SlotId) -> Expr {
         match self {
             Self::EUID(euid) => Expr::val(Literal::EntityUID(euid.clone())),

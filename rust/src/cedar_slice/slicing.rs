@@ -4,33 +4,33 @@
 
 use crate::cedar_entities::{Entities, Entity, SharedUid, SharedUids, TCComputation};
 use crate::cedar_ids::entity::EntityUID;
-use std::collections::HashSet;
+use crate::shared_map::SharedSet;
 use std::hash::BuildHasher;
 
 // Inserts uids into a set.
-fn insert_uids<S: BuildHasher>(noted: &mut HashSet<SharedUid, S>, uids: SharedUids<'_>) {
+fn insert_uids<S: BuildHasher>(noted: &mut SharedSet<SharedUid, S>, uids: SharedUids<'_>) {
     for uid in uids {
         noted.insert(uid.clone());
     }
 }
 
 // Inserts the ancestors of the entity with a uid into a set, if the store has that entity.
-fn cache_ancestors<S: BuildHasher + Clone>(store: &Entities<S>, noted: &mut HashSet<SharedUid, S>, uid: &EntityUID) {
+fn cache_ancestors<S: BuildHasher + Clone>(store: &Entities<S>, noted: &mut SharedSet<SharedUid, S>, uid: &EntityUID) {
     if let Some(entity) = store.stored(uid) {
         insert_uids(noted, entity.shared_ancestors());
     }
 }
 
 // Inserts a requested uid, and the ancestors of the entity with this uid.
-fn want<S: BuildHasher + Clone>(store: &Entities<S>, wanted: &mut HashSet<SharedUid, S>, uid: &EntityUID) {
+fn want<S: BuildHasher + Clone>(store: &Entities<S>, wanted: &mut SharedSet<SharedUid, S>, uid: &EntityUID) {
     cache_ancestors(store, wanted, uid);
     wanted.insert(SharedUid::copy_of(uid));
 }
 
 // Returns the requested uids and the ancestors of the entities with these uids. Skips repeated uids.
-fn all_wanted<S: BuildHasher + Clone>(store: &Entities<S>, uids: &[EntityUID]) -> HashSet<SharedUid, S> {
-    let mut wanted = HashSet::with_hasher(store.hasher().clone());
-    let mut asked: HashSet<SharedUid, S> = HashSet::with_hasher(store.hasher().clone());
+fn all_wanted<S: BuildHasher + Clone>(store: &Entities<S>, uids: &[EntityUID]) -> SharedSet<SharedUid, S> {
+    let mut wanted = SharedSet::with_hasher(store.hasher().clone());
+    let mut asked: SharedSet<SharedUid, S> = SharedSet::with_hasher(store.hasher().clone());
     for uid in uids {
         if asked.contains(uid) {
             continue;
@@ -49,7 +49,7 @@ fn copy_held<S: BuildHasher + Clone>(store: &Entities<S>, list: &mut Vec<Entity>
 }
 
 // Returns copies of the entities with the uids.
-fn copies_of<S: BuildHasher + Clone>(store: &Entities<S>, uids: &HashSet<SharedUid, S>) -> Vec<Entity> {
+fn copies_of<S: BuildHasher + Clone>(store: &Entities<S>, uids: &SharedSet<SharedUid, S>) -> Vec<Entity> {
     let mut list = Vec::new();
     for uid in uids {
         copy_held(store, &mut list, uid);
@@ -82,22 +82,25 @@ fn part_of<S: BuildHasher + Clone>(store: &Entities<S>, uids: &[EntityUID]) -> E
 /// the store is not read. Attributes and tags are copied, and the uids of ancestors are shared.
 ///
 /// ```
-/// # use cedar_store::{ast::*, entities::*};
-/// # fn uid(text: &str) -> EntityUID { EntityUID::from_normalized_str(text).unwrap() }
-/// # fn entity_with(own: &str, parents: &[&str]) -> Entity {
-/// #     let mut entity = Entity::with_uid(uid(own));
-/// #     parents.iter().for_each(|parent| entity.add_parent(uid(parent)));
-/// #     entity
-/// # }
+/// use cedar_store::ast::{Entity, EntityUID};
+/// use cedar_store::entities::{Entities, TCComputation};
 /// use cedar_store::slice;
-/// let all = [entity_with(r#"A::"a""#, &[r#"A::"b""#]), entity_with(r#"A::"b""#, &[]), entity_with(r#"A::"z""#, &[r#"A::"b""#])];
-/// let store = Entities::from_entities(all, TCComputation::ComputeNow)?;
+///
+/// let staff = Entity::with_uid(r#"Group::"staff""#.parse()?);
+/// let (alice, bob): (EntityUID, EntityUID) = (r#"User::"alice""#.parse()?, r#"User::"bob""#.parse()?);
+/// let [in_staff, also_in_staff] = [&alice, &bob].map(|uid| {
+///     let mut user = Entity::with_uid(uid.clone());
+///     user.add_parent(staff.uid().clone());
+///     user
+/// });
+/// let store = Entities::from_entities([in_staff, also_in_staff, staff], TCComputation::ComputeNow)?;
 /// // the requested entities and their ancestors
-/// let part = slice(&store, &[uid(r#"A::"a""#)]);
+/// let part = slice(&store, &[alice]);
 /// assert_eq!(part.len(), 2);
-/// assert!(part.stored(&uid(r#"A::"z""#)).is_none());
+/// assert!(part.stored(&bob).is_none());
 /// # Ok::<(), Box<dyn std::error::Error>>(())
 /// ```
+#[must_use]
 pub fn slice<S: BuildHasher + Clone>(store: &Entities<S>, uids: &[EntityUID]) -> Entities<S> {
     part_of(store, uids).known_plain_with(store)
 }

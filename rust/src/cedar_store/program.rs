@@ -4,6 +4,7 @@
 
 use crate::cedar_keyed_hash::KeyedState;
 use crate::cedar_store::session::{Session, push_not_command};
+use crate::handwritten::line_feed::line_feed;
 use std::error::Error;
 use std::hash::BuildHasher;
 use std::io::{ErrorKind, Read, Write};
@@ -59,14 +60,30 @@ fn read_all<R: Read>(reader: &mut R) -> Result<Vec<u8>, RunError> {
 }
 
 // Splits at the first line feed. Returns the bytes before it, and the bytes after it if there is a line feed.
-fn first_line(input: &[u8]) -> (&[u8], Option<&[u8]>) {
-    match input.iter().position(|byte| *byte == b'\n') {
+#[inline(never)]
+fn first_line_by_search(input: &[u8]) -> (&[u8], Option<&[u8]>) {
+    match line_feed(input) {
         None => (input, None),
         Some(i) => {
             let (line, rest) = input.split_at(i);
             match rest.split_first() {
                 None => (input, None),
                 Some((_, rest)) => (line, Some(rest)),
+            }
+        }
+    }
+}
+
+// Splits at the first line feed, as `first_line_by_search` does. An empty line is found without a search.
+#[inline(always)]
+fn first_line(input: &[u8]) -> (&[u8], Option<&[u8]>) {
+    match input.split_first() {
+        None => (input, None),
+        Some((first, rest)) => {
+            if *first == b'\n' {
+                (&input[..0], Some(rest))
+            } else {
+                first_line_by_search(input)
             }
         }
     }
@@ -137,8 +154,8 @@ fn run_by<S: BuildHasher + Clone, R: Read, W: Write>(
 /// The original has no such function.
 ///
 /// ```
-/// # use cedar_store::{ast::*, entities::*};
 /// use cedar_store::program::{run, run_and_leave, run_and_leave_with, run_with};
+///
 /// let lines = b"ent\tA::\"a\"\tA::\"b\"\nbuild\nanc\tA::\"a\"\n";
 /// let key = cedar_store::KeyedState::with_keys(1, 2);
 /// let mut written = Vec::new();
@@ -162,20 +179,7 @@ pub fn run<R: Read, W: Write>(reader: &mut R, writer: &mut W) -> Result<u8, RunE
 ///
 /// - `Read`, `Write`: in the same cases as [`run`].
 ///
-/// ```
-/// # use cedar_store::{ast::*, entities::*};
-/// use cedar_store::program::{run, run_and_leave, run_and_leave_with, run_with};
-/// let lines = b"ent\tA::\"a\"\tA::\"b\"\nbuild\nanc\tA::\"a\"\n";
-/// let key = cedar_store::KeyedState::with_keys(1, 2);
-/// let mut written = Vec::new();
-/// assert_eq!(run(&mut &lines[..], &mut written)?, 0);
-/// assert_eq!(written, b"ok 1\nanc\tA::\"b\"\n");
-/// assert_eq!(run_with(key, &mut &lines[..], &mut Vec::new())?, 0);
-/// // these calls do not free the memory of the session
-/// assert_eq!(run_and_leave(&mut &lines[..], &mut Vec::new())?, 0);
-/// assert_eq!(run_and_leave_with(key, &mut &b"frob"[..], &mut Vec::new())?, 2);
-/// # Ok::<(), Box<dyn std::error::Error>>(())
-/// ```
+/// [`run`] has an example.
 pub fn run_with<S: BuildHasher + Clone, R: Read, W: Write>(
     hasher: S,
     reader: &mut R,
@@ -198,20 +202,7 @@ pub fn run_with<S: BuildHasher + Clone, R: Read, W: Write>(
 ///
 /// The original has no such function.
 ///
-/// ```
-/// # use cedar_store::{ast::*, entities::*};
-/// use cedar_store::program::{run, run_and_leave, run_and_leave_with, run_with};
-/// let lines = b"ent\tA::\"a\"\tA::\"b\"\nbuild\nanc\tA::\"a\"\n";
-/// let key = cedar_store::KeyedState::with_keys(1, 2);
-/// let mut written = Vec::new();
-/// assert_eq!(run(&mut &lines[..], &mut written)?, 0);
-/// assert_eq!(written, b"ok 1\nanc\tA::\"b\"\n");
-/// assert_eq!(run_with(key, &mut &lines[..], &mut Vec::new())?, 0);
-/// // these calls do not free the memory of the session
-/// assert_eq!(run_and_leave(&mut &lines[..], &mut Vec::new())?, 0);
-/// assert_eq!(run_and_leave_with(key, &mut &b"frob"[..], &mut Vec::new())?, 2);
-/// # Ok::<(), Box<dyn std::error::Error>>(())
-/// ```
+/// [`run`] has an example.
 pub fn run_and_leave<R: Read, W: Write>(reader: &mut R, writer: &mut W) -> Result<u8, RunError> {
     let hasher = KeyedState::default();
     run_and_leave_with(hasher, reader, writer)
@@ -224,20 +215,7 @@ pub fn run_and_leave<R: Read, W: Write>(reader: &mut R, writer: &mut W) -> Resul
 ///
 /// - `Read`, `Write`: in the same cases as [`run`].
 ///
-/// ```
-/// # use cedar_store::{ast::*, entities::*};
-/// use cedar_store::program::{run, run_and_leave, run_and_leave_with, run_with};
-/// let lines = b"ent\tA::\"a\"\tA::\"b\"\nbuild\nanc\tA::\"a\"\n";
-/// let key = cedar_store::KeyedState::with_keys(1, 2);
-/// let mut written = Vec::new();
-/// assert_eq!(run(&mut &lines[..], &mut written)?, 0);
-/// assert_eq!(written, b"ok 1\nanc\tA::\"b\"\n");
-/// assert_eq!(run_with(key, &mut &lines[..], &mut Vec::new())?, 0);
-/// // these calls do not free the memory of the session
-/// assert_eq!(run_and_leave(&mut &lines[..], &mut Vec::new())?, 0);
-/// assert_eq!(run_and_leave_with(key, &mut &b"frob"[..], &mut Vec::new())?, 2);
-/// # Ok::<(), Box<dyn std::error::Error>>(())
-/// ```
+/// [`run`] has an example.
 pub fn run_and_leave_with<S: BuildHasher + Clone, R: Read, W: Write>(
     hasher: S,
     reader: &mut R,

@@ -16,7 +16,7 @@ use std::hash::BuildHasher;
 ///
 /// The original has no such type.
 // `known` caches the entity types and parents of earlier lines.
-pub struct Session<S: BuildHasher = KeyedState> {
+pub struct Session<S = KeyedState> {
     entities: LineStore<S>,
     sets: PolicySets<S>,
     known: KnownUids,
@@ -30,7 +30,6 @@ pub struct Session<S: BuildHasher = KeyedState> {
 /// The original has no such function.
 ///
 /// ```
-/// # use cedar_store::{ast::*, entities::*};
 /// let mut out = Vec::new();
 /// cedar_store::program::push_not_command(&mut out, 3);
 /// assert_eq!(out, b"line 3: not a command\n");
@@ -60,8 +59,8 @@ impl Session {
     /// The original has no such function.
     ///
     /// ```
-    /// # use cedar_store::{ast::*, entities::*};
     /// use cedar_store::program::Session;
+    ///
     /// let mut session = Session::new();
     /// let mut out = Vec::new();
     /// assert!(session.apply_line(b"ent\tA::\"a\"", &mut out) && session.apply_line(b"build", &mut out));
@@ -70,6 +69,7 @@ impl Session {
     /// assert!(Session::with_hasher(cedar_store::KeyedState::with_keys(1, 2)).apply_line(b"build", &mut out));
     /// ```
     #[inline]
+    #[must_use]
     pub fn new() -> Self {
         Self::with_hasher(KeyedState::default())
     }
@@ -79,17 +79,9 @@ impl<S: BuildHasher + Clone> Session<S> {
     /// Creates a session as [`Session::new`] does, with maps that use this builder of hashers. The choice of hasher
     /// never changes the output.
     ///
-    /// ```
-    /// # use cedar_store::{ast::*, entities::*};
-    /// use cedar_store::program::Session;
-    /// let mut session = Session::new();
-    /// let mut out = Vec::new();
-    /// assert!(session.apply_line(b"ent\tA::\"a\"", &mut out) && session.apply_line(b"build", &mut out));
-    /// assert_eq!(out, b"ok 1\n");
-    /// assert!(!session.apply_line(b"frob", &mut out));
-    /// assert!(Session::with_hasher(cedar_store::KeyedState::with_keys(1, 2)).apply_line(b"build", &mut out));
-    /// ```
+    /// [`Self::new`] has an example.
     #[inline]
+    #[must_use]
     pub fn with_hasher(hasher: S) -> Self {
         Self {
             entities: LineStore::with_hasher(hasher.clone()),
@@ -166,16 +158,7 @@ impl<S: BuildHasher + Clone> Session<S> {
     ///
     /// The original has no such function.
     ///
-    /// ```
-    /// # use cedar_store::{ast::*, entities::*};
-    /// use cedar_store::program::Session;
-    /// let mut session = Session::new();
-    /// let mut out = Vec::new();
-    /// assert!(session.apply_line(b"ent\tA::\"a\"", &mut out) && session.apply_line(b"build", &mut out));
-    /// assert_eq!(out, b"ok 1\n");
-    /// assert!(!session.apply_line(b"frob", &mut out));
-    /// assert!(Session::with_hasher(cedar_store::KeyedState::with_keys(1, 2)).apply_line(b"build", &mut out));
-    /// ```
+    /// [`Self::new`] has an example.
     #[inline]
     pub fn apply_line(&mut self, line: &[u8], out: &mut Vec<u8>) -> bool {
         let mut fields = Vec::new();

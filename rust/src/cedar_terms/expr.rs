@@ -25,14 +25,14 @@ use std::sync::Arc;
 ///
 /// Comparing, hashing and writing recurse into the tree and do not allocate. An expression with 10,000 levels does not
 /// exhaust an ordinary stack.
-#[derive(Debug)]
+#[derive(Clone, Debug)]
 pub struct Expr {
     pub(crate) kind: ExprKind,
     pub(crate) loc: Option<Loc>,
 }
 
 // The kind of a node. The constructors of `Expr` describe each kind.
-#[derive(Debug)]
+#[derive(Clone, Debug)]
 pub(crate) enum ExprKind {
     Lit(Literal),
     Var(Var),
@@ -68,7 +68,8 @@ impl Expr {
     /// Creates the expression of a literal. A new node has no location. Does not allocate.
     ///
     /// ```
-    /// # use cedar_store::{ast::*, entities::*};
+    /// use cedar_store::ast::{Expr, Name, SlotId, Unknown, Var};
+    ///
     /// let unknown = Expr::unknown(Unknown::new_untyped("u"));
     /// let all = Expr::set([Expr::val("a\"b"), Expr::var(Var::Context), Expr::slot(SlotId::resource()), unknown]);
     /// assert_eq!(all.to_string(), r#"["a\"b", context, ?resource, unknown("u")]"#);
@@ -76,51 +77,31 @@ impl Expr {
     /// assert_eq!(ip.to_string(), r#"ip("10.0.0.1")"#);
     /// # Ok::<(), Box<dyn std::error::Error>>(())
     /// ```
+    #[must_use]
     pub fn val(literal: impl Into<Literal>) -> Self {
         Self::of(ExprKind::Lit(literal.into()))
     }
 
     /// Creates the expression of a variable. Does not allocate.
     ///
-    /// ```
-    /// # use cedar_store::{ast::*, entities::*};
-    /// let unknown = Expr::unknown(Unknown::new_untyped("u"));
-    /// let all = Expr::set([Expr::val("a\"b"), Expr::var(Var::Context), Expr::slot(SlotId::resource()), unknown]);
-    /// assert_eq!(all.to_string(), r#"["a\"b", context, ?resource, unknown("u")]"#);
-    /// let ip = Expr::call(Name::from_normalized_str("ip")?, vec![Expr::val("10.0.0.1")]);
-    /// assert_eq!(ip.to_string(), r#"ip("10.0.0.1")"#);
-    /// # Ok::<(), Box<dyn std::error::Error>>(())
-    /// ```
+    /// [`Self::val`] has an example.
+    #[must_use]
     pub fn var(var: Var) -> Self {
         Self::of(ExprKind::Var(var))
     }
 
     /// Creates the expression of a slot. Does not allocate.
     ///
-    /// ```
-    /// # use cedar_store::{ast::*, entities::*};
-    /// let unknown = Expr::unknown(Unknown::new_untyped("u"));
-    /// let all = Expr::set([Expr::val("a\"b"), Expr::var(Var::Context), Expr::slot(SlotId::resource()), unknown]);
-    /// assert_eq!(all.to_string(), r#"["a\"b", context, ?resource, unknown("u")]"#);
-    /// let ip = Expr::call(Name::from_normalized_str("ip")?, vec![Expr::val("10.0.0.1")]);
-    /// assert_eq!(ip.to_string(), r#"ip("10.0.0.1")"#);
-    /// # Ok::<(), Box<dyn std::error::Error>>(())
-    /// ```
+    /// [`Self::val`] has an example.
+    #[must_use]
     pub fn slot(id: SlotId) -> Self {
         Self::of(ExprKind::Slot(id))
     }
 
     /// Creates the expression of an unknown.
     ///
-    /// ```
-    /// # use cedar_store::{ast::*, entities::*};
-    /// let unknown = Expr::unknown(Unknown::new_untyped("u"));
-    /// let all = Expr::set([Expr::val("a\"b"), Expr::var(Var::Context), Expr::slot(SlotId::resource()), unknown]);
-    /// assert_eq!(all.to_string(), r#"["a\"b", context, ?resource, unknown("u")]"#);
-    /// let ip = Expr::call(Name::from_normalized_str("ip")?, vec![Expr::val("10.0.0.1")]);
-    /// assert_eq!(ip.to_string(), r#"ip("10.0.0.1")"#);
-    /// # Ok::<(), Box<dyn std::error::Error>>(())
-    /// ```
+    /// [`Self::val`] has an example.
+    #[must_use]
     pub fn unknown(unknown: Unknown) -> Self {
         let unknown = Arc::new(unknown);
         Self::of(ExprKind::Unknown(unknown))
@@ -128,15 +109,8 @@ impl Expr {
 
     /// Creates a set expression, with the elements in the given order.
     ///
-    /// ```
-    /// # use cedar_store::{ast::*, entities::*};
-    /// let unknown = Expr::unknown(Unknown::new_untyped("u"));
-    /// let all = Expr::set([Expr::val("a\"b"), Expr::var(Var::Context), Expr::slot(SlotId::resource()), unknown]);
-    /// assert_eq!(all.to_string(), r#"["a\"b", context, ?resource, unknown("u")]"#);
-    /// let ip = Expr::call(Name::from_normalized_str("ip")?, vec![Expr::val("10.0.0.1")]);
-    /// assert_eq!(ip.to_string(), r#"ip("10.0.0.1")"#);
-    /// # Ok::<(), Box<dyn std::error::Error>>(())
-    /// ```
+    /// [`Self::val`] has an example.
+    #[must_use]
     pub fn set(exprs: impl IntoIterator<Item = Self>) -> Self {
         let exprs = Arc::new(exprs.into_iter().collect::<Vec<_>>());
         Self::of(ExprKind::Set(exprs))
@@ -148,15 +122,8 @@ impl Expr {
     ///
     /// The original calls this `call_extension_fn`.
     ///
-    /// ```
-    /// # use cedar_store::{ast::*, entities::*};
-    /// let unknown = Expr::unknown(Unknown::new_untyped("u"));
-    /// let all = Expr::set([Expr::val("a\"b"), Expr::var(Var::Context), Expr::slot(SlotId::resource()), unknown]);
-    /// assert_eq!(all.to_string(), r#"["a\"b", context, ?resource, unknown("u")]"#);
-    /// let ip = Expr::call(Name::from_normalized_str("ip")?, vec![Expr::val("10.0.0.1")]);
-    /// assert_eq!(ip.to_string(), r#"ip("10.0.0.1")"#);
-    /// # Ok::<(), Box<dyn std::error::Error>>(())
-    /// ```
+    /// [`Self::val`] has an example.
+    #[must_use]
     pub fn call(name: Name, args: Vec<Self>) -> Self {
         let args = Arc::new(args);
         Self::of(ExprKind::Call(name, args))
@@ -165,13 +132,15 @@ impl Expr {
     /// Creates the negation of an expression: `!operand`.
     ///
     /// ```
-    /// # use cedar_store::{ast::*, entities::*};
-    /// # fn uid(text: &str) -> EntityUID { EntityUID::from_normalized_str(text).unwrap() }
+    /// use cedar_store::ast::{EntityType, EntityUID, Expr, Var};
+    ///
     /// let user = EntityType::from_normalized_str("User")?;
+    /// let alice: EntityUID = r#"User::"alice""#.parse()?;
+    /// let staff: EntityUID = r#"Group::"staff""#.parse()?;
     /// let principal = || Expr::var(Var::Principal);
     /// let is_user = Expr::is_entity_type(principal(), user);
-    /// let is_alice = Expr::is_eq(principal(), Expr::val(uid(r#"User::"alice""#)));
-    /// let is_staff = Expr::is_in(principal(), Expr::val(uid(r#"Group::"staff""#)));
+    /// let is_alice = Expr::is_eq(principal(), Expr::val(alice));
+    /// let is_staff = Expr::is_in(principal(), Expr::val(staff));
     /// let all = Expr::and(is_user, Expr::and(Expr::not(is_alice), is_staff));
     /// assert_eq!(
     ///     all.to_string(),
@@ -179,6 +148,7 @@ impl Expr {
     /// );
     /// # Ok::<(), Box<dyn std::error::Error>>(())
     /// ```
+    #[must_use]
     pub fn not(operand: Self) -> Self {
         let operand = Arc::new(operand);
         Self::of(ExprKind::Not(operand))
@@ -186,84 +156,32 @@ impl Expr {
 
     /// Creates the conjunction of two expressions: `left && right`. It is always a new node.
     ///
-    /// ```
-    /// # use cedar_store::{ast::*, entities::*};
-    /// # fn uid(text: &str) -> EntityUID { EntityUID::from_normalized_str(text).unwrap() }
-    /// let user = EntityType::from_normalized_str("User")?;
-    /// let principal = || Expr::var(Var::Principal);
-    /// let is_user = Expr::is_entity_type(principal(), user);
-    /// let is_alice = Expr::is_eq(principal(), Expr::val(uid(r#"User::"alice""#)));
-    /// let is_staff = Expr::is_in(principal(), Expr::val(uid(r#"Group::"staff""#)));
-    /// let all = Expr::and(is_user, Expr::and(Expr::not(is_alice), is_staff));
-    /// assert_eq!(
-    ///     all.to_string(),
-    ///     r#"(principal is User) && ((!(principal == User::"alice")) && (principal in Group::"staff"))"#
-    /// );
-    /// # Ok::<(), Box<dyn std::error::Error>>(())
-    /// ```
+    /// [`Self::not`] has an example.
+    #[must_use]
     pub fn and(left: Self, right: Self) -> Self {
         Self::binary(BinaryOp::And, left, right)
     }
 
     /// Creates the equality test `left == right`.
     ///
-    /// ```
-    /// # use cedar_store::{ast::*, entities::*};
-    /// # fn uid(text: &str) -> EntityUID { EntityUID::from_normalized_str(text).unwrap() }
-    /// let user = EntityType::from_normalized_str("User")?;
-    /// let principal = || Expr::var(Var::Principal);
-    /// let is_user = Expr::is_entity_type(principal(), user);
-    /// let is_alice = Expr::is_eq(principal(), Expr::val(uid(r#"User::"alice""#)));
-    /// let is_staff = Expr::is_in(principal(), Expr::val(uid(r#"Group::"staff""#)));
-    /// let all = Expr::and(is_user, Expr::and(Expr::not(is_alice), is_staff));
-    /// assert_eq!(
-    ///     all.to_string(),
-    ///     r#"(principal is User) && ((!(principal == User::"alice")) && (principal in Group::"staff"))"#
-    /// );
-    /// # Ok::<(), Box<dyn std::error::Error>>(())
-    /// ```
+    /// [`Self::not`] has an example.
+    #[must_use]
     pub fn is_eq(left: Self, right: Self) -> Self {
         Self::binary(BinaryOp::Eq, left, right)
     }
 
     /// Creates the hierarchy test `left in right`.
     ///
-    /// ```
-    /// # use cedar_store::{ast::*, entities::*};
-    /// # fn uid(text: &str) -> EntityUID { EntityUID::from_normalized_str(text).unwrap() }
-    /// let user = EntityType::from_normalized_str("User")?;
-    /// let principal = || Expr::var(Var::Principal);
-    /// let is_user = Expr::is_entity_type(principal(), user);
-    /// let is_alice = Expr::is_eq(principal(), Expr::val(uid(r#"User::"alice""#)));
-    /// let is_staff = Expr::is_in(principal(), Expr::val(uid(r#"Group::"staff""#)));
-    /// let all = Expr::and(is_user, Expr::and(Expr::not(is_alice), is_staff));
-    /// assert_eq!(
-    ///     all.to_string(),
-    ///     r#"(principal is User) && ((!(principal == User::"alice")) && (principal in Group::"staff"))"#
-    /// );
-    /// # Ok::<(), Box<dyn std::error::Error>>(())
-    /// ```
+    /// [`Self::not`] has an example.
+    #[must_use]
     pub fn is_in(left: Self, right: Self) -> Self {
         Self::binary(BinaryOp::In, left, right)
     }
 
     /// Creates the type test `operand is ty`.
     ///
-    /// ```
-    /// # use cedar_store::{ast::*, entities::*};
-    /// # fn uid(text: &str) -> EntityUID { EntityUID::from_normalized_str(text).unwrap() }
-    /// let user = EntityType::from_normalized_str("User")?;
-    /// let principal = || Expr::var(Var::Principal);
-    /// let is_user = Expr::is_entity_type(principal(), user);
-    /// let is_alice = Expr::is_eq(principal(), Expr::val(uid(r#"User::"alice""#)));
-    /// let is_staff = Expr::is_in(principal(), Expr::val(uid(r#"Group::"staff""#)));
-    /// let all = Expr::and(is_user, Expr::and(Expr::not(is_alice), is_staff));
-    /// assert_eq!(
-    ///     all.to_string(),
-    ///     r#"(principal is User) && ((!(principal == User::"alice")) && (principal in Group::"staff"))"#
-    /// );
-    /// # Ok::<(), Box<dyn std::error::Error>>(())
-    /// ```
+    /// [`Self::not`] has an example.
+    #[must_use]
     pub fn is_entity_type(operand: Self, ty: EntityType) -> Self {
         let operand = Arc::new(operand);
         Self::of(ExprKind::Is(operand, ty))
@@ -284,53 +202,26 @@ impl Expr {
     /// Replaces the location of the root node. Does not allocate.
     ///
     /// ```
-    /// # use cedar_store::{ast::*, entities::*};
+    /// use cedar_store::ast::Expr;
     /// use cedar_store::parser::Loc;
+    ///
     /// let place = Loc::new(0, 4, "true".into());
     /// let expr = Expr::val(true).with_maybe_source_loc(Some(place));
     /// assert_eq!(expr.source_loc().map(|place| place.end), Some(4));
     /// // equality ignores locations
     /// assert_eq!(expr, Expr::val(true));
     /// ```
+    #[must_use]
     pub fn with_maybe_source_loc(self, loc: Option<Loc>) -> Self {
         Self { kind: self.kind, loc }
     }
 
     /// Returns the location of the root node, if it has one. Does not allocate.
     ///
-    /// ```
-    /// # use cedar_store::{ast::*, entities::*};
-    /// use cedar_store::parser::Loc;
-    /// let place = Loc::new(0, 4, "true".into());
-    /// let expr = Expr::val(true).with_maybe_source_loc(Some(place));
-    /// assert_eq!(expr.source_loc().map(|place| place.end), Some(4));
-    /// // equality ignores locations
-    /// assert_eq!(expr, Expr::val(true));
-    /// ```
+    /// [`Self::with_maybe_source_loc`] has an example.
+    #[must_use]
     pub fn source_loc(&self) -> Option<&Loc> {
         self.loc.as_ref()
-    }
-}
-
-impl Clone for Expr {
-    /// Copies the expression, with its location. All parts are shared, except that the text of a string literal at the
-    /// root is copied.
-    fn clone(&self) -> Self {
-        let kind = match &self.kind {
-            ExprKind::Lit(literal) => ExprKind::Lit(literal.clone()),
-            ExprKind::Var(var) => ExprKind::Var(*var),
-            ExprKind::Slot(id) => ExprKind::Slot(*id),
-            ExprKind::Unknown(unknown) => ExprKind::Unknown(unknown.clone()),
-            ExprKind::Set(exprs) => ExprKind::Set(exprs.clone()),
-            ExprKind::Call(name, args) => ExprKind::Call(name.clone(), args.clone()),
-            ExprKind::Not(operand) => ExprKind::Not(operand.clone()),
-            ExprKind::Binary(op, left, right) => ExprKind::Binary(*op, left.clone(), right.clone()),
-            ExprKind::Is(operand, ty) => ExprKind::Is(operand.clone(), ty.clone()),
-        };
-        Self {
-            kind,
-            loc: self.loc.clone(),
-        }
     }
 }
 

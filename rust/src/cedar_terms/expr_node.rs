@@ -51,11 +51,13 @@ impl Expr {
     /// representation of an expression.
     ///
     /// ```
-    /// # use cedar_store::{ast::*, entities::*};
+    /// use cedar_store::ast::{Expr, ExprNode, SlotId};
+    ///
     /// let test = Expr::not(Expr::slot(SlotId::resource()));
     /// let ExprNode::Not(operand) = test.node() else { panic!() };
     /// assert!(matches!(operand.node(), ExprNode::Slot(SlotId::Resource)));
     /// ```
+    #[must_use]
     pub fn node(&self) -> ExprNode<'_> {
         match &self.kind {
             ExprKind::Lit(literal) => ExprNode::Val(literal),

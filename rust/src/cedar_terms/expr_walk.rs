@@ -23,7 +23,8 @@ impl Expr {
     /// The original returns an iterator.
     ///
     /// ```
-    /// # use cedar_store::{ast::*, entities::*};
+    /// use cedar_store::ast::{Expr, SlotId, Unknown};
+    ///
     /// let unknown = Expr::unknown(Unknown::new_untyped("u"));
     /// let all = Expr::set([Expr::slot(SlotId::principal()), Expr::not(unknown), Expr::slot(SlotId::resource())]);
     /// assert_eq!(all.subexpressions().len(), 5);
@@ -31,6 +32,7 @@ impl Expr {
     /// assert_eq!(all.slots().iter().map(|slot| slot.id).collect::<Vec<_>>(), [SlotId::resource(), SlotId::principal()]);
     /// assert_eq!(all.unknowns()[0].name, "u");
     /// ```
+    #[must_use]
     pub fn subexpressions(&self) -> Vec<&Self> {
         let mut pending = vec![self];
         let mut met = Vec::new();
@@ -44,15 +46,8 @@ impl Expr {
     /// Returns the slots of the expression, in the order of [`Expr::subexpressions`] and with repetitions. Each slot
     /// has the location of its node.
     ///
-    /// ```
-    /// # use cedar_store::{ast::*, entities::*};
-    /// let unknown = Expr::unknown(Unknown::new_untyped("u"));
-    /// let all = Expr::set([Expr::slot(SlotId::principal()), Expr::not(unknown), Expr::slot(SlotId::resource())]);
-    /// assert_eq!(all.subexpressions().len(), 5);
-    /// // a node comes before its operands, which are visited from the last to the first
-    /// assert_eq!(all.slots().iter().map(|slot| slot.id).collect::<Vec<_>>(), [SlotId::resource(), SlotId::principal()]);
-    /// assert_eq!(all.unknowns()[0].name, "u");
-    /// ```
+    /// [`Self::subexpressions`] has an example.
+    #[must_use]
     pub fn slots(&self) -> Vec<Slot> {
         let nodes = self.subexpressions();
         let mut slots = Vec::new();
@@ -69,15 +64,8 @@ impl Expr {
 
     /// Returns the unknowns of the expression, in the order of [`Expr::subexpressions`] and with repetitions.
     ///
-    /// ```
-    /// # use cedar_store::{ast::*, entities::*};
-    /// let unknown = Expr::unknown(Unknown::new_untyped("u"));
-    /// let all = Expr::set([Expr::slot(SlotId::principal()), Expr::not(unknown), Expr::slot(SlotId::resource())]);
-    /// assert_eq!(all.subexpressions().len(), 5);
-    /// // a node comes before its operands, which are visited from the last to the first
-    /// assert_eq!(all.slots().iter().map(|slot| slot.id).collect::<Vec<_>>(), [SlotId::resource(), SlotId::principal()]);
-    /// assert_eq!(all.unknowns()[0].name, "u");
-    /// ```
+    /// [`Self::subexpressions`] has an example.
+    #[must_use]
     pub fn unknowns(&self) -> Vec<&Unknown> {
         let nodes = self.subexpressions();
         let mut unknowns = Vec::new();

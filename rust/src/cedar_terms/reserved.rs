@@ -6,9 +6,11 @@
 /// allocate.
 ///
 /// ```
-/// # use cedar_store::{ast::*, entities::*};
+/// use cedar_store::ast::is_reserved_key;
+///
 /// assert!(is_reserved_key("__extn") && !is_reserved_key("extn"));
 /// ```
+#[must_use]
 pub fn is_reserved_key(key: &str) -> bool {
     key == "__extn" || key == "__expr" || key == "__entity"
 }

@@ -31,10 +31,12 @@ impl SlotId {
     /// Returns the id of the principal's slot. Does not allocate.
     ///
     /// ```
-    /// # use cedar_store::{ast::*, entities::*};
+    /// use cedar_store::ast::SlotId;
+    ///
     /// assert!(SlotId::principal() < SlotId::action() && SlotId::action() < SlotId::resource());
     /// assert_eq!(SlotId::action().to_string(), "?action");
     /// ```
+    #[must_use]
     pub fn principal() -> Self {
         Self::Principal
     }
@@ -45,22 +47,16 @@ impl SlotId {
     ///
     /// The original has no such slot.
     ///
-    /// ```
-    /// # use cedar_store::{ast::*, entities::*};
-    /// assert!(SlotId::principal() < SlotId::action() && SlotId::action() < SlotId::resource());
-    /// assert_eq!(SlotId::action().to_string(), "?action");
-    /// ```
+    /// [`Self::principal`] has an example.
+    #[must_use]
     pub fn action() -> Self {
         Self::Action
     }
 
     /// Returns the id of the resource's slot. Does not allocate.
     ///
-    /// ```
-    /// # use cedar_store::{ast::*, entities::*};
-    /// assert!(SlotId::principal() < SlotId::action() && SlotId::action() < SlotId::resource());
-    /// assert_eq!(SlotId::action().to_string(), "?action");
-    /// ```
+    /// [`Self::principal`] has an example.
+    #[must_use]
     pub fn resource() -> Self {
         Self::Resource
     }

@@ -10,7 +10,7 @@ use std::hash::{Hash, Hasher};
 /// A value that is not known yet: its name and its optional type.
 ///
 /// Comparing and hashing ignore locations and do not allocate.
-#[derive(Debug)]
+#[derive(Clone, Debug)]
 pub struct Unknown {
     /// The name that identifies the unknown.
     pub name: String,
@@ -22,12 +22,14 @@ impl Unknown {
     /// Creates an unknown with this name and without a type. Does not allocate.
     ///
     /// ```
-    /// # use cedar_store::{ast::*, entities::*};
+    /// use cedar_store::ast::{EntityType, StaticType, Unknown};
+    ///
     /// let typed = Unknown::new_with_type("u", StaticType::Entity { ty: EntityType::from_normalized_str("User")? });
     /// assert!(typed.type_annotation.is_some());
     /// assert_ne!(typed, Unknown::new_untyped("u"));
     /// # Ok::<(), Box<dyn std::error::Error>>(())
     /// ```
+    #[must_use]
     pub fn new_untyped(name: impl Into<String>) -> Self {
         Self {
             name: name.into(),
@@ -37,28 +39,12 @@ impl Unknown {
 
     /// Creates an unknown with this name and type. Does not allocate.
     ///
-    /// ```
-    /// # use cedar_store::{ast::*, entities::*};
-    /// let typed = Unknown::new_with_type("u", StaticType::Entity { ty: EntityType::from_normalized_str("User")? });
-    /// assert!(typed.type_annotation.is_some());
-    /// assert_ne!(typed, Unknown::new_untyped("u"));
-    /// # Ok::<(), Box<dyn std::error::Error>>(())
-    /// ```
+    /// [`Self::new_untyped`] has an example.
+    #[must_use]
     pub fn new_with_type(name: impl Into<String>, ty: StaticType) -> Self {
         Self {
             name: name.into(),
             type_annotation: Some(ty),
-        }
-    }
-}
-
-impl Clone for Unknown {
-    /// Copies the unknown.
-    fn clone(&self) -> Self {
-        let type_annotation = self.type_annotation.clone();
-        Self {
-            name: self.name.clone(),
-            type_annotation,
         }
     }
 }

@@ -50,7 +50,8 @@ impl Value {
     /// Creates a value with this content and location. Does not allocate.
     ///
     /// ```
-    /// # use cedar_store::{ast::*, entities::*};
+    /// use cedar_store::ast::Value;
+    ///
     /// let set = Value::set([Value::from(2), Value::from(1), Value::from(2)], None);
     /// assert_eq!(set.to_string(), "[1, 2]");
     /// // if a key is repeated, the last value is used
@@ -58,6 +59,7 @@ impl Value {
     /// assert_eq!(record.to_string(), r#"{"k": [1, 2]}"#);
     /// assert_eq!(Value::new(set.value.clone(), None), set);
     /// ```
+    #[must_use]
     pub fn new(value: ValueKind, loc: Option<Loc>) -> Self {
         Self { value, loc }
     }
@@ -69,15 +71,8 @@ impl Value {
     ///
     /// O(n log n) comparisons, where n is the number of values. Allocates.
     ///
-    /// ```
-    /// # use cedar_store::{ast::*, entities::*};
-    /// let set = Value::set([Value::from(2), Value::from(1), Value::from(2)], None);
-    /// assert_eq!(set.to_string(), "[1, 2]");
-    /// // if a key is repeated, the last value is used
-    /// let record = Value::record([("k", Value::from(true)), ("k", set.clone())], None);
-    /// assert_eq!(record.to_string(), r#"{"k": [1, 2]}"#);
-    /// assert_eq!(Value::new(set.value.clone(), None), set);
-    /// ```
+    /// [`Self::new`] has an example.
+    #[must_use]
     pub fn set(values: impl IntoIterator<Item = Self>, loc: Option<Loc>) -> Self {
         let mut elements = values.into_iter().collect::<Vec<_>>();
         elements.sort();
@@ -92,15 +87,8 @@ impl Value {
     ///
     /// One lookup for each pair. Allocates.
     ///
-    /// ```
-    /// # use cedar_store::{ast::*, entities::*};
-    /// let set = Value::set([Value::from(2), Value::from(1), Value::from(2)], None);
-    /// assert_eq!(set.to_string(), "[1, 2]");
-    /// // if a key is repeated, the last value is used
-    /// let record = Value::record([("k", Value::from(true)), ("k", set.clone())], None);
-    /// assert_eq!(record.to_string(), r#"{"k": [1, 2]}"#);
-    /// assert_eq!(Value::new(set.value.clone(), None), set);
-    /// ```
+    /// [`Self::new`] has an example.
+    #[must_use]
     pub fn record(pairs: impl IntoIterator<Item = (impl Into<String>, impl Into<Self>)>, loc: Option<Loc>) -> Self {
         let mut fields = BTreeMap::new();
         for (key, value) in pairs {
@@ -165,21 +153,13 @@ impl Hash for ValueKind {
 }
 
 /// A call of an extension function with one text, for example `ip("10.0.0.1")`. This crate does not interpret the text.
-#[derive(Clone, Debug)]
+#[derive(Clone, Debug, PartialEq, Eq)]
 pub struct ExtensionValue {
     /// The function.
     pub func: Name,
     /// The argument.
     pub arg: String,
 }
-
-impl PartialEq for ExtensionValue {
-    fn eq(&self, other: &Self) -> bool {
-        self.func == other.func && self.arg == other.arg
-    }
-}
-
-impl Eq for ExtensionValue {}
 
 impl Hash for ExtensionValue {
     fn hash<H: Hasher>(&self, state: &mut H) {

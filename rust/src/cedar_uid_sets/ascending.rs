@@ -46,8 +46,5 @@ pub(crate) fn ascend(uids: &[SharedUid]) -> bool {
         return true;
     }
     let end = run_end(uids, 0);
-    if end == uids.len() {
-        return true;
-    }
-    ascend_from(uids, end)
+    end == uids.len() || ascend_from(uids, end)
 }

@@ -116,12 +116,6 @@ impl fmt::Debug for Fronted {
     }
 }
 
-// Compares the eids of two uids.
-#[inline]
-fn order_of_eids(one: &EntityUID, other: &EntityUID) -> Ordering {
-    one.eid().as_ref().cmp(other.eid().as_ref())
-}
-
 // Compares two uids. If both names are short and the numbers differ, the numbers decide.
 #[inline]
 pub(crate) fn order_of(one: &Key<'_>, other: &Key<'_>) -> Ordering {
@@ -134,7 +128,7 @@ pub(crate) fn order_of(one: &Key<'_>, other: &Key<'_>) -> Ordering {
     if one.front != other.front {
         return one.front.cmp(&other.front);
     }
-    order_of_eids(one.uid, other.uid)
+    one.uid.eid().as_ref().cmp(other.uid.eid().as_ref())
 }
 
 // Checks whether two eids with the same first eight bytes are equal. If one has at most eight bytes, their lengths

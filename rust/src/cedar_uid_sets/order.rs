@@ -15,14 +15,6 @@ pub(crate) fn order(shared: &SharedUid, uid: &Key<'_>) -> Ordering {
     order_of(&shared.key(), uid)
 }
 
-// Checks whether the uid is greater than all of the uids. May return `false` also if it is.
-fn is_past_all(uids: &[SharedUid], uid: &Key<'_>) -> bool {
-    let Some(last) = uids.last() else {
-        return true;
-    };
-    order(last, uid).is_lt()
-}
-
 // Returns the position of the uid, or the position at which it would be inserted.
 pub(crate) fn place(uids: &[SharedUid], uid: &Key<'_>) -> Result<usize, usize> {
     uids.binary_search_by(|shared| order(shared, uid))
@@ -31,41 +23,25 @@ pub(crate) fn place(uids: &[SharedUid], uid: &Key<'_>) -> Result<usize, usize> {
 // Returns the position of the uid, or the position at which it would be inserted. Tries the end first, because most
 // inserts go there.
 pub(crate) fn place_from_end(uids: &[SharedUid], uid: &Key<'_>) -> Result<usize, usize> {
-    if is_past_all(uids, uid) {
+    if uids.last().is_none_or(|last| order(last, uid).is_lt()) {
         return Err(uids.len());
     }
     place(uids, uid)
-}
-
-// Checks whether one of the uids has the numbers of the uid. If not, the uid is not among them.
-#[inline(always)]
-fn has_numbers(uids: &[SharedUid], uid: &Key<'_>) -> bool {
-    uids.iter().any(|shared| have_same_numbers(uid, &shared.key()))
 }
 
 // Returns `false` only if the uid is not among the uids. If there are few uids, comparing the numbers mostly shows
 // that.
 #[inline(always)]
 pub(crate) fn may_contain(uids: &[SharedUid], uid: &Key<'_>) -> bool {
-    uids.len() > FEW || has_numbers(uids, uid)
-}
-
-// Checks whether the uid is among the uids, by comparing one by one.
-fn is_listed(uids: &[SharedUid], uid: &Key<'_>) -> bool {
-    uids.iter().any(|shared| are_same(uid, &shared.key()))
-}
-
-// Checks whether the uid is among the uids, by binary search.
-fn is_found(uids: &[SharedUid], uid: &Key<'_>) -> bool {
-    place(uids, uid).is_ok()
+    uids.len() > FEW || uids.iter().any(|shared| have_same_numbers(uid, &shared.key()))
 }
 
 // Checks whether the uid is among the uids.
 pub(crate) fn is_one_of(uids: &[SharedUid], uid: &Key<'_>) -> bool {
     if uids.len() <= FEW {
-        return is_listed(uids, uid);
+        return uids.iter().any(|shared| are_same(uid, &shared.key()));
     }
-    is_found(uids, uid)
+    place(uids, uid).is_ok()
 }
 
 /// Checks whether two uids are equal. Compares the eids first: uids of one type differ in them. Does not allocate.
@@ -73,15 +49,10 @@ pub fn are_equal(one: &EntityUID, other: &EntityUID) -> bool {
     one.eid().as_ref() == other.eid().as_ref() && one == other
 }
 
-// Checks whether a plain uid is among the uids, without computing its numbers.
-fn has_plain(uids: &[SharedUid], uid: &EntityUID) -> bool {
-    uids.iter().any(|shared| are_equal(uid, shared.uid()))
-}
-
 // Checks whether a plain uid is among the uids. Computes its numbers only if there are many uids.
 pub(crate) fn has(uids: &[SharedUid], uid: &EntityUID) -> bool {
     if uids.len() <= FEW {
-        return has_plain(uids, uid);
+        return uids.iter().any(|shared| are_equal(uid, shared.uid()));
     }
     is_one_of(uids, &Key::of(uid))
 }

@@ -13,6 +13,7 @@ use std::iter::FusedIterator;
 use std::{mem, slice};
 
 /// A set of shared uids: a vector in ascending order, without duplicates.
+#[derive(Clone)]
 pub struct UidSet {
     uids: Vec<SharedUid>,
 }
@@ -221,14 +222,6 @@ impl PartialEq for UidSet {
 }
 
 impl Eq for UidSet {}
-
-impl Clone for UidSet {
-    /// Returns a copy that shares the uids.
-    fn clone(&self) -> Self {
-        let copy = self.uids.clone();
-        Self { uids: copy }
-    }
-}
 
 /// An iterator over the uids of a set, in ascending order.
 #[derive(Clone, Debug)]

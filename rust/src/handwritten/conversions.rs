@@ -7,6 +7,7 @@ use crate::ast::{
 use crate::cedar_keyed_hash::KeyedState;
 use crate::cedar_uid_sets::{SharedUid, UidSet};
 use crate::entities::{Entities, Iter};
+#[cfg(feature = "cli")]
 use crate::program::Session;
 use std::collections::HashSet;
 use std::hash::{BuildHasher, RandomState};
@@ -193,6 +194,7 @@ impl UidSet {
     }
 }
 
+#[cfg(feature = "cli")]
 impl Default for Session {
     fn default() -> Self {
         Session::new()

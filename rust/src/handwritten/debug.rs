@@ -4,7 +4,6 @@ use crate::cedar_graph::HasCycle;
 use crate::cedar_uid_sets::UidSet;
 use crate::entities::Entities;
 use std::fmt;
-use std::hash::BuildHasher;
 
 /// Writes `PolicyID("..")`.
 impl fmt::Debug for PolicyID {
@@ -53,7 +52,7 @@ enum Mode {
 }
 
 /// Writes the map of the entities, in the order of the map, and whether absent entities are unknown.
-impl<S: BuildHasher> fmt::Debug for Entities<S> {
+impl<S> fmt::Debug for Entities<S> {
     fn fmt(&self, f: &mut fmt::Formatter<'_>) -> fmt::Result {
         let entries = self.entities.iter().map(|(uid, entity)| (uid.uid(), &*entity.0));
         let mode = if self.partial { Mode::Partial } else { Mode::Concrete };

@@ -95,9 +95,11 @@ impl<S: BuildHasher + Clone> Entities<S> {
     }
 
     /// Returns the text of [`Entities::to_dot_str`].
+    #[must_use]
     pub fn to_dot(&self) -> String {
         let mut text = String::new();
-        self.to_dot_str(&mut text).expect("writing to a String succeeds");
+        let written = self.to_dot_str(&mut text);
+        debug_assert!(written.is_ok(), "writing to a String succeeds");
         text
     }
 }

@@ -1,21 +1,23 @@
 //! A map and a set in insertion order. A removal takes constant time and keeps the order of the other entries.
 //!
-//! The entries are in a table. Each entry has the places of the previous and of the next entry in the order. A removal
-//! moves the last entry of the table into the gap.
-use super::ordered_map::{OrderedMap, Places};
+//! Each entry has the places of the previous and of the next entry in the order. A removal moves the last entry of the
+//! table into the gap. Copies share their entries, as those of [`SharedMap`].
+use super::ordered_map::OrderedMap;
+use super::shared_map::SharedMap;
+use super::shared_vec::SharedVec;
 use std::borrow::Borrow;
 use std::fmt;
 use std::hash::{BuildHasher, Hash};
+use std::iter::FusedIterator;
 use std::mem;
 use std::vec;
 
 /// The place before the first entry and after the last one. No entry has it.
 const END: usize = usize::MAX;
 
-/// An entry of a map, with the places of the previous and of the next entry.
+/// The value of an entry, with the places of the previous and of the next entry.
 #[derive(Clone, Debug)]
-struct Node<K, V> {
-    key: K,
+struct Node<V> {
     value: V,
     before: usize,
     after: usize,
@@ -24,9 +26,7 @@ struct Node<K, V> {
 /// A map in insertion order of its keys.
 #[derive(Clone)]
 pub struct LinkedMap<K, V, S> {
-    nodes: Vec<Node<K, V>>,
-    places: Places,
-    hasher: S,
+    nodes: SharedMap<K, Node<V>, S>,
     first: usize,
     last: usize,
 }
@@ -34,28 +34,18 @@ pub struct LinkedMap<K, V, S> {
 impl<K, V, S> LinkedMap<K, V, S> {
     pub fn with_hasher(hasher: S) -> Self {
         LinkedMap {
-            nodes: Vec::new(),
-            places: Places::default(),
-            hasher,
+            nodes: SharedMap::with_hasher(hasher),
             first: END,
             last: END,
         }
     }
 
     pub fn hasher(&self) -> &S {
-        &self.hasher
+        self.nodes.hasher()
     }
 
     pub fn is_empty(&self) -> bool {
         self.nodes.is_empty()
-    }
-
-    pub fn iter(&self) -> Iter<'_, K, V> {
-        Iter {
-            nodes: &self.nodes,
-            at: self.first,
-            remaining: self.nodes.len(),
-        }
     }
 
     pub fn keys(&self) -> Keys<'_, K, V> {
@@ -66,11 +56,21 @@ impl<K, V, S> LinkedMap<K, V, S> {
         Values { inner: self.iter() }
     }
 
-    /// Returns the last entry, if there is one.
-    pub fn last(&self) -> Option<(&K, &V)> {
-        self.nodes.get(self.last).map(|node| (&node.key, &node.value))
+    pub fn iter(&self) -> Iter<'_, K, V> {
+        Iter {
+            nodes: Some(self.nodes.entries()),
+            at: self.first,
+            remaining: self.nodes.len(),
+        }
     }
 
+    /// Returns the last entry, if there is one.
+    pub fn last(&self) -> Option<(&K, &V)> {
+        self.nodes.entry_at(self.last).map(|(key, node)| (key, &node.value))
+    }
+}
+
+impl<K: Hash + Eq + Clone, V: Clone, S: BuildHasher> LinkedMap<K, V, S> {
     /// Consumes the map and iterates over the values.
     pub fn into_values(self) -> IntoValues<K, V> {
         IntoValues {
@@ -78,25 +78,26 @@ impl<K, V, S> LinkedMap<K, V, S> {
         }
     }
 
-    /// Returns the entries in their order. They are moved within the table.
-    fn into_nodes(mut self) -> Vec<Node<K, V>> {
+    /// Returns the entries in their order.
+    fn into_nodes(self) -> Vec<(K, Node<V>)> {
         let mut at = self.first;
-        for rank in 0..self.nodes.len() {
-            self.nodes[at].before = rank;
-            at = self.nodes[at].after;
+        let mut nodes = self.nodes.into_entries();
+        for rank in 0..nodes.len() {
+            nodes[at].1.before = rank;
+            at = nodes[at].1.after;
         }
-        for place in 0..self.nodes.len() {
-            while self.nodes[place].before != place {
-                let rank = self.nodes[place].before;
-                self.nodes.swap(place, rank);
+        for place in 0..nodes.len() {
+            while nodes[place].1.before != place {
+                let rank = nodes[place].1.before;
+                nodes.swap(place, rank);
             }
         }
-        self.nodes
+        nodes
     }
 
     /// Sets the next place of an entry, or the place of the first entry.
     fn set_after(&mut self, at: usize, to: usize) {
-        match self.nodes.get_mut(at) {
+        match self.nodes.value_at_mut(at) {
             None => self.first = to,
             Some(node) => node.after = to,
         }
@@ -104,115 +105,88 @@ impl<K, V, S> LinkedMap<K, V, S> {
 
     /// Sets the previous place of an entry, or the place of the last entry.
     fn set_before(&mut self, at: usize, to: usize) {
-        match self.nodes.get_mut(at) {
+        match self.nodes.value_at_mut(at) {
             None => self.last = to,
             Some(node) => node.before = to,
         }
     }
 
-    /// Removes the entry at a place, which is no longer in the hash table.
-    fn remove_at(&mut self, place: usize) -> V {
-        let (before, after) = (self.nodes[place].before, self.nodes[place].after);
-        self.set_after(before, after);
-        self.set_before(after, before);
-        let removed = self.nodes.swap_remove(place);
-        if let Some(moved) = self.nodes.get(place) {
-            let (before, after) = (moved.before, moved.after);
-            self.set_after(before, place);
-            self.set_before(after, place);
-        }
-        removed.value
-    }
-
-    /// Appends an entry with a new key. `hash` is the hash of the key.
-    fn push_hashed(&mut self, hash: u64, key: K, value: V) {
-        let place = self.nodes.len();
-        self.places.push(hash);
-        self.nodes.push(Node {
-            key,
-            value,
-            before: self.last,
-            after: END,
-        });
-        self.set_after(self.last, place);
-        self.last = place;
-    }
-
     /// Returns a mutable reference to the value at a place in the table, if there is one. A place is valid until the
     /// next removal.
     pub fn get_at_mut(&mut self, place: usize) -> Option<&mut V> {
-        self.nodes.get_mut(place).map(|node| &mut node.value)
+        self.nodes.value_at_mut(place).map(|node| &mut node.value)
     }
 
+    /// Reserves space for `additional` entries. Does nothing for one entry, because its insertion reserves the space.
+    #[inline]
     pub fn reserve(&mut self, additional: usize) {
-        self.places.reserve(additional);
-        self.nodes.reserve(additional);
-    }
-
-    /// Appends the entries of a map with other keys and the same hasher, in their order.
-    pub fn extend_new(&mut self, entries: OrderedMap<K, V, S>) {
-        for (hash, key, value) in entries.into_hashed() {
-            self.push_hashed(hash, key, value);
+        if additional > 1 {
+            self.nodes.reserve(additional);
         }
     }
-}
 
-impl<K: Hash + Eq, V, S: BuildHasher> LinkedMap<K, V, S> {
-    fn place_of<Q: Hash + Eq + ?Sized>(&self, hash: u64, key: &Q) -> Option<usize>
-    where
-        K: Borrow<Q>,
-    {
-        self.places.get(hash, |place| self.nodes[place].key.borrow() == key)
+    /// Appends the entries of a map with other keys, in their order.
+    pub fn extend_new(&mut self, entries: OrderedMap<K, V, S>) {
+        for (key, value) in entries {
+            self.push(key, value);
+        }
     }
 
     pub fn contains_key<Q: Hash + Eq + ?Sized>(&self, key: &Q) -> bool
     where
         K: Borrow<Q>,
     {
-        self.place_of(self.hasher.hash_one(key), key).is_some()
+        self.nodes.contains_key(key)
     }
 
     pub fn get<Q: Hash + Eq + ?Sized>(&self, key: &Q) -> Option<&V>
     where
         K: Borrow<Q>,
     {
-        self.place_of(self.hasher.hash_one(key), key)
-            .map(|place| &self.nodes[place].value)
+        self.nodes.get(key).map(|node| &node.value)
     }
 
     pub fn get_mut<Q: Hash + Eq + ?Sized>(&mut self, key: &Q) -> Option<&mut V>
     where
         K: Borrow<Q>,
     {
-        self.place_of(self.hasher.hash_one(key), key)
-            .map(|place| &mut self.nodes[place].value)
+        self.nodes.get_mut(key).map(|node| &mut node.value)
     }
 
     /// Returns the value with this key and its place in the table. First compares the key at the place `next`, so that a
     /// lookup in the order of the map does not hash. If the key is found, `next` becomes the place of the next entry.
     pub fn get_near(&self, key: &K, next: &mut usize) -> Option<(usize, &V)> {
-        let place = match self.nodes.get(*next) {
-            Some(node) if node.key == *key => *next,
-            _ => self.place_of(self.hasher.hash_one(key), key)?,
+        let place = match self.nodes.entry_at(*next) {
+            Some((near, _)) if near == key => *next,
+            _ => self.nodes.place_of(key)?,
         };
-        let node = &self.nodes[place];
+        let (_, node) = self.nodes.entry_at(place)?;
         *next = node.after;
         Some((place, &node.value))
     }
 
     /// Appends an entry with a new key.
     pub fn push(&mut self, key: K, value: V) {
-        self.push_hashed(self.hasher.hash_one(&key), key, value);
+        let (place, before) = (self.nodes.len(), self.last);
+        self.nodes.push(
+            key,
+            Node {
+                value,
+                before,
+                after: END,
+            },
+        );
+        self.set_after(before, place);
+        self.last = place;
     }
 
     /// Inserts a value under a key, as the last one. If an equal key is present, replaces its value and returns the old
     /// one.
     pub fn insert(&mut self, key: K, value: V) -> Option<V> {
-        let hash = self.hasher.hash_one(&key);
-        match self.place_of(hash, &key) {
-            Some(place) => Some(mem::replace(&mut self.nodes[place].value, value)),
+        match self.get_mut(&key) {
+            Some(stored) => Some(mem::replace(stored, value)),
             None => {
-                self.push_hashed(hash, key, value);
+                self.push(key, value);
                 None
             }
         }
@@ -223,12 +197,36 @@ impl<K: Hash + Eq, V, S: BuildHasher> LinkedMap<K, V, S> {
     where
         K: Borrow<Q>,
     {
-        let hash = self.hasher.hash_one(key);
-        let nodes = &self.nodes;
-        let place = self
-            .places
-            .swap_remove(hash, |place| nodes[place].key.borrow() == key)?;
-        Some(self.remove_at(place))
+        let removed = self.nodes.swap_remove(key)?;
+        Some(self.relinked(removed))
+    }
+
+    /// Removes a key, and returns its value. First compares the key at a place, which [`LinkedMap::get_near`] returned.
+    pub fn shift_remove_near(&mut self, key: &K, place: usize) -> Option<V> {
+        let removed = match self.nodes.entry_at(place) {
+            Some((near, _)) if near == key => self.nodes.swap_remove_at(place)?,
+            _ => self.nodes.swap_remove(key)?,
+        };
+        Some(self.relinked(removed))
+    }
+
+    /// Closes the order over a removed entry, given its place and its node. Returns its value.
+    fn relinked(&mut self, (place, removed): (usize, Node<V>)) -> V {
+        // the last entry of the table is at the place now, and its neighbours still have its old place
+        let moved = self.nodes.len();
+        let there = |at: usize| if at == moved { place } else { at };
+        let (before, after) = (there(removed.before), there(removed.after));
+        self.set_after(before, after);
+        self.set_before(after, before);
+        if place < moved {
+            let (before, after) = self
+                .nodes
+                .entry_at(place)
+                .map_or((END, END), |(_, node)| (node.before, node.after));
+            self.set_after(before, place);
+            self.set_before(after, place);
+        }
+        removed.value
     }
 }
 
@@ -239,21 +237,27 @@ impl<K: fmt::Debug, V: fmt::Debug, S> fmt::Debug for LinkedMap<K, V, S> {
 }
 
 /// An iterator over the entries of a map, in their order.
-#[derive(Clone, Debug)]
+#[derive(Debug)]
 pub struct Iter<'a, K, V> {
-    nodes: &'a [Node<K, V>],
+    nodes: Option<&'a SharedVec<(K, Node<V>)>>,
     at: usize,
     remaining: usize,
+}
+
+impl<K, V> Clone for Iter<'_, K, V> {
+    fn clone(&self) -> Self {
+        Iter { ..*self }
+    }
 }
 
 impl<'a, K, V> Iterator for Iter<'a, K, V> {
     type Item = (&'a K, &'a V);
 
     fn next(&mut self) -> Option<Self::Item> {
-        let node = self.nodes.get(self.at)?;
+        let (key, node) = self.nodes?.get(self.at)?;
         self.at = node.after;
         self.remaining -= 1;
-        Some((&node.key, &node.value))
+        Some((key, &node.value))
     }
 
     fn size_hint(&self) -> (usize, Option<usize>) {
@@ -262,6 +266,8 @@ impl<'a, K, V> Iterator for Iter<'a, K, V> {
 }
 
 impl<K, V> ExactSizeIterator for Iter<'_, K, V> {}
+
+impl<K, V> FusedIterator for Iter<'_, K, V> {}
 
 /// An iterator over the keys of a map, or over the values of a set.
 #[derive(Clone, Debug)]
@@ -273,7 +279,7 @@ impl<K, V> Keys<'_, K, V> {
     pub fn empty() -> Self {
         Keys {
             inner: Iter {
-                nodes: &[],
+                nodes: None,
                 at: END,
                 remaining: 0,
             },
@@ -318,14 +324,14 @@ impl<K, V> ExactSizeIterator for Values<'_, K, V> {}
 /// An iterator over the values of a map, which it consumes.
 #[derive(Clone, Debug)]
 pub struct IntoValues<K, V> {
-    inner: vec::IntoIter<Node<K, V>>,
+    inner: vec::IntoIter<(K, Node<V>)>,
 }
 
 impl<K, V> Iterator for IntoValues<K, V> {
     type Item = V;
 
     fn next(&mut self) -> Option<V> {
-        self.inner.next().map(|node| node.value)
+        self.inner.next().map(|(_, node)| node.value)
     }
 
     fn size_hint(&self) -> (usize, Option<usize>) {
@@ -359,15 +365,20 @@ impl<T, S> LinkedSet<T, S> {
     pub fn iter(&self) -> Keys<'_, T, ()> {
         self.map.keys()
     }
+}
 
+impl<T: Hash + Eq + Clone, S: BuildHasher + Clone> LinkedSet<T, S> {
     pub fn reserve(&mut self, additional: usize) {
         self.map.reserve(additional);
     }
-}
 
-impl<T: Hash + Eq, S: BuildHasher + Clone> LinkedSet<T, S> {
     pub fn insert(&mut self, value: T) -> bool {
         self.map.insert(value, ()).is_none()
+    }
+
+    /// Appends a value that the set does not contain.
+    pub fn push(&mut self, value: T) {
+        self.map.push(value, ());
     }
 
     pub fn shift_remove<Q: Hash + Eq + ?Sized>(&mut self, value: &Q) -> bool
@@ -379,9 +390,9 @@ impl<T: Hash + Eq, S: BuildHasher + Clone> LinkedSet<T, S> {
 
     /// Inserts all values of another set at the end, and empties that set.
     pub fn append(&mut self, other: &mut Self) {
-        let empty = LinkedMap::with_hasher(other.map.hasher.clone());
-        for node in mem::replace(&mut other.map, empty).into_nodes() {
-            self.insert(node.key);
+        let empty = LinkedMap::with_hasher(other.map.hasher().clone());
+        for (value, _) in mem::replace(&mut other.map, empty).into_nodes() {
+            self.insert(value);
         }
     }
 }

@@ -110,6 +110,29 @@ fn removals_from_the_front_the_middle_and_the_back_keep_the_order_of_the_rest() 
 }
 
 #[test]
+fn removals_near_a_place_keep_the_order_of_the_rest() {
+    let steps = (1..40).map(|step| (0..41).map(|at| at * step % 41).collect());
+    for (order, keys) in orders(6)
+        .into_iter()
+        .map(|order| (order, 6))
+        .chain(steps.map(|order: Vec<u64>| (order, 41)))
+    {
+        let (mut map, mut model) = of_keys(BuildHasherDefault::<Few>::default(), keys);
+        for (count, key) in order.into_iter().enumerate() {
+            let mut next = usize::MAX;
+            let (place, _) = map.get_near(&key, &mut next).expect("the key is present");
+            // the place is a hint: a wrong one removes the same entry
+            let hint = [place, place + 1, usize::MAX][count % 3];
+            assert_eq!(map.shift_remove_near(&key, hint), Some(key * 10));
+            assert_eq!(map.shift_remove_near(&key, place), None);
+            model.retain(|(k, _)| *k != key);
+            is_same(&map, &model, keys);
+        }
+        assert!(map.is_empty());
+    }
+}
+
+#[test]
 fn lookups_in_order_find_the_next_entry() {
     let (mut map, _) = of_keys(RandomState::new(), 50);
     for key in [0, 20, 49, 33] {
@@ -179,6 +202,7 @@ fn sets_are_as_a_list_of_values() {
         let value = drawn.below(12);
         let is_present = model.contains(&value);
         match drawn.below(4) {
+            0 if !is_present => set.push(value),
             0 | 1 => assert_eq!(set.insert(value), !is_present),
             2 => {
                 assert_eq!(set.shift_remove(&value), is_present);

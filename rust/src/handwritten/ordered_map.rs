@@ -13,7 +13,7 @@ const FREE: i32 = -1;
 /// A hash table of the indexes of keys. It uses open addressing and is at most half full. It also stores the hash of
 /// each key.
 #[derive(Clone, Default)]
-pub(super) struct Places {
+struct Places {
     slots: Vec<i32>,
     hashes: Vec<u64>,
 }
@@ -25,11 +25,11 @@ impl Places {
         places
     }
 
-    pub(super) fn reserve(&mut self, additional: usize) {
+    fn reserve(&mut self, additional: usize) {
         self.hashes.reserve(additional);
         let need = (self.hashes.len() + additional) * 2;
         if need > self.slots.len() {
-            assert!(need / 2 <= i32::MAX as usize, "too many keys");
+            assert!(i32::try_from(need / 2).is_ok(), "too many keys");
             self.fill(need.next_power_of_two());
         }
     }
@@ -75,11 +75,11 @@ impl Places {
     }
 
     /// Returns the index of the key with this hash for which `is_key` returns true.
-    pub(super) fn get(&self, hash: u64, is_key: impl Fn(usize) -> bool) -> Option<usize> {
+    fn get(&self, hash: u64, is_key: impl Fn(usize) -> bool) -> Option<usize> {
         self.find(hash, is_key).map(|slot| self.slots[slot] as usize)
     }
 
-    pub(super) fn push(&mut self, hash: u64) {
+    fn push(&mut self, hash: u64) {
         if (self.hashes.len() + 1) * 2 > self.slots.len() {
             self.reserve(1);
         }
@@ -126,20 +126,6 @@ impl Places {
                 *slot -= i32::from(*slot > place);
             }
         }
-    }
-
-    /// Removes the key with this hash for which `is_key` returns true. Returns its index, which the last key gets.
-    pub(super) fn swap_remove(&mut self, hash: u64, is_key: impl Fn(usize) -> bool) -> Option<usize> {
-        let slot = self.find(hash, is_key)?;
-        let place = self.slots[slot] as usize;
-        self.free(slot);
-        let last = self.hashes.len() - 1;
-        if place < last {
-            let slot = self.slot_of(last);
-            self.slots[slot] = place as i32;
-        }
-        self.hashes.swap_remove(place);
-        Some(place)
     }
 
     fn clear(&mut self) {
@@ -332,16 +318,6 @@ impl<K, V, S> OrderedMap<K, V, S> {
 
     pub fn values(&self) -> &[V] {
         &self.values
-    }
-
-    /// Consumes the map and iterates over the hashes, the keys and the values.
-    pub(super) fn into_hashed(self) -> impl Iterator<Item = (u64, K, V)> {
-        let OrderedSet { keys, places, .. } = self.keys;
-        let hashes = places.hashes.into_iter();
-        hashes
-            .zip(keys)
-            .zip(self.values)
-            .map(|((hash, key), value)| (hash, key, value))
     }
 }
 

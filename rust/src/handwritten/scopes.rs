@@ -5,6 +5,7 @@ use crate::ast::{
 use crate::cedar_binding::bound_to;
 use crate::entities::Entities;
 use std::hash::BuildHasher;
+use std::sync::Arc;
 
 /// A constraint on the principal or the resource that borrows from its policy, with the policy's uids for its slots.
 ///
@@ -84,6 +85,70 @@ impl<'a> BorrowedConstraint<'a> {
     }
 }
 
+/// A constraint on the action that borrows from its policy, with the policy's uid for its slot.
+///
+/// [`ActionConstraint`] is the owned form.
+///
+/// # Differences from cedar-policy-core
+///
+/// The original has no such type.
+#[derive(Clone, Copy, Debug, PartialEq, Eq)]
+pub enum BorrowedActionConstraint<'a> {
+    /// Any action.
+    Any,
+    /// An action that is in one of these actions.
+    In(&'a [Arc<EntityUID>]),
+    /// An action that is in the action of the slot.
+    InBound(&'a EntityUID),
+    /// Only this action.
+    Eq(&'a EntityUID),
+    /// A constraint with a slot for which the policy has no uid. No call creates a policy with one.
+    Unbound,
+}
+
+impl<'a> BorrowedActionConstraint<'a> {
+    /// Returns the constraint with this uid for its slot.
+    fn of(constraint: &'a ActionConstraint, bound: Option<&'a EntityUID>) -> Self {
+        match constraint {
+            ActionConstraint::Any => Self::Any,
+            ActionConstraint::In(uids) => Self::In(uids),
+            ActionConstraint::Eq(uid) => Self::Eq(uid),
+            ActionConstraint::InSlot(_) => bound.map_or(Self::Unbound, Self::InBound),
+            ActionConstraint::EqSlot(_) => bound.map_or(Self::Unbound, Self::Eq),
+        }
+    }
+
+    /// Returns whether an action satisfies the constraint, given its ancestors in a store. An action that the store does
+    /// not have is in itself only. Does not allocate.
+    ///
+    /// # Examples
+    ///
+    /// ```
+    /// use cedar_store::BorrowedActionConstraint;
+    /// use cedar_store::ast::EntityUID;
+    /// use cedar_store::entities::Entities;
+    ///
+    /// let (view, edit): (EntityUID, EntityUID) = (r#"Action::"view""#.parse()?, r#"Action::"edit""#.parse()?);
+    /// let only_view = BorrowedActionConstraint::Eq(&view);
+    /// assert!(only_view.is_satisfied_by(&view, &Entities::new()));
+    /// assert!(!only_view.is_satisfied_by(&edit, &Entities::new()));
+    /// # Ok::<(), Box<dyn std::error::Error>>(())
+    /// ```
+    pub fn is_satisfied_by<S: BuildHasher + Clone>(&self, action: &EntityUID, entities: &Entities<S>) -> bool {
+        match self {
+            Self::Any => true,
+            Self::In(uids) => {
+                let stored = entities.stored(action);
+                let is_in = |uid: &EntityUID| action == uid || stored.is_some_and(|it| it.is_descendant_of(uid));
+                uids.iter().any(|uid| is_in(uid))
+            }
+            Self::InBound(uid) => is_in(entities, action, uid),
+            Self::Eq(uid) => action == *uid,
+            Self::Unbound => false,
+        }
+    }
+}
+
 impl Policy {
     /// Returns the constraint on the principal, borrowed from the policy. It is the constraint of
     /// [`Policy::principal_constraint`]. Does not allocate.
@@ -101,6 +166,7 @@ impl Policy {
     /// let policy = Policy::from_when_clause(Effect::Permit, Expr::val(true), "allow-all".into(), None);
     /// assert_eq!(policy.borrowed_principal_constraint(), BorrowedConstraint::Any);
     /// ```
+    #[must_use]
     pub fn borrowed_principal_constraint(&self) -> BorrowedConstraint<'_> {
         let bound = bound_to(self.env(), SlotId::principal());
         BorrowedConstraint::of(self.template().principal_constraint().as_inner(), bound)
@@ -112,9 +178,32 @@ impl Policy {
     /// # Differences from cedar-policy-core
     ///
     /// The original has no such function.
+    #[must_use]
     pub fn borrowed_resource_constraint(&self) -> BorrowedConstraint<'_> {
         let bound = bound_to(self.env(), SlotId::resource());
         BorrowedConstraint::of(self.template().resource_constraint().as_inner(), bound)
+    }
+
+    /// Returns the constraint on the action, borrowed from the policy. It is the constraint of
+    /// [`Policy::action_constraint`]. Does not allocate.
+    ///
+    /// # Differences from cedar-policy-core
+    ///
+    /// The original has no slot for the action, and returns a reference from `action_constraint`.
+    ///
+    /// # Examples
+    ///
+    /// ```
+    /// use cedar_store::BorrowedActionConstraint;
+    /// use cedar_store::ast::{Effect, Expr, Policy};
+    ///
+    /// let policy = Policy::from_when_clause(Effect::Permit, Expr::val(true), "allow-all".into(), None);
+    /// assert_eq!(policy.borrowed_action_constraint(), BorrowedActionConstraint::Any);
+    /// ```
+    #[must_use]
+    pub fn borrowed_action_constraint(&self) -> BorrowedActionConstraint<'_> {
+        let bound = bound_to(self.env(), SlotId::action());
+        BorrowedActionConstraint::of(self.template().action_constraint(), bound)
     }
 
     /// Returns whether a request satisfies the scope of the policy: the constraints on the principal, the action and the
@@ -164,26 +253,10 @@ impl Policy {
         resource: &EntityUID,
         entities: &Entities<S>,
     ) -> bool {
-        self.applies_to_action(action, entities)
+        self.borrowed_action_constraint().is_satisfied_by(action, entities)
             && self
                 .borrowed_principal_constraint()
                 .is_satisfied_by(principal, entities)
             && self.borrowed_resource_constraint().is_satisfied_by(resource, entities)
-    }
-
-    /// Returns whether an action satisfies the constraint on the action.
-    fn applies_to_action<S: BuildHasher + Clone>(&self, action: &EntityUID, entities: &Entities<S>) -> bool {
-        let bound = || bound_to(self.env(), SlotId::action());
-        match self.template().action_constraint() {
-            ActionConstraint::Any => true,
-            ActionConstraint::Eq(uid) => action == &**uid,
-            ActionConstraint::In(uids) => {
-                let ancestors = entities.stored(action);
-                let is_in = |uid: &EntityUID| action == uid || ancestors.is_some_and(|it| it.is_descendant_of(uid));
-                uids.iter().any(|uid| is_in(uid))
-            }
-            ActionConstraint::EqSlot(_) => bound() == Some(action),
-            ActionConstraint::InSlot(_) => bound().is_some_and(|uid| is_in(entities, action, uid)),
-        }
     }
 }

@@ -24,8 +24,8 @@ impl<S: BuildHasher + Clone> Entities<S> {
     /// - No entity of the list has indirect ancestors.
     ///
     /// The call looks up the entities of the list and their parents then. Only if the edit may fail, it makes a dry run
-    /// (see [`would_add`]), which reads all ancestors of the list. Otherwise it edits a copy of the store, which costs
-    /// O(n) for n entities, and which begins without a list of children.
+    /// (see [`would_add`]), which reads all ancestors of the list. Otherwise it edits a copy of the store, which shares
+    /// its entities.
     ///
     /// # Differences from cedar-policy-core
     ///
@@ -125,8 +125,8 @@ impl<S: BuildHasher + Clone> Entities<S> {
     ///
     /// # Complexity
     ///
-    /// If the store is known to be plain, the cost of [`Entities::remove_entities`]. Otherwise the call edits a copy of
-    /// the store, which costs O(n) for n entities.
+    /// The cost of [`Entities::remove_entities`]. If the store is not known to be plain, the call edits a copy of the
+    /// store, which shares its entities.
     ///
     /// # Differences from cedar-policy-core
     ///

@@ -237,9 +237,11 @@ fn reachable_numbers_are_written() {
         component: vec![2, 2, 1],
         start: vec![0, 0, 0, 3],
         lists: vec![0, 1, 2],
+        places: vec![0, 1, 2],
+        ordered: true,
     };
     assert_eq!(
         format!("{reached:?}"),
-        "Reached { component: [2, 2, 1], start: [0, 0, 0, 3], lists: [0, 1, 2] }"
+        "Reached { component: [2, 2, 1], start: [0, 0, 0, 3], lists: [0, 1, 2], places: [0, 1, 2], ordered: true }"
     );
 }

@@ -12,6 +12,7 @@ impl Value {
     /// assert_eq!(Value::from(true).as_bool(), Some(true));
     /// assert_eq!(Value::from("true").as_bool(), None);
     /// ```
+    #[must_use]
     pub fn as_bool(&self) -> Option<bool> {
         match &self.value {
             ValueKind::Lit(Literal::Bool(truth)) => Some(*truth),
@@ -27,6 +28,7 @@ impl Value {
     /// assert_eq!(Value::from(-3).as_long(), Some(-3));
     /// assert_eq!(Value::from(false).as_long(), None);
     /// ```
+    #[must_use]
     pub fn as_long(&self) -> Option<i64> {
         match &self.value {
             ValueKind::Lit(Literal::Long(number)) => Some(*number),
@@ -42,6 +44,7 @@ impl Value {
     /// assert_eq!(Value::from("blue").as_str(), Some("blue"));
     /// assert_eq!(Value::from(1).as_str(), None);
     /// ```
+    #[must_use]
     pub fn as_str(&self) -> Option<&str> {
         match &self.value {
             ValueKind::Lit(Literal::String(text)) => Some(text),
@@ -59,6 +62,7 @@ impl Value {
     /// assert_eq!(Value::from(r#"User::"alice""#).as_entity(), None);
     /// # Ok::<(), Box<dyn std::error::Error>>(())
     /// ```
+    #[must_use]
     pub fn as_entity(&self) -> Option<&EntityUID> {
         match &self.value {
             ValueKind::Lit(Literal::EntityUID(uid)) => Some(uid),
@@ -75,6 +79,7 @@ impl Value {
     /// assert_eq!(set.as_set(), Some(&[Value::from(1), Value::from(2)][..]));
     /// assert_eq!(Value::from(1).as_set(), None);
     /// ```
+    #[must_use]
     pub fn as_set(&self) -> Option<&[Value]> {
         match &self.value {
             ValueKind::Set(elements) => Some(elements),
@@ -91,6 +96,7 @@ impl Value {
     /// assert_eq!(record.as_record().and_then(|fields| fields["color"].as_str()), Some("blue"));
     /// assert!(Value::from("color").as_record().is_none());
     /// ```
+    #[must_use]
     pub fn as_record(&self) -> Option<&BTreeMap<String, Value>> {
         match &self.value {
             ValueKind::Record(fields) => Some(fields),

@@ -1,11 +1,12 @@
 //! Helpers that create uids, entities, ids and bindings from short texts, and pseudorandom numbers.
 #![allow(dead_code, reason = "each test file uses some of the helpers")]
 
-use cedar_store::ast::{Entity, EntityUID, PolicyID, SlotEnv, SlotId};
+use cedar_store::ast::{Entity, EntityUID, PartialValue, PolicyID, SlotEnv, SlotId};
 use std::collections::HashMap;
 use std::sync::Arc;
 
-/// Returns the number of rounds of a random test: a twentieth of `all`, or all if `CEDAR_LONG_TESTS` is set.
+/// Returns the number of rounds of a random test: a twentieth of `all`, or all if `CEDAR_LONG_TESTS` is set, as the
+/// ignored test of the program sets it.
 pub fn rounds(all: u64) -> u64 {
     if std::env::var_os("CEDAR_LONG_TESTS").is_some() {
         all
@@ -24,13 +25,28 @@ pub fn with_eid(eid: &str) -> EntityUID {
     EntityUID::with_eid_and_type("test_entity_type", eid).expect("a valid entity type")
 }
 
-/// Returns an entity with this eid and these parents.
-pub fn child(eid: &str, parents: &[&str]) -> Entity {
-    let mut entity = Entity::with_uid(with_eid(eid));
+/// Returns an entity with this uid and these parents.
+pub fn entity_under(uid: EntityUID, parents: impl IntoIterator<Item = EntityUID>) -> Entity {
+    let mut entity = Entity::with_uid(uid);
     for parent in parents {
-        entity.add_parent(with_eid(parent));
+        entity.add_parent(parent);
     }
     entity
+}
+
+/// Returns the uid of a number. Uids are in the order of their numbers.
+pub fn node(number: usize) -> EntityUID {
+    uid(&format!("A::\"{number:06}\""))
+}
+
+/// Returns the entity of a number, with parents by their numbers.
+pub fn numbered(number: usize, parents: &[usize]) -> Entity {
+    entity_under(node(number), parents.iter().copied().map(node))
+}
+
+/// Returns an entity with this eid and these parents.
+pub fn child(eid: &str, parents: &[&str]) -> Entity {
+    entity_under(with_eid(eid), parents.iter().map(|parent| with_eid(parent)))
 }
 
 /// Returns entities under their uids. Each has an eid and the eids of its parents.
@@ -88,4 +104,29 @@ impl Random {
     pub fn one_in(&mut self, count: usize) -> bool {
         self.below(count) == 0
     }
+}
+
+/// The types of drawn uids.
+pub const TYPES: [&str; 3] = ["A", "B", "N::A"];
+
+/// Returns a uid of one of the types, with a number below `count` as its eid.
+pub fn drawn_uid(random: &mut Random, count: usize) -> EntityUID {
+    uid(&format!("{}::\"{}\"", random.choose(&TYPES), random.below(count)))
+}
+
+/// Returns an entity with up to three parents and, if wanted, with indirect ancestors. Its attributes and its tags are
+/// drawn by `fields`.
+pub fn drawn_with(
+    random: &mut Random,
+    count: usize,
+    indirect: bool,
+    fields: fn(&mut Random) -> Vec<(String, PartialValue)>,
+) -> Entity {
+    let own = drawn_uid(random, count);
+    let parents = (0..random.below(4)).map(|_| drawn_uid(random, count)).collect();
+    let above = (0..if indirect { random.below(3) } else { 0 })
+        .map(|_| drawn_uid(random, count))
+        .collect();
+    let (attrs, tags) = (fields(random), fields(random));
+    Entity::new_with_attr_partial_value(own, attrs, above, parents, tags)
 }

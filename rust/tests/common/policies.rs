@@ -21,18 +21,29 @@ pub fn permit(name: &str, clause: Option<Expr>) -> StaticPolicy {
     .expect("a clause without slots")
 }
 
-/// Returns a template with these constraints and no clause.
-pub fn template(name: &str, effect: Effect, principal: PrincipalConstraint, resource: ResourceConstraint) -> Template {
+/// Returns a template without annotations.
+pub fn template_with(
+    name: &str,
+    effect: Effect,
+    scope: (PrincipalConstraint, ActionConstraint, ResourceConstraint),
+    clause: Option<Expr>,
+) -> Template {
+    let (principal, action, resource) = scope;
     Template::new(
         PolicyID::from_string(name),
         None,
         Annotations::new(),
         effect,
         principal,
-        ActionConstraint::any(),
+        action,
         resource,
-        None,
+        clause,
     )
+}
+
+/// Returns a template with these constraints and no clause.
+pub fn template(name: &str, effect: Effect, principal: PrincipalConstraint, resource: ResourceConstraint) -> Template {
+    template_with(name, effect, (principal, ActionConstraint::any(), resource), None)
 }
 
 /// Returns a template with the principal's slot.
