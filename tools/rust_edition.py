@@ -15,11 +15,15 @@ The proved text is the layer in `crates/`. The tool applies these rules to it, i
 - Allocations cannot fail. Allocators are removed. A function that could fail only by an allocation returns its value,
   without `?` and `Ok(..)`. The variant `Memory` of errors is removed, with the match arms for it (`functions.py`,
   `bodies.py`).
-- Errors get the messages that `thiserror` would write, and `as_ref` becomes `AsRef` (`items.py`).
+- Errors get the messages that `thiserror` would write, and `as_ref` becomes `AsRef`. Bounds of types move to their
+  implementations (`items.py`).
 - Parameters of public functions become as general as in std: `impl IntoIterator` or `impl AsRef<str>` (`general_parameters.py`).
 - Code whose form only a proof needs gets the usual form in Rust (`forms.py`, `statements.py`).
 - Iterators get their sizes and the further traits of std's iterators (`iterators.py`). Builders of hashers are cloned
-  (`hashers.py`).
+  (`hashers.py`). The maps of a store share their entries with their copies (`maps.py`).
+- Functions that only compute their result are marked `#[must_use]` (`must_use.py`).
+- Loops and `match`es of functions that return a `bool` are `any`, `all`, `is_some_and`, `&&` or `||` (`idioms.py`).
+- Private functions that are one expression and have one caller are replaced by it (`wrappers.py`).
 - Functions that hash and compare uids are marked `#[inline]` (`items.py`). Calls of functions that only copy, compare
   or hash their arguments are replaced by the bodies (`calls.py`).
 - Names become the names of Rust's std, and each file gets the `use` items that it needs (`texts.py`).
@@ -41,9 +45,10 @@ from rust_edition import examples, exceptions
 from rust_edition.bodies import gives_error, without_allocators, without_memory_arms
 from rust_edition.functions import Table, functions, imports_of, kind_of
 from rust_edition.ghosts import without_ghosts
-from rust_edition.items import File, Writer
+from rust_edition.items import File, Writer, without_bounds
 from rust_edition.trees import parse, text
-from rust_edition import calls, comments, exports, hashers, iterators, replacements, tests, texts
+from rust_edition import calls, comments, exports, hashers, idioms, iterators, maps, must_use, replacements, tests, texts, wrappers
+import public_api
 
 TOP = os.path.dirname(os.path.dirname(os.path.abspath(__file__)))
 SRC = os.path.join(TOP, 'rust', 'src')
@@ -53,6 +58,10 @@ TESTS_MANIFEST = '''[package]
 name = "cedar-store"
 version = "0.1.0"
 edition = "2024"
+
+[features]
+default = ["cli"]
+cli = []
 
 [profile.test]
 opt-level = 1
@@ -65,6 +74,10 @@ edition = "2024"
 
 [lib]
 crate-type = ["staticlib"]
+
+[features]
+default = ["cli"]
+cli = []
 
 [workspace]
 
@@ -160,7 +173,8 @@ def file_text(file, writer, imported):
     body = texts.public_uses(text(nodes), file.crate, crates)
     body = iterators.completed(body, exceptions.ITERATORS.get((file.crate, file.module), {}))
     body = hashers.cloned(body) if file.crate in exceptions.CRATES else body
-    more = [('std', 'fmt'), ('std', 'error', 'Error'), ('std', 'iter', 'FusedIterator'), ('crate', 'cedar_keyed_hash', 'KeyedState')]
+    body = without_bounds(maps.changed(body, file.crate, file.module))
+    more = [*maps.USES, ('std', 'fmt'), ('std', 'error', 'Error'), ('std', 'iter', 'FusedIterator'), ('crate', 'cedar_keyed_hash', 'KeyedState')]
     if file.crate == 'cedar_keyed_hash':
         more.pop()
     uses = texts.uses_of(paths, parse(body), file.crate, crates, more)
@@ -222,15 +236,17 @@ def formatted(sources, folder):
 
 
 def with_all_examples(sources):
-    """Returns the files with the examples of their calls.
+    """Returns the files with the marks and the examples of their calls.
 
     Raises:
         SystemExit: a call with an example is in no file.
     """
-    hidden, found = examples.entries()
-    used = set()
-    out = {name: examples.with_examples(source, hidden, found, used) for name, source in sources.items()}
-    unused = sorted(' '.join(call) for call in found.keys() - used - {'*'})
+    found = examples.entries()
+    existing = {key for source in sources.values() for _, key, _ in examples.calls_of(source) if key}
+    public = {name for _, name in public_api.exports()}
+    sources = {name: must_use.marked(source, public) for name, source in sources.items()}
+    out = {name: examples.with_examples(source, found, existing) for name, source in sources.items()}
+    unused = sorted(' '.join(call) for call in found.keys() - existing - {'*'})
     if unused:
         sys.exit(f'rust_edition: examples.txt has examples for calls that do not exist: {", ".join(unused)}')
     return out
@@ -324,6 +340,9 @@ def main():
     files = read_files(exceptions.CRATES)
     sources, is_unknown = package(files, table_of(files), LISTS)
     with tempfile.TemporaryDirectory() as folder:
+        for _ in range(2):  # the second round rewrites what the first one has shortened
+            sources = {name: idioms.idiomatic(source) for name, source in formatted(sources, folder).items()}
+            sources = {name: wrappers.inlined(source) for name, source in formatted(sources, folder).items()}
         expected = with_all_examples(formatted(sources, folder))
     existing = generated_files(SRC)
     differing = sorted(name for name in expected.keys() | existing.keys() if expected.get(name) != existing.get(name))

@@ -2,9 +2,11 @@
 
 # The crates of the layer, lowest first.
 CRATES = '''cedar_ids cedar_keyed_hash cedar_components cedar_uid_sets cedar_graph cedar_terms cedar_entity cedar_children
-cedar_entity_maps cedar_entities cedar_slice cedar_dry_run cedar_annotation cedar_scope cedar_binding
-cedar_action cedar_body cedar_policy cedar_policy_maps cedar_policy_set_errors cedar_policy_merge
-cedar_policy_set cedar_replay cedar_lines cedar_entity_lines cedar_policy_lines cedar_store cedar_repl'''.split()
+cedar_entity_maps cedar_entities cedar_slice cedar_dry_run cedar_queries cedar_entity_diff cedar_annotation cedar_scope
+cedar_binding cedar_action cedar_body cedar_policy cedar_policy_maps cedar_policy_set_errors cedar_policy_merge
+cedar_policy_set cedar_naming cedar_policy_diff cedar_replay cedar_lines cedar_entity_lines cedar_policy_lines
+cedar_store cedar_repl
+'''.split()
 
 # Calls for which there are several functions with the name: (crate, file, name) and the kind of the result.
 CHOICES = {
@@ -26,6 +28,12 @@ DROPPED = {('KeyedState', 'new'), ('PolicyMaps', 'body_count'), ('PolicyMaps', '
            ('fresh', 'count_ids'), ('fresh', 'size'), ('node', 'listed'),
            ('shared_node', 'listed_pointers'), ('store_text', 'next_entity'), ('store_text', 'is_before'),
            ('store_text', 'write_by_walks')}
+# Functions that copied parts of a type, which a derived `Clone` replaces.
+DROPPED |= {('maps', name) for name in ('copy_of_bodies', 'copy_of_policies', 'copy_of_ids')}
+DROPPED |= {('entities', 'copy_of_map'), ('entity', 'copy_of_fields')}
+# Functions by which an edit of a part tells what an edit of the store would change. In the package copies of a store share, so
+# it edits a copy.
+DROPPED |= {('would_change', f'part_change_by_{edit}') for edit in ('add', 'upsert', 'remove')} | {('Entities', 'affected')}
 # A function that is written by hand, in `rust/src/handwritten/policy_sets.rs`.
 DROPPED |= {('PolicySet', 'from_raw_components')}
 # Functions that only the tests of the layer use, so the package does not have them.
@@ -40,25 +48,35 @@ ONLY_IN_TESTS = {
 # Functions of `ONLY_IN_TESTS` that the C library uses, functions of the C library that only proofs use, and its files that are dropped.
 USED_BY_C = {('Entity', 'with_shared_parents'), ('making', 'static_policy'), ('making', 'slotted_template')}
 UNUSED_BY_C = {('Held', 'of_parts'), ('Held', 'into_parts')}
-DROPPED_FILES = {('cedar_c', 'parts')}
+DROPPED_FILES = {('cedar_c', 'parts'), ('cedar_entity_diff', 'parts')}
 DROPPED_TYPES = {'Linked', 'Direct', 'Streams'}
 DROPPED_IMPLS = {('Linked', 'Drop'), ('Linked', 'Deref'), ('Direct', 'Streams')}
 # Implementations that are written by hand, in `rust/src/handwritten/debug.rs`.
 WRITTEN_BY_HAND = {(name, 'Debug') for name in ('PolicyID', 'Annotations', 'HasCycle', 'Entities', 'UidSet')}
 # Implementations that a `derive` replaces.
-DERIVED = {('TemplateValidationError', 'Clone'), ('PolicySetValidationError', 'Clone')}
+DERIVED = {('TemplateValidationError', 'Clone'), ('PolicySetValidationError', 'Clone'), ('PolicyID', 'Clone'), ('Policy', 'Clone'),
+           ('PolicyMaps', 'Clone')}
+DERIVED |= {(name, 'Clone') for name in ('Entity', 'UidSet', 'Unknown', 'PrincipalOrResourceConstraint', 'TemplateBodyImpl', 'TemplateBody',
+                                         'PolicySet', 'Entities', 'Expr')}
+DERIVED |= {(name, trait) for name in ('Id', 'AnyId', 'PolicyID') for trait in ('PartialEq', 'Eq', 'PartialOrd', 'Ord', 'Hash')}
+DERIVED |= {(name, trait) for name in ('TemplateBody', 'ExtensionValue', 'Annotations') for trait in ('PartialEq', 'Eq')}
 DROPPED_IMPLS |= WRITTEN_BY_HAND | DERIVED
 # Enums that may get further variants. Errors with the variants of the original do not, so that a `match` over them
 # compiles as it does there.
 GROWING = {'EntitiesError', 'ExprNode', 'ExprValidationError', 'ParseErrors', 'RunError', 'TalkError'}
 # Traits that types derive in addition, so that errors derive `Clone`, `PartialEq` and `Eq`.
-MORE_DERIVES = {name: {'Clone', 'PartialEq', 'Eq'} for name in ('NonEmpty', 'MissingTcEdge', 'HasCycle')}
+MORE_DERIVES = {name: {'Clone', 'PartialEq', 'Eq'} for name in ('NonEmpty', 'MissingTcEdge', 'HasCycle', 'PolicySetDiff')}
+# Types whose copies share, and the parts of these.
+MORE_DERIVES |= {name: {'Clone'} for name in ('Policy', 'Parts', 'PolicyID', 'PolicyMaps', 'Index', 'Children',
+                                         'ContentChange', 'AncestryChange', 'StoreDiff')}
+for name, trait in sorted(DERIVED) + [('ExprKind', 'Clone')]:
+    MORE_DERIVES[name] = MORE_DERIVES.get(name, set()) | {trait}
 
 # Parameters that only contracts use: (file, function) and names.
 UNUSED = {
     ('component_lists', 'add'): {'n'}, ('component_lists', 'add_range'): {'n'}, ('list_order', 'take_all'): {'n'},
     ('components', 'meet'): {'graph', 'i'}, ('close', 'reaches_itself'): {'read'},
-    ('close', 'listed_for'): {'read'}, ('closed', 'knows_reached'): {'read'},
+    ('close', 'listed_for'): {'read'}, ('close', 'ascends'): {'read'}, ('closed', 'knows_reached'): {'read'},
 }
 
 # Public functions with parameters that are anything that can be iterated or read as a text: (type or file, name), and the mode of
@@ -131,7 +149,7 @@ ITERATORS = {
         'Keys': (INNER, True, 'Clone, Debug'),
         'Pairs': (INNER, True, 'Clone, Debug'),
         'Ancestors': (
-            'let count = self.parents.len() + self.indirect.len(); (count, Some(count))', True, 'Clone, Debug'),
+            'let count = self.current.len() + self.later.len(); (count, Some(count))', True, 'Clone, Debug'),
     },
     ('cedar_policy', 'slots'): {'Slots': (INNER, True, 'Clone, Debug')},
     ('cedar_policy_maps', 'iters'): {

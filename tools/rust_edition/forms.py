@@ -93,9 +93,9 @@ def bound(arm):
 
 
 def drop_in_arm(a):
-    """Replaces `None => drop(x)` by `None => ()`, because the function drops `x` anyway."""
+    """Replaces `None => drop(x)` by `None => ()`, because the function drops `x` anyway. A call is kept."""
     cs = code(a.body)
-    if len(cs) == 2 and is_id(cs[0], 'drop') and is_group(cs[1], '('):
+    if len(cs) == 2 and is_id(cs[0], 'drop') and is_group(cs[1], '(') and len(code(cs[1].items)) == 1:
         a.body = [Group('(', [])]
 
 

@@ -382,3 +382,11 @@ def field_name(part):
     while is_p(cs[0], '#'):
         cs = cs[2:]
     return [n for n in cs if is_id(n) and n[1] != 'pub'][0][1]
+
+
+def without_bounds(source):
+    """Returns a text whose structs and enums have no bounds: the implementations have them. `Debug` needs no hasher."""
+    head = re.compile(r'(?<![\w`])((?:struct|enum) \w+)<([^<>{}();]*)>(?= *[{(;])')
+    bound = re.compile(r'(?<=\w): [^,=]*?(?= *(?:,|=|$))')
+    source = head.sub(lambda m: f'{m.group(1)}<{bound.sub("", m.group(2))}>', source)
+    return re.sub(r'\bimpl<S: BuildHasher(?: \+ Clone)?> (fmt::Debug for )', r'impl<S> \1', source)

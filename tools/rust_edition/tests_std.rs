@@ -195,7 +195,7 @@ use crate::linked_map::{LinkedMap, LinkedSet};
 use crate::ordered_map::{OrderedMap, OrderedSet};
 use std::hash::{BuildHasher, Hash};
 
-impl<K: Hash + Eq, V, S: BuildHasher + Clone> LinkedMap<K, V, S> {
+impl<K: Hash + Eq + Clone, V: Clone, S: BuildHasher + Clone> LinkedMap<K, V, S> {
     pub fn with_capacity_and_hasher(count: usize, hasher: S) -> Self {
         let mut map = LinkedMap::with_hasher(hasher);
         map.reserve(count);
@@ -209,7 +209,7 @@ impl<K: Hash + Eq, V, S: BuildHasher + Clone> LinkedMap<K, V, S> {
     }
 }
 
-impl<T: Hash + Eq, S: BuildHasher + Clone> LinkedSet<T, S> {
+impl<T: Hash + Eq + Clone, S: BuildHasher + Clone> LinkedSet<T, S> {
     pub fn from_index_set(values: OrderedSet<T, S>) -> Self {
         let mut set = LinkedSet::with_hasher(values.hasher().clone());
         for value in values {

@@ -17,6 +17,7 @@ CODE = [
     (r'\.values\(\)\.as_slice\(\)', '.values()'),
     (r'\b(?:mem::)?replace\(([^(),]*), Vec::new\(\)\)', r'mem::take(\1)'),
     (r'\buse std::mem::replace;', 'use std::mem;'),
+    (r'\bErr\(ParseErrors::(\w+)\)(?= *(?:=>|\|))', r'Err(ParseErrors::\1(_))'),
 ]
 # a trait is imported if a file uses one of these methods of it
 METHODS = {
