@@ -11,9 +11,10 @@ from __future__ import annotations
 
 import hashlib
 from collections.abc import Mapping as AnyMapping
+from collections.abc import Set as AnySet
 from typing import Any, Callable, Iterable, Mapping, Optional
 
-from cedar_store import Bound, Constraint, Effect, Entity, EntityUid, Policies, values
+from cedar_store import Bound, Constraint, ConstraintKind, Effect, Entity, EntityUid, Policies, values
 
 Json = Any
 
@@ -91,7 +92,7 @@ def _value_nodes(root: Any) -> list[Json]:
         elif isinstance(value, AnyMapping):
             nodes.append(["record", [escape(key) for key in value]])
             pending += value.values()
-        elif isinstance(value, (frozenset, set, list, tuple)):
+        elif isinstance(value, (AnySet, list, tuple)):
             nodes.append(["set", len(value)])
             pending += value
         else:
@@ -193,11 +194,18 @@ def _decode_value(node: list[Json], stack: list[Any]) -> Any:
     if kind == "record":
         return values.Record(zip(map(unescape, node[1]), _pop(stack, len(node[1]))))
     if kind == "set":
-        members = _pop(stack, node[1])
-        # Python takes true and 1 as equal, so a set with both stays a tuple.
-        distinct = frozenset(members)
-        return distinct if len(distinct) == len(members) else tuple(members)
+        return _set_of(_pop(stack, node[1]))
     return _decode_literal(node)
+
+
+def _set_of(members: list[Any]) -> Any:
+    """Returns a set of values, of the type with which the library returns it."""
+    in_python = frozenset(members)
+    if len(in_python) == len(members):
+        return in_python
+    # Members occur twice, or differ only in Cedar, like true and 1.
+    in_cedar = values.CedarSet(members)
+    return in_python if len(in_cedar) == len(in_python) else in_cedar
 
 
 def decode_expr(nodes: Json) -> values.Expr:
@@ -254,16 +262,23 @@ def decode_entity(row: list[Json], texts: LongTexts) -> Entity:
     )
 
 
-# The constructors of a constraint, by their number in the library.
-_CONSTRAINTS = (
-    *("any", "is_eq", "is_eq_slot", "is_in", "is_in_slot"),
-    *("is_entity_type", "is_entity_type_in", "is_entity_type_in_slot"),
-)
+# The names of the kinds of constraints in the tables.
+_KIND_NAMES = {
+    ConstraintKind.ANY: "any",
+    ConstraintKind.EQ: "is_eq",
+    ConstraintKind.EQ_SLOT: "is_eq_slot",
+    ConstraintKind.IN: "is_in",
+    ConstraintKind.IN_SLOT: "is_in_slot",
+    ConstraintKind.IS: "is_entity_type",
+    ConstraintKind.IS_IN: "is_entity_type_in",
+    ConstraintKind.IS_IN_SLOT: "is_entity_type_in_slot",
+}
+_KINDS = {name: kind for kind, name in _KIND_NAMES.items()}
 _SCOPE = ("principal", "action", "resource")
 
 
 def _encode_constraint(constraint: Constraint) -> Json:
-    encoded: dict[str, Json] = {"kind": _CONSTRAINTS[constraint.kind]}
+    encoded: dict[str, Json] = {"kind": _KIND_NAMES[constraint.kind]}
     if constraint.type is not None:
         encoded["type"] = constraint.type
     if constraint.uids:
@@ -272,9 +287,7 @@ def _encode_constraint(constraint: Constraint) -> Json:
 
 
 def _decode_constraint(encoded: Json) -> Constraint:
-    arguments = [encoded["type"]] if "type" in encoded else []
-    constraint: Constraint = getattr(Constraint, encoded["kind"])(*arguments, *map(unescape, encoded.get("uids", ())))
-    return constraint
+    return Constraint(_KINDS[encoded["kind"]], encoded.get("type"), tuple(map(unescape, encoded.get("uids", ()))))
 
 
 def encode_policy(policies: Policies, id: str, texts: LongTexts) -> Json:

@@ -2,11 +2,12 @@
 from __future__ import annotations
 
 import asyncio
+import itertools
 import json
 import re
 from typing import Any, Iterable, NamedTuple, Optional
 
-from cedar_store import CedarError, EntityUid, Mode, Policies, Store, is_uid
+from cedar_store import CedarError, Entity, EntityUid, Mode, Policies, Store, is_uid
 
 from .encoding import LongTexts, decode_entity, edit_policies
 from .errors import InvalidRows, Moving, NoTenant, NotInSlice
@@ -14,6 +15,8 @@ from .pool import Connection, Pool
 
 # More rows than this are decoded and built in another thread.
 _MAX_INLINE_ROWS = 2000
+# An edit of this many entities makes the library list the children of all entities of a large store.
+_LISTING_EDIT = 64
 _LONG_KEYS = re.compile(r"\\u0002[0-9a-f]{64}")
 
 # The memory for an entity without attributes, for attributes, for a policy, and for each byte of JSON, in bytes.
@@ -59,7 +62,11 @@ class Rows:
         """Builds a store of the entities."""
         entities = [decode_entity(json.loads(row), self.texts) for row in self.entities]
         mode = Mode.COMPUTE if self.mode is Mode.COMPUTE else Mode.ASSUME
-        store = Store(entities, mode)
+        leaves = _some_leaves(entities) if mode is Mode.COMPUTE and len(entities) > _MAX_INLINE_ROWS else {}
+        store = Store([entity for entity in entities if entity.uid not in leaves], mode)
+        if leaves:
+            # Without the list of children, each of the next edits would scan the store for affected entities.
+            store.add(list(leaves.values()), mode)
         if self.is_partial:
             store.partial()
         return store
@@ -83,6 +90,13 @@ class Rows:
     def edit_policies(self, policies: Policies) -> None:
         """Brings a set to the version of this read."""
         edit_policies(policies, self.changed.get("ids", ()), map(json.loads, self.policies), self.texts)
+
+
+def _some_leaves(entities: list[Entity]) -> dict[EntityUid, Entity]:
+    """Returns entities that are no parents, by uid: as many as an edit must have to list the children of a store."""
+    parents = {parent for entity in entities for parent in entity.parents}
+    leaves = (entity for entity in entities if entity.uid not in parents)
+    return {entity.uid: entity for entity in itertools.islice(leaves, _LISTING_EDIT)}
 
 
 async def read_tenant(
@@ -143,16 +157,9 @@ async def build_contents(rows: Rows, has_entities: bool = True, has_policies: bo
         except (CedarError, ValueError, KeyError, TypeError) as error:
             raise InvalidRows(f"the library rejects the rows of a tenant: {error}") from error
 
-    def build_for_another_thread() -> Contents:
-        # A store belongs to the thread that created it, but a deep copy to the first thread that calls it.
-        store, policies = build()
-        return Contents(
-            None if store is None else store.deep_copy(), None if policies is None else policies.deep_copy()
-        )
-
     if len(rows) <= _MAX_INLINE_ROWS:
         return build()
-    return await asyncio.to_thread(build_for_another_thread)
+    return await asyncio.to_thread(build)
 
 
 class View:
@@ -184,7 +191,7 @@ class View:
             self._check(child)
         return self.store.is_descendant_of(child, ancestor)
 
-    def ancestors(self, uid: str) -> list[str]:
+    def ancestors(self, uid: str) -> list[EntityUid]:
         """Returns the ancestors of an entity, in ascending order.
 
         Raises:

@@ -2,8 +2,9 @@
 
     python3 stack.py [--without-haproxy] [--services N]
 
-Each group is a primary with a synchronous replica, which Patroni supervises over etcd. With haproxy, one address leads
-to the primary of each group, and one to all processes of the application. All servers listen on the loopback interface.
+Each group is a primary with a synchronous replica, which Patroni supervises over three servers of etcd. With haproxy,
+one address leads to the primary of each group, and one to all processes of the application. All servers listen on the
+loopback interface.
 It needs the packages postgresql-15, patroni, python3-etcd, etcd-server, haproxy, python3-uvicorn and python3-httptools.
 """
 from __future__ import annotations
@@ -14,6 +15,7 @@ import glob
 import json
 import os
 import pwd
+import random
 import shutil
 import signal
 import socket
@@ -31,13 +33,16 @@ sys.path[:0] = [os.path.dirname(HERE), os.path.join(CALLERS, "python")]
 import psycopg
 from cedar_postgres import migrate
 
+# With three servers of etcd, one can fail.
+ETCD_SERVERS = 3
+
 # The section is `etcd`, which uses version 2 of etcd's interface. With the section `etcd3` of Patroni 3.0.2, a primary
 # that hung can take the lock back from its successor, and acknowledged changes are lost.
 PATRONI = """
 scope: {group}
 name: {group}{number}
 restapi: {{listen: "127.0.0.1:{rest}", connect_address: "127.0.0.1:{rest}"}}
-etcd: {{host: "127.0.0.1:{etcd}"}}
+etcd: {{hosts: "{etcd}"}}
 bootstrap:
   dcs:
     ttl: 10
@@ -110,12 +115,33 @@ def _postgresql_folder() -> Optional[str]:
     return max(folders, key=lambda path: int(path.split("/")[4]), default=None)
 
 
-def _free_ports(count: int) -> list[int]:
-    with contextlib.ExitStack() as stack:
-        sockets = [stack.enter_context(socket.socket()) for _ in range(count)]
-        for each in sockets:
-            each.bind(("127.0.0.1", 0))
-        return [each.getsockname()[1] for each in sockets]
+_given_ports: set[int] = set()
+
+
+def free_ports(count: int) -> list[int]:
+    """Returns ports that are free, and that no other call has returned.
+
+    They are below the range from which the system takes the ports of connections. A port of that range could be taken
+    by a connection before the server that it was meant for has started.
+    """
+    with open("/proc/sys/net/ipv4/ip_local_port_range") as file:
+        end = int(file.read().split()[0])
+    ports: list[int] = []
+    while len(ports) < count:
+        port = random.randrange(min(10_000, end - 2_000), end)
+        if port not in _given_ports and _is_free(port):
+            _given_ports.add(port)
+            ports.append(port)
+    return ports
+
+
+def _is_free(port: int) -> bool:
+    with socket.socket() as each:
+        try:
+            each.bind(("127.0.0.1", port))
+        except OSError:
+            return False
+    return True
 
 
 def wait_until(condition: Callable[[], Any], seconds: float, what: str) -> Any:
@@ -198,8 +224,8 @@ def _with_children(pids: list[int]) -> list[int]:
 class Node(Process):
     """A server of a group, with its Patroni."""
 
-    def __init__(self, folder: str, group: str, number: int, etcd: int) -> None:
-        self.port, self.rest = _free_ports(2)
+    def __init__(self, folder: str, group: str, number: int, etcd: str) -> None:
+        self.port, self.rest = free_ports(2)
         self.data = f"{folder}/{group}{number}"
         with open(self.data + ".yml", "w") as file:
             file.write(
@@ -233,12 +259,37 @@ class Node(Process):
                 os.kill(pid, signal.SIGKILL)
 
 
+class Etcd(Process):
+    """A server of etcd. `members` has the port for its peers of each server, by its number."""
+
+    def __init__(self, folder: str, number: int, port: int, members: dict[int, int]) -> None:
+        self.port = port
+        client, peers = f"http://127.0.0.1:{port}", {n: f"http://127.0.0.1:{peer}" for n, peer in members.items()}
+        options = {
+            "--name": f"etcd{number}",
+            "--data-dir": f"{folder}/etcd{number}",
+            "--log-level": "error",
+            "--listen-client-urls": client,
+            "--advertise-client-urls": client,
+            "--listen-peer-urls": peers[number],
+            "--initial-advertise-peer-urls": peers[number],
+            "--initial-cluster": ",".join(f"etcd{n}={url}" for n, url in peers.items()),
+        }
+        arguments = [argument for option in options.items() for argument in option]
+        super().__init__(folder, f"etcd{number}", [str(_program("etcd")), "--enable-v2", *arguments])
+
+    def is_leader(self) -> bool:
+        """Returns whether the other servers of etcd follow this one."""
+        with urllib.request.urlopen(f"http://127.0.0.1:{self.port}/v2/stats/self", timeout=2) as response:
+            return bool(json.load(response)["state"] == "StateLeader")
+
+
 class Group:
     """A primary and its synchronous replica."""
 
-    def __init__(self, folder: str, name: str, etcd: int) -> None:
+    def __init__(self, folder: str, name: str, etcd: str) -> None:
         self.name, self.nodes = name, [Node(folder, name, number, etcd) for number in (1, 2)]
-        (self.front,) = _free_ports(1)
+        (self.front,) = free_ports(1)
 
     def members(self) -> dict[str, dict[str, Any]]:
         """Returns what Patroni knows of each node, by its name."""
@@ -257,13 +308,13 @@ class Group:
 
     def start(self) -> None:
         self.nodes[0].start()
-        wait_until(lambda: self.node_as("leader"), 90, "a primary")
+        wait_until(lambda: self.node_as("leader"), 180, "a primary")
         self.nodes[1].start()
         self.wait_for_replica()
 
     def wait_for_replica(self) -> None:
         """Waits until the group has a synchronous replica."""
-        wait_until(lambda: self.node_as("leader") and self.node_as("sync_standby"), 120, "a synchronous replica")
+        wait_until(lambda: self.node_as("leader") and self.node_as("sync_standby"), 180, "a synchronous replica")
 
     def switch_over(self) -> None:
         """Makes the replica the primary, as an operator does before work on a machine."""
@@ -298,31 +349,13 @@ class Stack:
         if os.getuid() == 0:
             shutil.chown(self.folder, "postgres", "postgres")
         self.has_haproxy = has_haproxy
-        client, peer, self.front = _free_ports(3)
-        self.etcd = Process(
-            self.folder,
-            "etcd",
-            [
-                str(_program("etcd")),
-                "--data-dir",
-                self.folder + "/etcd",
-                "--enable-v2",
-                "--log-level",
-                "error",
-                "--listen-client-urls",
-                f"http://127.0.0.1:{client}",
-                "--advertise-client-urls",
-                f"http://127.0.0.1:{client}",
-                "--listen-peer-urls",
-                f"http://127.0.0.1:{peer}",
-                "--initial-advertise-peer-urls",
-                f"http://127.0.0.1:{peer}",
-                "--initial-cluster",
-                f"default=http://127.0.0.1:{peer}",
-            ],
-        )
-        self.groups = {name: Group(self.folder, name, client) for name in "abcdef"[:groups]}
-        self.service_ports = _free_ports(services)
+        (self.front,) = free_ports(1)
+        ports = free_ports(2 * ETCD_SERVERS)
+        members = dict(enumerate(ports[ETCD_SERVERS:]))
+        self.etcds = [Etcd(self.folder, number, ports[number], members) for number in members]
+        hosts = ",".join(f"127.0.0.1:{etcd.port}" for etcd in self.etcds)
+        self.groups = {name: Group(self.folder, name, hosts) for name in "abcdef"[:groups]}
+        self.service_ports = free_ports(services)
         self.haproxy = Process(
             self.folder, "haproxy", [str(_program("haproxy")), "-db", "-f", self.folder + "/haproxy.cfg"]
         )
@@ -331,7 +364,9 @@ class Stack:
     def start(self) -> Stack:
         """Starts everything, and waits until it answers."""
         try:
-            self.etcd.start()
+            for etcd in self.etcds:
+                etcd.start()
+            wait_until(self.etcd_leader, 120, "a leader of etcd")
             for group in self.groups.values():
                 group.start()
             if self.has_haproxy:
@@ -339,14 +374,30 @@ class Stack:
                 for group in self.groups.values():
                     # haproxy begins with both servers, and leads to them in turn until it has found the replica.
                     front = group.dsn("postgres", "postgres", True)
-                    wait_until(lambda: all([_is_primary(front) for _ in range(6)]), 30, "haproxy")
+                    wait_until(lambda: all([_is_primary(front) for _ in range(6)]), 120, "haproxy")
             self._create_databases()
             for port in self.service_ports:
                 self.start_service(port)
         except BaseException:
+            self._print_logs()
             self.close()
             raise
         return self
+
+    def _print_logs(self) -> None:
+        """Prints the end of each program's log, so that a start that failed can be understood."""
+        for path in sorted(glob.glob(self.folder + "/*.log")):
+            with open(path, errors="replace") as log:
+                lines = log.readlines()[-8:]
+            print(f"{os.path.basename(path)}:", *lines, sep="\n    ", file=sys.stderr)
+
+    def etcd_leader(self) -> Optional[Etcd]:
+        """Returns the server of etcd that the others follow, or None if there is none."""
+        for etcd in self.etcds:
+            with contextlib.suppress(OSError, ValueError):
+                if etcd.is_leader():
+                    return etcd
+        return None
 
     def _start_haproxy(self) -> None:
         services = "\n".join(f"    server service{port} 127.0.0.1:{port}" for port in self.service_ports)
@@ -364,7 +415,7 @@ class Stack:
         """Creates the tables on each group, and the directory on the first."""
         for group in self.groups.values():
             admin = group.dsn("postgres", "postgres", self.has_haproxy)
-            wait_until(lambda: _is_primary(admin), 30, "a connection to the primary")
+            wait_until(lambda: _is_primary(admin), 120, "a connection to the primary")
             with psycopg.connect(admin, autocommit=True) as connection:
                 for database in ("tenants", *(["directory"] if group is self.groups["a"] else [])):
                     connection.execute(f"CREATE DATABASE {database}".encode())
@@ -399,7 +450,7 @@ class Stack:
         self.services.append(service)
         wait_until(
             lambda: urllib.request.urlopen(f"http://127.0.0.1:{port}/healthz", timeout=1).status == 200,
-            30,
+            120,
             "an answer of the service",
         )
         return service
@@ -411,7 +462,7 @@ class Stack:
     def close(self) -> None:
         """Stops everything, and deletes the folder."""
         nodes = [node for group in self.groups.values() for node in group.nodes]
-        for process in [*self.services, self.haproxy, *nodes, self.etcd]:
+        for process in [*self.services, self.haproxy, *nodes, *self.etcds]:
             process.stop()
         shutil.rmtree(self.folder, ignore_errors=True)
         atexit.unregister(self.close)

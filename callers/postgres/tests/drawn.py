@@ -35,16 +35,14 @@ def literal(rng: random.Random) -> Any:
     return rng.choice((True, False, number, text(rng), uid(rng)))
 
 
-def value(rng: random.Random, depth: int = 3, has_mixed_sets: bool = False) -> Any:
-    """Returns a value. Mixed sets have members that are equal in Python: the package cannot read these."""
+def value(rng: random.Random, depth: int = 3) -> Any:
+    """Returns a value. Some sets have members that are equal in Python only."""
     kind = rng.randrange(8) if depth else 0
     if kind == 5:
         return values.Extension(rng.choice(_FUNCTIONS), text(rng))
-    members = [value(rng, depth - 1, has_mixed_sets) for _ in range(rng.randrange(4))] if kind > 5 else []
-    if kind == 6 and has_mixed_sets:
-        return members + rng.choice(([True, 1], [0, [False, 0]], []))
+    members = [value(rng, depth - 1) for _ in range(rng.randrange(4))] if kind > 5 else []
     if kind == 6:
-        return [member for place, member in enumerate(members) if not isinstance(member, int) or not place]
+        return members + rng.choice(([True, 1], [0, [False, 0]], [], []))
     if kind == 7:
         return {text(rng): member for member in members}
     return literal(rng)

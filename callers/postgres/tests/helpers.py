@@ -5,6 +5,7 @@ import asyncio
 import unittest
 from typing import Any
 
+import psycopg
 from cedar_postgres import Database
 from cedar_store import CedarError, Policies, Store
 from servers import shared_server
@@ -41,6 +42,14 @@ class DatabaseTest(unittest.IsolatedAsyncioTestCase):
     def assert_equal_policies(self, stored: Policies, expected: Policies) -> None:
         self.assertTrue(stored == expected)
         self.assertEqual((stored.bodies(), stored.policies()), (expected.bodies(), expected.policies()))
+
+
+def assert_denied(test: unittest.TestCase, dsn: str, *statements: str) -> None:
+    """Checks that a role lacks the privilege for each of some statements."""
+    with psycopg.connect(dsn, autocommit=True) as connection:
+        for statement in statements:
+            with test.assertRaises(psycopg.errors.InsufficientPrivilege, msg=statement):
+                connection.execute(statement.encode())
 
 
 async def reason_of(call: Any) -> str:

@@ -11,19 +11,13 @@ import os
 import shutil
 import signal
 import subprocess
-import sys
 import tempfile
 import time
 import unittest
 from typing import Any, Callable
 
-HERE = os.path.dirname(os.path.abspath(__file__))
-sys.path.append(os.path.join(os.path.dirname(HERE), "example"))
-
-import stack
 from cedar_postgres import Database, DatabaseError
-
-MISSING = ", ".join(stack.missing_programs())
+from stack_test import MISSING, StackTest, stack
 
 
 class Writer:
@@ -68,17 +62,17 @@ def longest_gap(times: list[float]) -> float:
     return max(after - before for before, after in zip(times, [*times[1:], time.monotonic()]))
 
 
-@unittest.skipIf(MISSING, f"{MISSING} is missing")
-class Availability(unittest.IsolatedAsyncioTestCase):
+class Availability(StackTest):
+    groups = 1
+
     @classmethod
     def setUpClass(cls) -> None:
-        cls.stack = stack.Stack(groups=1, services=0).start()
-        cls.addClassCleanup(cls.stack.close)
+        super().setUpClass()
         cls.group = cls.stack.groups["a"]
         cls.written = {1: 0, 2: 0}
 
     async def asyncSetUp(self) -> None:
-        asyncio.get_running_loop().set_debug(False)
+        await super().asyncSetUp()
         await asyncio.to_thread(self.group.wait_for_replica)
 
     async def asyncTearDown(self) -> None:
@@ -154,27 +148,37 @@ class Availability(unittest.IsolatedAsyncioTestCase):
     async def test_an_operator_switches_over(self) -> None:
         await self._fault("switched over", self.group.switch_over, 3, 30)
 
-    async def test_etcd_is_silent(self) -> None:
-        def harm() -> None:
-            self.stack.etcd.send_signal(signal.SIGSTOP)
-            try:
-                time.sleep(25)
-            finally:
-                self.stack.etcd.send_signal(signal.SIGCONT)
+    def _hang(self, *processes: stack.Process) -> None:
+        """Lets processes hang for 25 seconds."""
+        for process in processes:
+            process.send_signal(signal.SIGSTOP)
+        try:
+            time.sleep(25)
+        finally:
+            for process in processes:
+                process.send_signal(signal.SIGCONT)
 
-        await self._fault("etcd silent for 25 s", harm, 3, 15)
+    async def test_etcd_is_silent(self) -> None:
+        await self._fault("etcd silent for 25 s", lambda: self._hang(*self.stack.etcds), 3, 15)
+
+    async def test_a_server_of_etcd_dies_before_the_primary(self) -> None:
+        etcd, leader = self.stack.etcd_leader(), self.group.node_as("leader")
+        assert etcd is not None
+
+        def harm() -> None:
+            etcd.stop()
+            time.sleep(5)
+            leader.stop()
+            try:
+                stack.wait_until(lambda: self.group.node_as("leader") is not leader, 60, "a new primary")
+            finally:
+                etcd.start()
+
+        await self._fault("a server of etcd and the primary killed", harm, 1, 45)
 
     async def test_the_machine_of_the_primary_hangs_and_comes_back(self) -> None:
         leader = self.group.node_as("leader")
-
-        def harm() -> None:
-            leader.send_signal(signal.SIGSTOP)
-            try:
-                time.sleep(25)
-            finally:
-                leader.send_signal(signal.SIGCONT)
-
-        await self._fault("primary hangs for 25 s", harm, 5, 40)
+        await self._fault("primary hangs for 25 s", lambda: self._hang(leader), 5, 40)
 
 
 _LOCK = """
@@ -184,7 +188,7 @@ from patroni.dcs.etcd3 import Etcd3
 
 logging.disable(logging.CRITICAL)
 kind, port = {"etcd": Etcd, "etcd3": Etcd3}[sys.argv[1]], sys.argv[2]
-nodes = [kind({"name": name, "scope": sys.argv[1], "namespace": "/lock/", "ttl": 4, "retry_timeout": 4, "loop_wait": 1,
+nodes = [kind({"name": name, "scope": sys.argv[3], "namespace": "/lock/", "ttl": 4, "retry_timeout": 12, "loop_wait": 1,
                "host": "127.0.0.1:" + port, "patronictl": False}) for name in ("first", "second")]
 assert nodes[0].attempt_to_acquire_leader()
 nodes[0].get_cluster()  # the first begins a round, and stands still for longer than its lock lasts
@@ -207,48 +211,31 @@ class Lock(unittest.TestCase):
     def setUp(self) -> None:
         self.folder = tempfile.mkdtemp(prefix="cedar-lock-")
         self.addCleanup(shutil.rmtree, self.folder, True)
-        self.port, peer = stack._free_ports(2)
-        client, other = f"http://127.0.0.1:{self.port}", f"http://127.0.0.1:{peer}"
-        process = subprocess.Popen(
-            [
-                str(stack._program("etcd")),
-                "--data-dir",
-                self.folder,
-                "--enable-v2",
-                "--log-level",
-                "error",
-                "--listen-client-urls",
-                client,
-                "--advertise-client-urls",
-                client,
-                "--listen-peer-urls",
-                other,
-                "--initial-advertise-peer-urls",
-                other,
-                "--initial-cluster",
-                "default=" + other,
-            ],
-            stdout=subprocess.DEVNULL,
-            stderr=subprocess.DEVNULL,
-        )
-        self.addCleanup(process.wait)
-        self.addCleanup(process.kill)
-        time.sleep(2)
+        if os.getuid() == 0:
+            shutil.chown(self.folder, "postgres", "postgres")
+        self.port, peer = stack.free_ports(2)
+        etcd = stack.Etcd(self.folder, 0, self.port, {0: peer})
+        etcd.start()
+        self.addCleanup(etcd.stop)
+        stack.wait_until(etcd.is_leader, 120, "etcd")
 
-    def _owner(self, section: str) -> str:
-        """Returns which of two nodes has the lock after the first one has hung and goes on."""
-        command = ["/usr/bin/python3", "-c", _LOCK, section, str(self.port)]
+    def _owner(self, section: str, attempt: int = 0) -> str:
+        """Returns which of two nodes has the lock after the first one has hung and goes on. Each attempt has its own
+        lock."""
+        command = ["/usr/bin/python3", "-c", _LOCK, section, str(self.port), f"{section}-{attempt}"]
         return subprocess.run(
-            command, stdout=subprocess.PIPE, stderr=subprocess.DEVNULL, text=True, timeout=60, check=True
+            command, stdout=subprocess.PIPE, stderr=subprocess.DEVNULL, text=True, timeout=300, check=True
         ).stdout.strip()
 
     def test_the_section_etcd_keeps_the_lock_of_the_successor(self) -> None:
         self.assertEqual(self._owner("etcd"), "second")
 
     def test_the_section_etcd3_of_this_version_does_not(self) -> None:
-        """If this fails, a later Patroni has repaired it, and the section etcd3 can be used."""
+        """If no attempt shows the fault, this Patroni has been repaired, and the section etcd3 can be used. On a loaded
+        machine a request of the first node can time out, and then an attempt does not show it."""
         from patroni.version import __version__
 
         if __version__ != "3.0.2":
             self.skipTest(f"Patroni 3.0.2 is missing: this is {__version__}")
-        self.assertEqual(self._owner("etcd3"), "first")
+        owners = (self._owner("etcd3", attempt) for attempt in range(5))
+        self.assertIn("first", owners)

@@ -13,7 +13,6 @@ import os
 import random
 import shutil
 import subprocess
-import sys
 import tempfile
 import threading
 import time
@@ -21,20 +20,16 @@ import unittest
 import urllib.parse
 from typing import Any
 
-HERE = os.path.dirname(os.path.abspath(__file__))
-sys.path.append(os.path.join(os.path.dirname(HERE), "example"))
-
-import stack
 from cedar_postgres import Cluster
 from cedar_postgres.move import Move
 from cedar_store import Entity, EntityUid, Store
+from stack_test import HERE, StackTest, stack
 
 SECONDS = int(os.environ.get("CEDAR_LOAD_SECONDS", "15"))
 TENANTS, ENTITIES, WRITERS, CONNECTIONS = 100, 1000, 4, 4
 USERS = ENTITIES - 40  # the first half is queried, the second half is edited
 MISSING = ", ".join(
     [
-        *stack.missing_programs(),
         *(["wrk"] if shutil.which("wrk") is None else []),
         *(["uvicorn"] if importlib.util.find_spec("uvicorn") is None else []),
     ]
@@ -108,14 +103,11 @@ class Writer(threading.Thread):
 
 
 @unittest.skipIf(MISSING, f"{MISSING} is missing")
-class Load(unittest.IsolatedAsyncioTestCase):
-    @classmethod
-    def setUpClass(cls) -> None:
-        cls.stack = stack.Stack(groups=2, services=2).start()
-        cls.addClassCleanup(cls.stack.close)
+class Load(StackTest):
+    services = 2
 
     async def asyncSetUp(self) -> None:
-        asyncio.get_running_loop().set_debug(False)
+        await super().asyncSetUp()
         async with Cluster(self.stack.directory()) as cluster:
             for tenant in range(TENANTS):
                 await cluster.create_tenant(tenant)

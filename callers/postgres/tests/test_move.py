@@ -12,11 +12,10 @@ import unittest
 from typing import Any
 
 import drawn
-import psycopg
 from cedar_postgres import Cluster, NoTenant
 from cedar_postgres.move import STEPS, Move, MoveError
 from cedar_store import Entity, EntityUid, Mode, Store
-from helpers import reason_of
+from helpers import assert_denied, reason_of
 from servers import Server
 
 _KILLED = """
@@ -151,15 +150,14 @@ class Places(ClusterTest):
                 await self.cluster.view(tenant)
 
     async def test_the_service_sees_no_connection_string_of_a_superuser(self) -> None:
-        with psycopg.connect(self.directory, autocommit=True) as connection:
-            for statement in (
-                "SELECT admin FROM cedar.servers",
-                "SELECT * FROM cedar.moves",
-                "UPDATE cedar.directory SET server = 'a'",
-                "DELETE FROM cedar.servers",
-            ):
-                with self.assertRaises(psycopg.errors.InsufficientPrivilege, msg=statement):
-                    connection.execute(statement.encode())
+        assert_denied(
+            self,
+            self.directory,
+            "SELECT admin FROM cedar.servers",
+            "SELECT * FROM cedar.moves",
+            "UPDATE cedar.directory SET server = 'a'",
+            "DELETE FROM cedar.servers",
+        )
 
 
 class Moves(ClusterTest):

@@ -170,15 +170,20 @@ class Servers(unittest.IsolatedAsyncioTestCase):
                 acknowledged.append(f"p{number}")
                 number += 1
 
+        async def until_acknowledged(count: int) -> None:
+            deadline = time.monotonic() + 60
+            while len(acknowledged) < count:
+                self.assertLess(time.monotonic(), deadline, "the changes do not go on")
+                await asyncio.sleep(0.05)
+
         task = asyncio.create_task(work())
-        for mode in ("immediate", "fast"):
-            await asyncio.sleep(0.5)
+        for mode, count in (("immediate", 20), ("fast", 40)):
+            await until_acknowledged(count)
             await asyncio.to_thread(server.stop, mode)
             await asyncio.to_thread(server.start)
-        await asyncio.sleep(0.5)
+        await until_acknowledged(60)
         stop.set()
         await task
-        self.assertGreater(len(acknowledged), 100)
         other = await Database(dsn).open()
         self.addAsyncCleanup(other.close)
         self.assertEqual((await other.view(1)).policies.bodies(), acknowledged)

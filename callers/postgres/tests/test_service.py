@@ -87,7 +87,7 @@ class Service(unittest.TestCase):
         process = subprocess.Popen(
             [sys.executable, "-B", SERVICE, str(port)], env=environment, stderr=subprocess.DEVNULL
         )
-        deadline = time.monotonic() + 20
+        deadline = time.monotonic() + 120
         while time.monotonic() < deadline:
             with contextlib.suppress(OSError), socket.create_connection(("127.0.0.1", port), 1):
                 return process, port

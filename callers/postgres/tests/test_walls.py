@@ -6,7 +6,7 @@ from cedar_postgres import Database, Draft, NoTenant, Unprotected
 from cedar_postgres.pool import Pool
 from cedar_postgres.tenant import read_tenant
 from cedar_store import Effect, Entity, EntityUid, Policies, values
-from helpers import DatabaseTest, reason_of
+from helpers import DatabaseTest, assert_denied, reason_of
 from servers import shared_server
 
 TABLES = ("tenants", "entities", "parents", "policies", "texts", "changes")
@@ -103,17 +103,16 @@ class Walls(DatabaseTest):
         self.assertEqual(self._rows_of(2), self.before)
 
     async def test_the_service_cannot_take_the_wall_down(self) -> None:
-        with psycopg.connect(self.dsn, autocommit=True) as connection:
-            for statement in (
-                "ALTER TABLE cedar.entities DISABLE ROW LEVEL SECURITY",
-                "DROP POLICY wall ON cedar.entities",
-                "TRUNCATE cedar.entities",
-                "SET row_security = off; SELECT * FROM cedar.entities",
-                "CREATE TABLE cedar.mine ()",
-                "DELETE FROM cedar.migrations",
-            ):
-                with self.assertRaises(psycopg.errors.InsufficientPrivilege, msg=statement):
-                    connection.execute(statement.encode())
+        assert_denied(
+            self,
+            self.dsn,
+            "ALTER TABLE cedar.entities DISABLE ROW LEVEL SECURITY",
+            "DROP POLICY wall ON cedar.entities",
+            "TRUNCATE cedar.entities",
+            "SET row_security = off; SELECT * FROM cedar.entities",
+            "CREATE TABLE cedar.mine ()",
+            "DELETE FROM cedar.migrations",
+        )
 
     async def test_the_versions_of_other_tenants_are_all_that_passes_the_wall(self) -> None:
         pool = Pool(self.dsn)
