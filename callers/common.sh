@@ -3,11 +3,12 @@
 both="$out/libcedar_c.a $out/liblibc_c.a"
 warn="-std=c11 -Wall -Wextra -Wpedantic -Werror"
 # The tests in C with their titles, and the examples, whose output is compared.
-c_tests=(calls values bodies deep_copy numbers validity helpers)
+c_tests=(calls values bodies deep_copy numbers validity queries helpers)
 declare -A c_titles=(
     [calls]="calls from C" [values]="values from C" [bodies]="bodies of policies from C"
     [deep_copy]="deep copies from C" [numbers]="numbers of uids from C"
-    [validity]="validation of policy sets from C" [helpers]="helpers of the headers in C")
+    [validity]="validation of policy sets from C" [queries]="questions of administrators from C"
+    [helpers]="helpers of the headers in C")
 c_examples=(example guide authorizer)
 # The options for c/deep_copy.c: threads, and its own allocation functions, which record each block.
 record_blocks="-pthread -Wl,--wrap=malloc -Wl,--wrap=realloc -Wl,--wrap=calloc -Wl,--wrap=posix_memalign"

@@ -52,12 +52,13 @@ static cedar_status build_sample(cedar_store *s) {
     return cedar_store_build_with(s, CONTENT(c), CEDAR_COMPUTE);
 }
 
-/* Creates a template with a slot in its clause, one with an action constraint that is not an action, a call of an
- * unknown function, and a link without slots. */
+/* Creates a template with a slot in its clause, one with a slot and an action constraint that is not an action, a call
+ * of an unknown function, and a link without slots. */
 static void set_up_faults(cedar_policies *faulty) {
     for (size_t k = 0; k < FAULTS; k++) {
         policy_body g = empty_body();
         if (k == 1) g.body.action = push_scope(&g, 1, U("a"), "");
+        if (k == 1) g.body.principal = push_scope(&g, CEDAR_SCOPE_EQ_SLOT, "", "");
         if (k != 1 && k != 3) push_nodes(&g.c, k ? "'x f(1" : "?0 $0 <");
         CHECK(new_set(&faulty[k]) == CEDAR_OK && insert_template_body(&faulty[k], "t", &g) == CEDAR_OK);
         CHECK(k != 3 || link_id(&faulty[k], "t", "l", "", "", "") == CEDAR_OK);
@@ -71,7 +72,8 @@ static void set_up(handles *h) {
     CHECK(new_store(&h->s) == CEDAR_OK && build(&h->s, "m m", CEDAR_COMPUTE) == CEDAR_CYCLE);
     CHECK(build_sample(&h->s) == CEDAR_OK && IS(value_at(&h->s, U("a"), 1, "k"), "'User ~u:1 $0 = @c ^User & *"));
     CHECK(new_store(&h->t) == CEDAR_OK && build(&h->t, "n n", CEDAR_COMPUTE) == CEDAR_CYCLE);
-    CHECK(build(&h->t, "y z", CEDAR_COMPUTE) == CEDAR_OK && cedar_store_partial(&h->t) == CEDAR_OK);
+    /* another mode, so that the queries of paths search it */
+    CHECK(build(&h->t, "y z", CEDAR_ASSUME) == CEDAR_OK && cedar_store_partial(&h->t) == CEDAR_OK);
     CHECK(ancestors(&h->s, U("a")) == CEDAR_OK && parents(&h->t, U("y")) == CEDAR_OK);
     size_t check_number = 9;
     CHECK(cedar_store_uid_number(&h->s, TEXT(U("a")), &check_number) == CEDAR_OK && check_number == 0);
@@ -103,7 +105,7 @@ static void free_handles(handles *h) {
 /* ---- the calls that allocate */
 
 #define CALL(name, expression)                                                                                         \
-    static cedar_status name(handles *h) {                                                                                 \
+    static cedar_status name(handles *h) {                                                                             \
         (void)h;                                                                                                       \
         return expression;                                                                                             \
     }
@@ -112,6 +114,26 @@ static void free_handles(handles *h) {
 static cedar_status check_bool(cedar_status status, bool result, bool expected) {
     return result == (!status && expected) ? status : 99;
 }
+
+/* Returns 99 if a number was written after an error, or a wrong number was written. */
+static cedar_status check_number(cedar_status status, size_t result, size_t expected) {
+    return result == (status ? 9 : expected) ? status : 99;
+}
+
+/* Defines a case of a call that writes to `result`, with the expected Boolean or number. */
+#define BOOL_CALL(name, expected, ...)                                                                                 \
+    static cedar_status name(handles *h) {                                                                             \
+        bool result = false;                                                                                           \
+        cedar_status status = __VA_ARGS__;                                                                             \
+        return check_bool(status, result, expected);                                                                   \
+    }
+
+#define NUMBER_CALL(name, type, expected, ...)                                                                         \
+    static cedar_status name(handles *h) {                                                                             \
+        type result = (type)9;                                                                                         \
+        cedar_status status = __VA_ARGS__;                                                                             \
+        return check_number(status, result, expected);                                                                 \
+    }
 
 static cedar_status run_program(handles *h) {
     const char *expected = "ok 1\nanc\t" U("b") "\nok\nok\nok\nbodies\tt\npolicies\tl\n";
@@ -128,17 +150,8 @@ static cedar_status run_program(handles *h) {
     return status;
 }
 
-static cedar_status query_has(handles *h) {
-    bool result = false;
-    cedar_status status = cedar_store_has(&h->s, TEXT(U("a")), &result);
-    return check_bool(status, result, true);
-}
-
-static cedar_status query_descendant(handles *h) {
-    bool result = false;
-    cedar_status status = cedar_store_is_descendant_of(&h->s, TEXT(U("a")), TEXT(U("c")), &result);
-    return check_bool(status, result, true);
-}
+BOOL_CALL(query_has, true, cedar_store_has(&h->s, TEXT(U("a")), &result))
+BOOL_CALL(query_descendant, true, cedar_store_is_descendant_of(&h->s, TEXT(U("a")), TEXT(U("c")), &result))
 
 /* Repeats a query until the handle caches it: a failed allocation of the cache is not an error of the query. */
 static cedar_status query_until_cached(handles *h) {
@@ -165,71 +178,22 @@ static cedar_status split_uid(handles *h) {
     return status;
 }
 
-static cedar_status query_child(handles *h) {
-    bool result = false;
-    cedar_status status = cedar_store_is_child_of(&h->s, TEXT(U("a")), TEXT(U("b")), &result);
-    return check_bool(status, result, true);
-}
-
-static cedar_status query_indirect_descendant(handles *h) {
-    bool result = false;
-    cedar_status status = cedar_store_is_indirect_descendant_of(&h->s, TEXT(U("a")), TEXT(U("c")), &result);
-    return check_bool(status, result, true);
-}
-
-static cedar_status compare_entities(handles *h) {
-    bool result = false;
-    cedar_status status = cedar_store_entity_equal(&h->s, TEXT(U("a")), &h->t, &result);
-    return check_bool(status, result, false);
-}
-
-/* Returns 99 if a number was written after an error, or a wrong number was written. */
-static cedar_status check_number(cedar_status status, size_t result, size_t expected) {
-    return result == (status ? 9 : expected) ? status : 99;
-}
-
-static cedar_status assign_number(handles *h) {
-    size_t result = 9;
-    cedar_status status = cedar_store_uid_number(&h->s, TEXT(U("c")), &result);
-    return check_number(status, result, 1);
-}
-
-static cedar_status assign_number_of_new_type(handles *h) {
-    size_t result = 9;
-    cedar_status status = cedar_store_uid_number(&h->s, TEXT("B::C::\"c\""), &result);
-    return check_number(status, result, 1);
-}
-
-static cedar_status get_number(handles *h) {
-    size_t result = 9;
-    cedar_status status = cedar_store_uid_number(&h->s, TEXT(U("a")), &result);
-    return check_number(status, result, 0);
-}
-
-static cedar_status look_up_entity(handles *h) {
-    cedar_found result = (cedar_found)9;
-    cedar_status status = cedar_store_entity(&h->s, TEXT(U("a")), &result);
-    return check_number(status, result, 2);
-}
-
-static cedar_status look_up_unknown(handles *h) {
-    cedar_found result = (cedar_found)9;
-    cedar_status status = cedar_store_entity(&h->t, TEXT(U("q")), &result);
-    return check_number(status, result, 1);
-}
-
-static cedar_status count_attributes(handles *h) {
-    size_t result = 9;
-    cedar_status status = cedar_store_attrs_len(&h->s, TEXT(U("a")), &result);
-    return check_number(status, result, 1);
-}
-
-static cedar_status count_tags(handles *h) {
-    size_t result = 9;
-    cedar_status status = cedar_store_tags_len(&h->s, TEXT(U("a")), &result);
-    return check_number(status, result, 1);
-}
-
+BOOL_CALL(query_child, true, cedar_store_is_child_of(&h->s, TEXT(U("a")), TEXT(U("b")), &result))
+BOOL_CALL(query_indirect_descendant, true,
+          cedar_store_is_indirect_descendant_of(&h->s, TEXT(U("a")), TEXT(U("c")), &result))
+BOOL_CALL(find_path, true, cedar_store_path(&h->s, TEXT(U("a")), TEXT(U("c")), &result))
+BOOL_CALL(find_no_path, false, cedar_store_path(&h->s, TEXT(U("c")), TEXT(U("a")), &result))
+BOOL_CALL(find_path_in_other, true, cedar_store_path(&h->t, TEXT(U("y")), TEXT(U("z")), &result))
+BOOL_CALL(query_reaches, true, cedar_store_reaches(&h->s, TEXT(U("a")), TEXT(U("c")), &result))
+BOOL_CALL(query_reaches_in_other, true, cedar_store_reaches(&h->t, TEXT(U("y")), TEXT(U("z")), &result))
+BOOL_CALL(compare_entities, false, cedar_store_entity_equal(&h->s, TEXT(U("a")), &h->t, &result))
+NUMBER_CALL(assign_number, size_t, 1, cedar_store_uid_number(&h->s, TEXT(U("c")), &result))
+NUMBER_CALL(assign_number_of_new_type, size_t, 1, cedar_store_uid_number(&h->s, TEXT("B::C::\"c\""), &result))
+NUMBER_CALL(get_number, size_t, 0, cedar_store_uid_number(&h->s, TEXT(U("a")), &result))
+NUMBER_CALL(look_up_entity, cedar_found, 2, cedar_store_entity(&h->s, TEXT(U("a")), &result))
+NUMBER_CALL(look_up_unknown, cedar_found, 1, cedar_store_entity(&h->t, TEXT(U("q")), &result))
+NUMBER_CALL(count_attributes, size_t, 1, cedar_store_attrs_len(&h->s, TEXT(U("a")), &result))
+NUMBER_CALL(count_tags, size_t, 1, cedar_store_tags_len(&h->s, TEXT(U("a")), &result))
 static cedar_status get_value(handles *h) {
     bool has = false;
     cedar_status status = cedar_store_get(&h->s, TEXT(U("a")), TEXT("k"), &has);
@@ -237,39 +201,30 @@ static cedar_status get_value(handles *h) {
     return check_bool(status, has, true);
 }
 
-static cedar_status get_absent_value(handles *h) {
-    bool has = false;
-    cedar_status status = cedar_store_get(&h->s, TEXT(U("b")), TEXT("k"), &has);
-    return check_bool(status, has, false);
-}
-
-static cedar_status get_tag(handles *h) {
-    bool has = false;
-    cedar_status status = cedar_store_get_tag(&h->s, TEXT(U("a")), TEXT("k"), &has);
-    return check_bool(status, has, true);
-}
+BOOL_CALL(get_absent_value, false, cedar_store_get(&h->s, TEXT(U("b")), TEXT("k"), &result))
+BOOL_CALL(get_tag, true, cedar_store_get_tag(&h->s, TEXT(U("a")), TEXT("k"), &result))
 
 /* Returns content with each kind of node, and an indirect ancestor. */
 static content more_content(const char *spec) {
     content c = with_entities(spec);
-    push_term(&c, 0, 0, "k", "t 1 'one @a {4");
-    push_term(&c, 0, 0, "k", "'p 1 'q 'p f [1 [2");
-    push_term(&c, 0, 1, "j", "'x d(1");
-    push_term(&c, 0, 1, "i", "?0 ! $1 @a < & ~u:0 ^A 1 {1 g(2 {2 *");
-    push_term(&c, 0, 0, "h", "'User ~u:1 2 = *");
+    PUSH_TERMS(&c, {0, 0, "k", "t 1 'one @a {4"}, {0, 0, "k", "'p 1 'q 'p f [1 [2"}, {0, 1, "j", "'x d(1"},
+                   {0, 1, "i", "?0 ! $1 @a < & ~u:0 ^A 1 {1 g(2 {2 *"}, {0, 0, "h", "'User ~u:1 2 = *"});
     c.indirect[c.indirect_len++] = (cedar_edge){0, 1};
     return c;
 }
 
-static cedar_status build_content(handles *h) {
-    content c = more_content("a b;b c;c de;f");
-    return cedar_store_build_with(&h->s, CONTENT(c), CEDAR_COMPUTE);
-}
+/* Defines a call on the store with `more_content`. */
+#define CONTENT_CALL(name, call, spec)                                                                                 \
+    static cedar_status name(handles *h) {                                                                             \
+        content c = more_content(spec);                                                                                \
+        return cedar_store_##call##_with(&h->s, CONTENT(c), CEDAR_COMPUTE);                                            \
+    }
 
-static cedar_status build_content_cycle(handles *h) {
-    content c = more_content("a b;b a");
-    return cedar_store_build_with(&h->s, CONTENT(c), CEDAR_COMPUTE);
-}
+CONTENT_CALL(build_content, build, "a b;b c;c de;f")
+CONTENT_CALL(build_content_cycle, build, "a b;b a")
+CONTENT_CALL(add_content, add, "y x;z y")
+CONTENT_CALL(add_content_duplicate, add, "a b")
+CONTENT_CALL(upsert_content, upsert, "b d;y b")
 
 static cedar_status build_invalid_name(handles *h) {
     content c = more_content("a b;b a");
@@ -277,38 +232,9 @@ static cedar_status build_invalid_name(handles *h) {
     return cedar_store_build_with(&h->s, CONTENT(c), CEDAR_COMPUTE);
 }
 
-static cedar_status add_content(handles *h) {
-    content c = more_content("y x;z y");
-    return cedar_store_add_with(&h->s, CONTENT(c), CEDAR_COMPUTE);
-}
-
-static cedar_status add_content_duplicate(handles *h) {
-    content c = more_content("a b");
-    return cedar_store_add_with(&h->s, CONTENT(c), CEDAR_COMPUTE);
-}
-
-static cedar_status upsert_content(handles *h) {
-    content c = more_content("b d;y b");
-    return cedar_store_upsert_with(&h->s, CONTENT(c), CEDAR_COMPUTE);
-}
-
-static cedar_status get_kind(handles *h) {
-    cedar_bound result = (cedar_bound)9;
-    cedar_status status = cedar_policies_get(&h->p, TEXT("l"), &result);
-    return check_number(status, result, 2);
-}
-
-static cedar_status get_effect(handles *h) {
-    cedar_effect result = (cedar_effect)9;
-    cedar_status status = cedar_policies_effect(&h->p, TEXT("l"), &result);
-    return check_number(status, result, 0);
-}
-
-static cedar_status get_slots(handles *h) {
-    uint32_t result = 9;
-    cedar_status status = cedar_policies_slots(&h->p, TEXT("t"), &result);
-    return check_number(status, result, 5);
-}
+NUMBER_CALL(get_kind, cedar_bound, 2, cedar_policies_get(&h->p, TEXT("l"), &result))
+NUMBER_CALL(get_effect, cedar_effect, 0, cedar_policies_effect(&h->p, TEXT("l"), &result))
+NUMBER_CALL(get_slots, uint32_t, 5, cedar_policies_slots(&h->p, TEXT("t"), &result))
 
 static cedar_status get_annotation(handles *h) {
     bool result = true;
@@ -354,35 +280,11 @@ static cedar_status add_invalid_name(handles *h) {
     return insert_static_body(&h->p, "new", &g);
 }
 
-static cedar_status get_scope(handles *h) {
-    cedar_scope_kind kind = (cedar_scope_kind)9;
-    cedar_status status = cedar_policies_scope(&h->p, TEXT("l"), 0, &kind);
-    return check_number(status, kind, 1);
-}
-
-static cedar_status get_action_scope(handles *h) {
-    cedar_scope_kind kind = (cedar_scope_kind)9;
-    cedar_status status = cedar_policies_scope(&h->p, TEXT("w"), 1, &kind);
-    return check_number(status, kind, 3);
-}
-
-static cedar_status get_resource_scope(handles *h) {
-    cedar_scope_kind kind = (cedar_scope_kind)9;
-    cedar_status status = cedar_policies_scope(&h->p, TEXT("t"), 2, &kind);
-    return check_number(status, kind, 2);
-}
-
-static cedar_status get_clause(handles *h) {
-    bool has = false;
-    cedar_status status = cedar_policies_clause(&h->p, TEXT("w"), &has);
-    return check_bool(status, has, true);
-}
-
-static cedar_status get_absent_clause(handles *h) {
-    bool has = false;
-    cedar_status status = cedar_policies_clause(&h->p, TEXT("a"), &has);
-    return check_bool(status, has, false);
-}
+NUMBER_CALL(get_scope, cedar_scope_kind, 1, cedar_policies_scope(&h->p, TEXT("l"), 0, &result))
+NUMBER_CALL(get_action_scope, cedar_scope_kind, 3, cedar_policies_scope(&h->p, TEXT("w"), 1, &result))
+NUMBER_CALL(get_resource_scope, cedar_scope_kind, 2, cedar_policies_scope(&h->p, TEXT("t"), 2, &result))
+BOOL_CALL(get_clause, true, cedar_policies_clause(&h->p, TEXT("w"), &result))
+BOOL_CALL(get_absent_clause, false, cedar_policies_clause(&h->p, TEXT("a"), &result))
 
 CALL(get_condition, cedar_policies_condition(&h->p, TEXT("w")))
 CALL(check_uid, cedar_uid_check(TEXT("A::B::\"a\"")))
@@ -415,6 +317,12 @@ CALL(list_parents, parents(&h->s, U("b")))
 CALL(list_absent, ancestors(&h->s, U("q")))
 CALL(list_uids, cedar_store_uids(&h->s))
 CALL(list_indirect, cedar_store_indirect_ancestors(&h->s, TEXT(U("a"))))
+CALL(list_descendants, cedar_store_descendants(&h->s, TEXT(U("c"))))
+CALL(list_no_descendants, cedar_store_descendants(&h->s, TEXT(U("q"))))
+CALL(list_descendants_of_other, cedar_store_descendants(&h->t, TEXT(U("z"))))
+CALL(list_descendants_of_type, cedar_store_descendants_of_type(&h->s, TEXT(U("c")), TEXT("A")))
+CALL(list_descendants_of_new_type, cedar_store_descendants_of_type(&h->s, TEXT(U("c")), TEXT("B::C")))
+CALL(list_descendants_of_no_type, cedar_store_descendants_of_type(&h->s, TEXT(U("c")), TEXT("B::")))
 CALL(list_keys, cedar_store_keys(&h->s, TEXT(U("a"))))
 CALL(list_tag_keys, cedar_store_tag_keys(&h->s, TEXT(U("a"))))
 CALL(get_uid_of_number, cedar_store_number_uid(&h->s, 0))
@@ -453,6 +361,11 @@ CALL(list_linked_of_absent, cedar_policies_linked(&h->p, TEXT("none")))
 CALL(list_unknown, cedar_policies_unknown_entities(&h->p, TEXT("x")))
 CALL(list_no_unknown, cedar_policies_unknown_entities(&h->p, TEXT("l")))
 CALL(list_unknown_of_template, cedar_policies_unknown_entities(&h->p, TEXT("t")))
+CALL(list_naming_bound, cedar_policies_naming(&h->p, TEXT("B::\"b\"")))
+CALL(list_naming_in_clause, cedar_policies_naming(&h->p, TEXT(U("b"))))
+CALL(list_naming_none, cedar_policies_naming(&h->p, TEXT(U("q"))))
+CALL(list_templates_naming, cedar_policies_templates_naming(&h->faulty[1], TEXT(U("a"))))
+CALL(list_no_templates_naming, cedar_policies_templates_naming(&h->p, TEXT(U("a"))))
 CALL(validate_set, cedar_policies_validate(&h->p))
 CALL(validate_slot, cedar_policies_validate(&h->faulty[0]))
 CALL(validate_action, cedar_policies_validate(&h->faulty[1]))
@@ -496,6 +409,11 @@ static const call CALLS[] = {
     list_ancestors,
     list_parents,
     list_absent,
+    find_path,
+    find_no_path,
+    find_path_in_other,
+    query_reaches,
+    query_reaches_in_other,
     query_child,
     query_indirect_descendant,
     compare_entities,
@@ -518,6 +436,12 @@ static const call CALLS[] = {
     upsert_content,
     list_uids,
     list_indirect,
+    list_descendants,
+    list_no_descendants,
+    list_descendants_of_other,
+    list_descendants_of_type,
+    list_descendants_of_new_type,
+    list_descendants_of_no_type,
     list_keys,
     list_tag_keys,
     get_store_text,
@@ -571,6 +495,11 @@ static const call CALLS[] = {
     list_unknown,
     list_no_unknown,
     list_unknown_of_template,
+    list_naming_bound,
+    list_naming_in_clause,
+    list_naming_none,
+    list_templates_naming,
+    list_no_templates_naming,
     validate_set,
     validate_slot,
     validate_action,
@@ -601,42 +530,45 @@ static bool are_equal_nodes(const cedar_node *nodes, const cedar_node *others, s
 /* Returns whether two handles have the same nodes. */
 static bool have_equal_nodes(handles *h, handles *other) {
     cedar_node nodes[MAX_NODES], others[MAX_NODES];
-    size_t count = cedar_store_answer_nodes(&h->s, 0, nodes, MAX_NODES);
-    if (count > MAX_NODES || cedar_store_answer_nodes(&other->s, 0, others, MAX_NODES) != count) return false;
+    size_t count = cedar_store_result_nodes(&h->s, 0, nodes, MAX_NODES);
+    if (count > MAX_NODES || cedar_store_result_nodes(&other->s, 0, others, MAX_NODES) != count) return false;
     if (!are_equal_nodes(nodes, others, count)) return false;
-    count = cedar_policies_answer_nodes(&h->p, 0, nodes, MAX_NODES);
-    if (count > MAX_NODES || cedar_policies_answer_nodes(&other->p, 0, others, MAX_NODES) != count) return false;
+    count = cedar_policies_result_nodes(&h->p, 0, nodes, MAX_NODES);
+    if (count > MAX_NODES || cedar_policies_result_nodes(&other->p, 0, others, MAX_NODES) != count) return false;
     return are_equal_nodes(nodes, others, count);
+}
+
+/* Defines a function that returns whether two handles have the same text. `text_of` reads it into one shared place. */
+#define DEFINE_EQUAL_TEXTS(name, handle, text_of)                                                                      \
+    static bool name(handle *one, handle *other) {                                                                     \
+        char text[CAPACITY];                                                                                           \
+        snprintf(text, sizeof text, "%s", text_of(one));                                                               \
+        return IS(text_of(other), text);                                                                               \
+    }
+
+DEFINE_EQUAL_TEXTS(have_equal_store_results, cedar_store, store_result)
+DEFINE_EQUAL_TEXTS(have_equal_set_results, cedar_policies, set_result)
+DEFINE_EQUAL_TEXTS(have_equal_store_errors, cedar_store, store_error)
+DEFINE_EQUAL_TEXTS(have_equal_set_errors, cedar_policies, set_error)
+
+/* Returns whether all handles pass a comparison of stores, and one of policy sets. */
+static bool are_alike(handles *h, handles *other, bool (*stores_equal)(cedar_store *, cedar_store *),
+                      bool (*policies_equal)(cedar_policies *, cedar_policies *)) {
+    for (size_t k = 0; k < FAULTS; k++) {
+        if (!policies_equal(&h->faulty[k], &other->faulty[k])) return false;
+    }
+    return stores_equal(&h->s, &other->s) && stores_equal(&h->t, &other->t) && policies_equal(&h->p, &other->p) &&
+           policies_equal(&h->q, &other->q);
 }
 
 /* Returns whether two handles have the same last result. */
 static bool have_equal_results(handles *h, handles *other) {
-    char text[CAPACITY];
-    snprintf(text, sizeof text, "%s", store_result(&h->s));
-    bool stores = IS(store_result(&other->s), text) && have_equal_nodes(h, other);
-    snprintf(text, sizeof text, "%s", set_result(&h->p));
-    return stores && IS(set_result(&other->p), text);
+    return are_alike(h, other, have_equal_store_results, have_equal_set_results) && have_equal_nodes(h, other);
 }
 
 /* Returns whether two handles have the same text of the last error. */
-static bool have_equal_store_errors(cedar_store *s, cedar_store *other) {
-    char text[CAPACITY];
-    snprintf(text, sizeof text, "%s", store_error(s));
-    return IS(store_error(other), text);
-}
-
-static bool have_equal_set_errors(cedar_policies *p, cedar_policies *other) {
-    char text[CAPACITY];
-    snprintf(text, sizeof text, "%s", set_error(p));
-    return IS(set_error(other), text);
-}
-
 static bool have_equal_errors(handles *h, handles *other) {
-    for (size_t k = 0; k < FAULTS; k++) {
-        if (!have_equal_set_errors(&h->faulty[k], &other->faulty[k])) return false;
-    }
-    return have_equal_store_errors(&h->s, &other->s) && have_equal_store_errors(&h->t, &other->t) &&
-           have_equal_set_errors(&h->p, &other->p) && have_equal_set_errors(&h->q, &other->q);
+    return are_alike(h, other, have_equal_store_errors, have_equal_set_errors);
 }
 
 /* Returns whether all handles except the called store are alike. */
@@ -752,13 +684,13 @@ static void calls_that_do_not_allocate(void) {
     CHECK(cedar_store_has_number(&h.s, 0, &result) == CEDAR_OK && result);
     CHECK(cedar_store_is_descendant_of_numbers(&h.s, 0, 0, &result) == CEDAR_OK && !result);
     CHECK(cedar_store_has_number(&h.s, 1, &result) == CEDAR_BAD_ARGUMENT && !result);
-    CHECK(cedar_store_answer(&h.s, 0, out, sizeof out) == 12 && cedar_store_answer_spans(&h.s, 0, spans, 8) == 2);
-    CHECK(cedar_store_answer_nodes(&h.s, 0, nodes, 8) == 8 && nodes[7].kind == CEDAR_RESIDUAL);
-    CHECK(cedar_store_refusal(&h.t, out, sizeof out) == strlen("cycle at " U("y")));
+    CHECK(cedar_store_result(&h.s, 0, out, sizeof out) == 12 && cedar_store_result_spans(&h.s, 0, spans, 8) == 2);
+    CHECK(cedar_store_result_nodes(&h.s, 0, nodes, 8) == 8 && nodes[7].kind == CEDAR_RESIDUAL);
+    CHECK(cedar_store_error_text(&h.t, out, sizeof out) == strlen("cycle at " U("y")));
     CHECK(sets_equal(&h.p, &h.q) == 0);
-    CHECK(cedar_policies_answer(&h.p, 0, out, sizeof out) == 4 && cedar_policies_answer_spans(&h.p, 0, spans, 8) == 4);
-    CHECK(cedar_policies_answer_nodes(&h.p, 0, nodes, 8) == 3 && nodes[2].kind == CEDAR_EQ);
-    CHECK(cedar_policies_refusal(&h.p, out, sizeof out) == strlen("occupied a"));
+    CHECK(cedar_policies_result(&h.p, 0, out, sizeof out) == 4 && cedar_policies_result_spans(&h.p, 0, spans, 8) == 4);
+    CHECK(cedar_policies_result_nodes(&h.p, 0, nodes, 8) == 3 && nodes[2].kind == CEDAR_EQ);
+    CHECK(cedar_policies_error_text(&h.p, out, sizeof out) == strlen("occupied a"));
     free_handles(&h);
     CHECK(requests == 0);
     requests_until_failure = 0;

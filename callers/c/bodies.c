@@ -299,8 +299,8 @@ static void reading_constraints_and_clauses(void) {
     CHECK(IS(scope_text(&p, "\xff", 1), "status 5") && IS(scope_text(&p, "s", 3), "status 3") &&
           IS(set_expr(&p), condition));
     cedar_node nodes[2] = {{99, 0, {0, 0}, 0}, {99, 0, {0, 0}, 0}};
-    CHECK(cedar_policies_answer_nodes(&p, 1, nodes, 1) == 20 && nodes[0].kind == CEDAR_IS && nodes[1].kind == 99);
-    CHECK(cedar_policies_ids(&p, 0) == CEDAR_OK && cedar_policies_answer_nodes(&p, 19, nodes, 1) == 20);
+    CHECK(cedar_policies_result_nodes(&p, 1, nodes, 1) == 20 && nodes[0].kind == CEDAR_IS && nodes[1].kind == 99);
+    CHECK(cedar_policies_ids(&p, 0) == CEDAR_OK && cedar_policies_result_nodes(&p, 19, nodes, 1) == 20);
     CHECK(cedar_policies_clause(&p, TEXT("a"), &has) == CEDAR_OK && !has && IS(set_error(&p), ""));
     CHECK(new_set(&p) == CEDAR_OK && IS(set_expr(&p), ""));
     cedar_policies_free(&p);
@@ -317,8 +317,8 @@ static void returned_clauses_can_be_added(void) {
         if (k) CHECK(cedar_policies_condition(&p, TEXT("s")) == CEDAR_OK);
         snprintf(words, sizeof words, "%s", k ? set_expr(&p) : clause_of(&p, "s"));
         snprintf(id, sizeof id, "copy%d", k);
-        copy.c.l.text_len = cedar_policies_answer(&p, 0, copy.c.l.text, sizeof copy.c.l.text);
-        copy.c.nodes_len = cedar_policies_answer_nodes(&p, 0, copy.c.nodes, MAX_NODES);
+        copy.c.l.text_len = cedar_policies_result(&p, 0, copy.c.l.text, sizeof copy.c.l.text);
+        copy.c.nodes_len = cedar_policies_result_nodes(&p, 0, copy.c.nodes, MAX_NODES);
         CHECK(insert_static_body(&p, id, &copy) == CEDAR_OK && IS(clause_of(&p, id), words));
     }
     cedar_policies_free(&p);

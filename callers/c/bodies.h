@@ -85,14 +85,10 @@ static inline const char *scope_text(cedar_policies *p, const char *id, cedar_va
 
 /* Returns the nodes of the last expression as words. */
 static inline const char *set_expr(cedar_policies *p) {
-    static char out[CAPACITY];
     uint8_t text[CAPACITY];
     cedar_node nodes[MAX_NODES];
-    size_t at = 0, count = cedar_policies_answer_nodes(p, 0, nodes, MAX_NODES);
-    cedar_policies_answer(p, 0, text, sizeof text);
-    for (size_t k = 0; k < count && k < MAX_NODES; k++) at += write_node(out + at, sizeof out - at, text, &nodes[k]);
-    out[at ? at - 1 : 0] = 0;
-    return out;
+    cedar_policies_result(p, 0, text, sizeof text);
+    return words_of_nodes(text, nodes, cedar_policies_result_nodes(p, 0, nodes, MAX_NODES));
 }
 
 /* Returns the clause as words, `none` if there is none, or the status. */

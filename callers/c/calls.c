@@ -62,10 +62,10 @@ static const char *names_in_error(cedar_status status, const char *text) {
     static char out[160];
     cedar_span part;
     size_t at = 0, place = 0;
-    for (; cedar_refusal_part(status, TEXT(text), place, &part); place++)
+    for (; cedar_error_part(status, TEXT(text), place, &part); place++)
         at += (size_t)snprintf(out + at, sizeof out - at, "[%.*s]", (int)(part.end - part.start), text + part.start);
     part = (cedar_span){7, 9};
-    CHECK(!cedar_refusal_part(status, TEXT(text), SIZE_MAX, &part) && part.start == 7 && part.end == 9);
+    CHECK(!cedar_error_part(status, TEXT(text), SIZE_MAX, &part) && part.start == 7 && part.end == 9);
     out[at] = 0;
     return out;
 }
@@ -176,9 +176,9 @@ static void closed_store_has_no_output(void) {
     cedar_store s = {0};
     uint8_t out[4] = {7, 7, 7, 7};
     cedar_span spans[1] = {{5, 6}};
-    CHECK(cedar_store_answer(&s, 0, out, 4) == 0 && out[0] == 7);
-    CHECK(cedar_store_answer_spans(&s, 0, spans, 1) == 0 && spans[0].start == 5);
-    CHECK(cedar_store_refusal(&s, out, 4) == 0 && out[0] == 7);
+    CHECK(cedar_store_result(&s, 0, out, 4) == 0 && out[0] == 7);
+    CHECK(cedar_store_result_spans(&s, 0, spans, 1) == 0 && spans[0].start == 5);
+    CHECK(cedar_store_error_text(&s, out, 4) == 0 && out[0] == 7);
 }
 
 static void one_store_closed(void) {
@@ -238,19 +238,19 @@ static void copying_out(void) {
     cedar_span spans[3] = {{9, 9}, {9, 9}, {9, 9}};
     CHECK(new_store(&s) == CEDAR_OK && build(&s, "a bc", CEDAR_COMPUTE) == CEDAR_OK && parents(&s, U("a")) == CEDAR_OK);
     memset(out, '.', sizeof out);
-    CHECK(cedar_store_answer(&s, 0, out, 16) == 12 && !memcmp(out, U("b") U("c") "....", 16));
+    CHECK(cedar_store_result(&s, 0, out, 16) == 12 && !memcmp(out, U("b") U("c") "....", 16));
     memset(out, '.', sizeof out);
-    CHECK(cedar_store_answer(&s, 0, out, 5) == 12 && !memcmp(out, "A::\"b...", 8));
+    CHECK(cedar_store_result(&s, 0, out, 5) == 12 && !memcmp(out, "A::\"b...", 8));
     memset(out, '.', sizeof out);
-    CHECK(cedar_store_answer(&s, 6, out, 16) == 12 && !memcmp(out, U("c") "..", 8));
+    CHECK(cedar_store_result(&s, 6, out, 16) == 12 && !memcmp(out, U("c") "..", 8));
     memset(out, '.', sizeof out);
-    CHECK(cedar_store_answer(&s, 12, out, 16) == 12 && cedar_store_answer(&s, SIZE_MAX, out, 16) == 12);
-    CHECK(!memcmp(out, "....", 4) && cedar_store_answer(&s, 0, out, 0) == 12);
-    CHECK(cedar_store_answer_spans(&s, 0, spans, 3) == 2 && spans[2].start == 9);
+    CHECK(cedar_store_result(&s, 12, out, 16) == 12 && cedar_store_result(&s, SIZE_MAX, out, 16) == 12);
+    CHECK(!memcmp(out, "....", 4) && cedar_store_result(&s, 0, out, 0) == 12);
+    CHECK(cedar_store_result_spans(&s, 0, spans, 3) == 2 && spans[2].start == 9);
     CHECK(spans[0].start == 0 && spans[0].end == 6 && spans[1].start == 6 && spans[1].end == 12);
-    CHECK(cedar_store_answer_spans(&s, 1, spans, 3) == 2 && spans[0].start == 6 && spans[0].end == 12);
-    CHECK(cedar_store_answer_spans(&s, 2, spans, 3) == 2 && cedar_store_answer_spans(&s, SIZE_MAX, spans, 3) == 2);
-    CHECK(cedar_store_answer_spans(&s, 0, spans, 0) == 2 && spans[0].start == 6);
+    CHECK(cedar_store_result_spans(&s, 1, spans, 3) == 2 && spans[0].start == 6 && spans[0].end == 12);
+    CHECK(cedar_store_result_spans(&s, 2, spans, 3) == 2 && cedar_store_result_spans(&s, SIZE_MAX, spans, 3) == 2);
+    CHECK(cedar_store_result_spans(&s, 0, spans, 0) == 2 && spans[0].start == 6);
     cedar_store_free(&s);
 }
 
@@ -350,11 +350,11 @@ static void duplicates(void) {
     cedar_store s = {0};
     uint8_t out[4] = {46, 46, 46, 46};
     CHECK(new_store(&s) == CEDAR_OK);
-    CHECK(cedar_store_refusal(&s, (uint8_t *)"", 0) == 0);
+    CHECK(cedar_store_error_text(&s, (uint8_t *)"", 0) == 0);
     CHECK(build(&s, "q r", CEDAR_COMPUTE) == CEDAR_OK);
     CHECK(build(&s, "a b;a c", CEDAR_COMPUTE) == CEDAR_DUPLICATE && cedar_store_len(&s) == 1);
     CHECK(IS(store_error(&s), "duplicate entity " U("a")));
-    CHECK(cedar_store_refusal(&s, out, 3) == strlen("duplicate entity " U("a")) && !memcmp(out, "dup.", 4));
+    CHECK(cedar_store_error_text(&s, out, 3) == strlen("duplicate entity " U("a")) && !memcmp(out, "dup.", 4));
     CHECK(build(&s, "q r", CEDAR_COMPUTE) == CEDAR_OK);
     CHECK(add(&s, "x r;q z", CEDAR_COMPUTE) == CEDAR_DUPLICATE && cedar_store_len(&s) == 1 && has(&s, U("q")) == 1);
     CHECK(ancestors(&s, U("q")) == CEDAR_OK && IS(store_result(&s), "," U("r")));
@@ -619,8 +619,8 @@ static void closed_set(void) {
     CHECK(cedar_policies_merge(&p, &q, true) == CEDAR_CLOSED && cedar_policies_ids(&p, 0) == CEDAR_CLOSED);
     CHECK(cedar_policies_copy(&p, &q) == CEDAR_CLOSED);
     CHECK(cedar_policies_equal(&p, &q, &result) == CEDAR_CLOSED && result);
-    CHECK(cedar_policies_answer(&p, 0, out, 4) == 0 && cedar_policies_answer_spans(&p, 0, spans, 1) == 0);
-    CHECK(cedar_policies_refusal(&p, out, 4) == 0);
+    CHECK(cedar_policies_result(&p, 0, out, 4) == 0 && cedar_policies_result_spans(&p, 0, spans, 1) == 0);
+    CHECK(cedar_policies_error_text(&p, out, 4) == 0);
     CHECK(out[0] == 7 && spans[0].start == 5 && !p.is_open && !q.is_open);
 }
 
@@ -716,7 +716,7 @@ static void errors_of_removals(void) {
     cedar_policies p = {0};
     uint8_t out[4] = {'.', '.', '.', '.'};
     build_sample_set(&p);
-    CHECK(cedar_policies_refusal(&p, out, 4) == 0);
+    CHECK(cedar_policies_error_text(&p, out, 4) == 0);
     CHECK(unlink_id(&p, "x") == CEDAR_NO_LINK && IS(set_error(&p), "no link x"));
     CHECK(unlink_id(&p, "s") == CEDAR_NOT_A_LINK && IS(set_error(&p), "not a link s"));
     CHECK(unlink_id(&p, "t") == CEDAR_NOT_A_LINK && IS(set_error(&p), "not a link t"));
@@ -727,7 +727,7 @@ static void errors_of_removals(void) {
     CHECK(remove_template(&p, "t") == CEDAR_WITH_LINKS && IS(set_error(&p), "template with links t"));
     CHECK(remove_template(&p, "s") == CEDAR_NOT_A_TEMPLATE && remove_template(&p, "l") == CEDAR_NOT_A_TEMPLATE);
     CHECK(IS(set_error(&p), "not a template l"));
-    CHECK(cedar_policies_refusal(&p, out, 3) == strlen("not a template l") && !memcmp(out, "not.", 4));
+    CHECK(cedar_policies_error_text(&p, out, 3) == strlen("not a template l") && !memcmp(out, "not.", 4));
     CHECK(cedar_policies_ids(&p, 0) == CEDAR_OK && IS(set_result(&p), ",s,t,u"));
     CHECK(cedar_policies_ids(&p, 1) == CEDAR_OK && IS(set_result(&p), ",s,l"));
     CHECK(unlink_id(&p, "l") == CEDAR_OK && remove_template(&p, "t") == CEDAR_OK);

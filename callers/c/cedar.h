@@ -8,6 +8,7 @@
  * - cedar/policies.h: policy sets
  * - cedar/nulls.h: checks of pointers before each call
  * - cedar/lists.h: helpers that build lists and iterate over results
+ * - cedar/diff.h: what differs between two stores, and between two policy sets
  *
  * Rules for callers. No compiler checks them, and what is proved holds only for callers that follow them.
  *
@@ -29,8 +30,8 @@
  * - A null pointer is a list if its length is 0.
  * - Any other null pointer is a bad argument, and so is a handle that is passed twice.
  *
- * These checks are tested, not proved. With CEDAR_UNCHECKED defined before the include, calls go to the proved functions
- * directly.
+ * These checks are tested, not proved. With CEDAR_UNCHECKED defined before the include, calls go to the proved
+ * functions directly.
  *
  * Ownership. A handle owns its contents. `cedar_store_free` and `cedar_policies_free` free them, and may be called any
  * number of times. The caller owns all other arguments, and no call reads them after it has returned. Results are
@@ -47,8 +48,8 @@
  *   it.
  * - CEDAR_NOT_A_UID: a text that should be the text of a uid is none. Any call that takes a uid can return it.
  *
- * Answers. Many calls store their result in the handle, as its answer: a list of texts. `cedar_store_answer` and
- * `cedar_policies_answer` copy the bytes of the answer out, and `cedar_store_texts` (cedar/lists.h) all its texts. Some
+ * Results. Many calls store their result in the handle: a list of texts. `cedar_store_result` and
+ * `cedar_policies_result` copy the bytes of the result out, and `cedar_store_texts` (cedar/lists.h) all its texts. Some
  * calls store nodes too, for a value or an expression.
  *
  * Texts are bytes in UTF-8 without a zero at the end. A uid is written as the program writes it, for example
@@ -86,5 +87,6 @@
 #include "cedar/nulls.h"
 
 #include "cedar/lists.h"
+#include "cedar/diff.h"
 
 #endif

@@ -110,11 +110,8 @@ static cedar_status add_unusual_entity(cedar_store *s) {
 
 static cedar_status build_full_store(cedar_store *s) {
     content c = with_entities("a b;b c;x ac;c");
-    push_term(&c, 0, 0, "k", "'x '10.0.0.1 ip(1 'y 'z @b {2 [2");
-    push_term(&c, 0, 0, "", "'n 2 'r 'm 3 [1 [2");
-    push_term(&c, 0, 1, "k", "'User ~u:1 $0 = @c ^User & *");
-    push_term(&c, 2, 0, "l", "'\xc3\xa9");
-    push_term(&c, 3, 1, "t", "@a");
+    PUSH_TERMS(&c, {0, 0, "k", "'x '10.0.0.1 ip(1 'y 'z @b {2 [2"}, {0, 0, "", "'n 2 'r 'm 3 [1 [2"},
+                   {0, 1, "k", "'User ~u:1 $0 = @c ^User & *"}, {2, 0, "l", "'\xc3\xa9"}, {3, 1, "t", "@a"});
     cedar_status status = new_store(s);
     if (!status) status = cedar_store_build_with(s, CONTENT(c), CEDAR_COMPUTE);
     return status ? status : add_unusual_entity(s);

@@ -1,4 +1,4 @@
-/* Ten tasks of an authorizer or an administration service. docs/GUIDE.md quotes most of these functions. */
+/* Twelve tasks of an authorizer or an administration service. docs/GUIDE.md quotes most of these functions. */
 #include "cedar.h"
 #include <stdio.h>
 #include <sys/random.h>
@@ -175,11 +175,33 @@ static void failing_removals(cedar_policies *set) {
     print_error(set, cedar_policies_remove_template(set, CEDAR_TEXT("policy0")));
 }
 
+static cedar_status print_members(cedar_store *store) {
+    cedar_texts members = CEDAR_EMPTY, path = CEDAR_EMPTY;
+    cedar_status status = cedar_store_descendant_texts(store, STAFF, "User", &members);
+    for (const char *member; !status && (member = cedar_texts_next(&members, NULL));) {
+        status = cedar_store_path_texts(store, member, STAFF, &path);
+        for (const char *uid; (uid = cedar_texts_next(&path, NULL));)
+            printf("%s%s", uid, strcmp(uid, STAFF) ? " in " : "\n");
+    }
+    cedar_texts_free(&members);
+    cedar_texts_free(&path);
+    return status;
+}
+
+static cedar_status print_naming(cedar_policies *set) {
+    cedar_texts policies = CEDAR_EMPTY;
+    cedar_status status = cedar_policies_naming_texts(set, STAFF, &policies);
+    for (const char *id; (id = cedar_texts_next(&policies, NULL));) printf("names the staff: %s\n", id);
+    cedar_texts_free(&policies);
+    return status;
+}
+
 static cedar_status stores(void) {
     cedar_store store = CEDAR_EMPTY, other = CEDAR_EMPTY;
     bool in_board = false, in_staff = false;
     cedar_status status = build(&store);
     if (!status) status = query(&store);
+    if (!status) status = print_members(&store);
     if (!status) status = cedar_store_copy(&store, &other);
     if (!status) status = edit(&other);
     if (!status) status = cedar_store_is_descendant_of(&other, CEDAR_TEXT(ALICE), CEDAR_TEXT(BOARD), &in_board);
@@ -203,6 +225,7 @@ static cedar_status sets(void) {
     if (!status) status = cedar_policies_new(&other, key[0], key[1]);
     if (!status) status = add_and_link(&set);
     if (!status) status = list_applicable(&set, request);
+    if (!status) status = print_naming(&set);
     if (!status) status = cedar_policies_add_static(&set, CEDAR_TEXT("policy0"), CEDAR_PERMIT);
     if (!status) status = cedar_policies_add_static(&other, CEDAR_TEXT("policy0"), CEDAR_FORBID);
     if (!status) status = cedar_policies_add_static(&other, CEDAR_TEXT("policy1"), CEDAR_PERMIT);

@@ -28,8 +28,8 @@ static void null_handles(void) {
     cedar_store_free(s);
     cedar_policies_free(p);
     CHECK(cedar_store_new(s, 0, 0) == CEDAR_CLOSED && cedar_policies_new(p, 0, 0) == CEDAR_CLOSED);
-    CHECK(cedar_store_len(s) == 0 && cedar_store_answer(s, 0, out, 4) == 0 && cedar_store_refusal(s, out, 4) == 0);
-    CHECK(cedar_policies_answer(p, 0, out, 4) == 0 && cedar_policies_refusal(p, out, 4) == 0);
+    CHECK(cedar_store_len(s) == 0 && cedar_store_result(s, 0, out, 4) == 0 && cedar_store_error_text(s, out, 4) == 0);
+    CHECK(cedar_policies_result(p, 0, out, 4) == 0 && cedar_policies_error_text(p, out, 4) == 0);
     CHECK(cedar_store_uids(s) == CEDAR_CLOSED && cedar_policies_ids(p, CEDAR_BODIES) == CEDAR_CLOSED);
     CHECK(cedar_store_has(s, TEXT(U("a")), &result) == CEDAR_CLOSED && result);
     CHECK(cedar_store_remove(s, NULL, 0, NULL, 0, CEDAR_COMPUTE) == CEDAR_CLOSED);
@@ -69,15 +69,15 @@ static void null_lists(void) {
     CHECK(cedar_store_add(&s, TEXT(U("a")), NULL, 1, 1, NULL, 0, CEDAR_COMPUTE) == CEDAR_BAD_ARGUMENT);
     CHECK(cedar_uid_make(TEXT("A"), NULL, 0, NULL, 0, &length) == CEDAR_OK && length == 5);
     CHECK(cedar_uid_make(TEXT("A"), NULL, 0, NULL, 1, &length) == CEDAR_BAD_ARGUMENT);
-    CHECK(cedar_store_uids(&s) == CEDAR_OK && cedar_store_answer(&s, 0, NULL, 0) == 6);
-    CHECK(cedar_store_answer(&s, 0, NULL, 100) == 6 && cedar_store_answer_spans(&s, 0, NULL, 3) == 1);
+    CHECK(cedar_store_uids(&s) == CEDAR_OK && cedar_store_result(&s, 0, NULL, 0) == 6);
+    CHECK(cedar_store_result(&s, 0, NULL, 100) == 6 && cedar_store_result_spans(&s, 0, NULL, 3) == 1);
     CHECK(cedar_policies_add_static(&p, NULL, 0, CEDAR_PERMIT) == CEDAR_OK && kind_of(&p, "") == CEDAR_STATIC);
     CHECK(cedar_policies_add_static_with(&p, TEXT("p"), NULL, 0, &body, NULL, 0, NULL, 0, NULL, 0) == CEDAR_OK);
     CHECK(cedar_policies_add_static_with(&p, TEXT("q"), NULL, 0, NULL, NULL, 0, NULL, 0, NULL, 0) ==
           CEDAR_BAD_ARGUMENT);
     CHECK(cedar_policies_link(&p, TEXT("p"), TEXT("q"), NULL, 0, NULL, 0) == CEDAR_BAD_ARGUMENT);
-    CHECK(cedar_policies_answer_nodes(&p, 0, NULL, 5) == 0 && cedar_store_answer_nodes(&s, 0, NULL, 5) == 0);
-    CHECK(!cedar_refusal_part(CEDAR_CYCLE, NULL, 0, 0, NULL));
+    CHECK(cedar_policies_result_nodes(&p, 0, NULL, 5) == 0 && cedar_store_result_nodes(&s, 0, NULL, 5) == 0);
+    CHECK(!cedar_error_part(CEDAR_CYCLE, NULL, 0, 0, NULL));
     cedar_store_free(&s);
     cedar_store_free(&part);
     cedar_policies_free(&p);
@@ -197,7 +197,141 @@ static void texts_are_iterated(void) {
     cedar_texts_free(&texts);
 }
 
-/* Builds a store by a list, and reads its answer, while one allocation of the headers fails. Returns the status. */
+static void texts_of_queries(void) {
+    cedar_store s = CEDAR_EMPTY;
+    cedar_policies p = CEDAR_EMPTY;
+    cedar_texts texts = CEDAR_EMPTY;
+    CHECK(new_store(&s) == CEDAR_OK && build(&s, "a b;b c", CEDAR_COMPUTE) == CEDAR_OK);
+    CHECK(cedar_store_descendant_texts(&s, U("c"), NULL, &texts) == CEDAR_OK);
+    CHECK(IS(cedar_texts_next(&texts, NULL), U("a")) && IS(cedar_texts_next(&texts, NULL), U("b")));
+    CHECK(cedar_texts_next(&texts, NULL) == NULL);
+    CHECK(cedar_store_descendant_texts(&s, U("b"), "A", &texts) == CEDAR_OK);
+    CHECK(IS(cedar_texts_next(&texts, NULL), U("a")) && cedar_texts_next(&texts, NULL) == NULL);
+    CHECK(cedar_store_descendant_texts(&s, U("b"), "B", &texts) == CEDAR_OK && cedar_texts_next(&texts, NULL) == NULL);
+    CHECK(cedar_store_descendant_texts(&s, "b", NULL, &texts) == CEDAR_NOT_A_UID);
+    CHECK(cedar_store_descendant_texts(&s, U("b"), "", &texts) == CEDAR_NOT_A_NAME);
+    CHECK(cedar_store_path_texts(&s, U("a"), U("c"), &texts) == CEDAR_OK);
+    CHECK(IS(cedar_texts_next(&texts, NULL), U("a")) && IS(cedar_texts_next(&texts, NULL), U("b")));
+    CHECK(IS(cedar_texts_next(&texts, NULL), U("c")) && cedar_texts_next(&texts, NULL) == NULL);
+    CHECK(cedar_store_path_texts(&s, U("c"), U("a"), &texts) == CEDAR_OK && cedar_texts_next(&texts, NULL) == NULL);
+    CHECK(cedar_store_path_texts(&s, U("c"), "a", &texts) == CEDAR_NOT_A_UID);
+    CHECK(new_set(&p) == CEDAR_OK && add_template(&p, "t", CEDAR_PRINCIPAL_SLOT) == CEDAR_OK);
+    CHECK(cedar_policies_link_text(&p, "t", "l", U("a"), NULL, NULL) == CEDAR_OK);
+    CHECK(cedar_policies_naming_texts(&p, U("a"), &texts) == CEDAR_OK);
+    CHECK(IS(cedar_texts_next(&texts, NULL), "l") && cedar_texts_next(&texts, NULL) == NULL);
+    CHECK(cedar_policies_naming_texts(&p, "a", &texts) == CEDAR_NOT_A_UID);
+    cedar_texts_free(&texts);
+    cedar_store_free(&s);
+    cedar_policies_free(&p);
+}
+
+/* Returns whether the texts are the uids of these names, one character each, in any order. */
+static bool are_uids(cedar_texts *texts, const char *names) {
+    size_t count = 0;
+    const char *text;
+    while ((text = cedar_texts_next(texts, NULL))) {
+        count++;
+        if (strlen(text) != 6 || !strchr(names, text[4])) return false;
+    }
+    return count == strlen(names);
+}
+
+static void differences_of_stores(void) {
+    cedar_store before = CEDAR_EMPTY, after = CEDAR_EMPTY, closed = CEDAR_EMPTY;
+    cedar_store_difference difference = CEDAR_EMPTY;
+    cedar_texts texts = CEDAR_EMPTY;
+    CHECK(new_store(&before) == CEDAR_OK && build(&before, "a b;b c;d e;g;k lm;m l", CEDAR_COMPUTE) == CEDAR_OK);
+    CHECK(cedar_store_copy(&before, &after) == CEDAR_OK);
+    CHECK(cedar_store_diff(&before, &after, &difference) == CEDAR_OK);
+    CHECK(are_uids(&difference.removed, "") && are_uids(&difference.added, "") && are_uids(&difference.changed, ""));
+    /* b gets another parent, which a has as an ancestor; k loses a parent that is still an ancestor */
+    CHECK(remove_uids(&after, "g", CEDAR_COMPUTE) == CEDAR_OK);
+    CHECK(upsert(&after, "b f;h;k m", CEDAR_COMPUTE) == CEDAR_OK);
+    CHECK(cedar_store_diff(&before, &after, &difference) == CEDAR_OK);
+    CHECK(are_uids(&difference.removed, "g") && are_uids(&difference.added, "h"));
+    CHECK(are_uids(&difference.changed, "abk"));
+    CHECK(cedar_store_lost_ancestor_texts(&before, &after, U("a"), &texts) == CEDAR_OK && are_uids(&texts, "c"));
+    CHECK(cedar_store_lost_ancestor_texts(&after, &before, U("a"), &texts) == CEDAR_OK && are_uids(&texts, "f"));
+    CHECK(cedar_store_lost_ancestor_texts(&before, &after, U("k"), &texts) == CEDAR_OK && are_uids(&texts, ""));
+    CHECK(cedar_store_lost_ancestor_texts(&before, &after, U("g"), &texts) == CEDAR_NO_ENTITY);
+    CHECK(cedar_store_lost_ancestor_texts(&before, &after, "a", &texts) == CEDAR_NOT_A_UID);
+    CHECK(cedar_store_diff(&before, &before, &difference) == CEDAR_BAD_ARGUMENT && !difference.changed.len);
+    CHECK(cedar_store_diff(&before, &closed, &difference) == CEDAR_CLOSED && !difference.removed.bytes);
+    CHECK(cedar_store_diff((cedar_store *)null, &after, &difference) == CEDAR_CLOSED);
+    cedar_status status = CEDAR_NO_MEMORY;
+    long n = 0;
+    for (; status == CEDAR_NO_MEMORY && n < 100; n++) {
+        allocations_left = n;
+        status = cedar_store_diff(&before, &after, &difference);
+        allocations_left = -1;
+        CHECK(status == CEDAR_OK || (!difference.removed.bytes && !difference.added.bytes && !difference.changed.bytes));
+    }
+    CHECK(status == CEDAR_OK && n > 6 && are_uids(&difference.changed, "abk"));
+    cedar_store_difference_free(&difference);
+    cedar_texts_free(&texts);
+    cedar_store_free(&before);
+    cedar_store_free(&after);
+}
+
+/* Returns whether the texts are these ids, one character each, in this order. */
+static bool are_ids(cedar_texts *texts, const char *ids) {
+    const char *text;
+    while ((text = cedar_texts_next(texts, NULL))) {
+        if (strlen(text) != 1 || *text != *ids++) return false;
+    }
+    return !*ids;
+}
+
+static bool differ(cedar_policies_difference *difference, const char *removed, const char *added, const char *changed,
+                   const char *relinked) {
+    return are_ids(&difference->removed, removed) && are_ids(&difference->added, added) &&
+           are_ids(&difference->changed, changed) && are_ids(&difference->relinked, relinked);
+}
+
+static void differences_of_sets(void) {
+    cedar_policies before = CEDAR_EMPTY, after = CEDAR_EMPTY, closed = CEDAR_EMPTY;
+    cedar_policies_difference difference = CEDAR_EMPTY;
+    CHECK(new_set(&before) == CEDAR_OK && new_set(&after) == CEDAR_OK);
+    CHECK(cedar_policies_diff(&before, &after, &difference) == CEDAR_OK && differ(&difference, "", "", "", ""));
+    CHECK(add_static(&before, "p", CEDAR_PERMIT) == CEDAR_OK && add_static(&before, "q", CEDAR_PERMIT) == CEDAR_OK);
+    CHECK(add_template(&before, "t", CEDAR_PRINCIPAL_SLOT) == CEDAR_OK && add_static(&before, "r", CEDAR_PERMIT) == CEDAR_OK);
+    CHECK(add_template(&before, "u", CEDAR_PRINCIPAL_SLOT) == CEDAR_OK);
+    CHECK(link_id(&before, "t", "l", U("a"), "", "") == CEDAR_OK && link_id(&before, "u", "k", U("a"), "", "") == CEDAR_OK);
+    CHECK(link_id(&before, "t", "m", U("b"), "", "") == CEDAR_OK && link_id(&before, "u", "n", U("a"), "", "") == CEDAR_OK);
+    CHECK(cedar_policies_diff(&before, &after, &difference) == CEDAR_OK && differ(&difference, "pqtrulkmn", "", "", ""));
+    CHECK(cedar_policies_diff(&after, &before, &difference) == CEDAR_OK && differ(&difference, "", "pqtrulkmn", "", ""));
+    CHECK(cedar_policies_copy(&before, &after) == CEDAR_OK);
+    CHECK(cedar_policies_diff(&before, &after, &difference) == CEDAR_OK && differ(&difference, "", "", "", ""));
+    /* q gets another effect, r becomes a link, k another template, m other bindings, and u another body */
+    CHECK(cedar_policies_remove_static(&after, TEXT("q")) == CEDAR_OK && add_static(&after, "q", CEDAR_FORBID) == CEDAR_OK);
+    CHECK(cedar_policies_remove_static(&after, TEXT("r")) == CEDAR_OK && unlink_id(&after, "k") == CEDAR_OK);
+    CHECK(link_id(&after, "t", "r", U("a"), "", "") == CEDAR_OK && link_id(&after, "t", "k", U("a"), "", "") == CEDAR_OK);
+    CHECK(unlink_id(&after, "m") == CEDAR_OK && link_id(&after, "t", "m", U("c"), "", "") == CEDAR_OK);
+    CHECK(unlink_id(&after, "n") == CEDAR_OK && remove_template(&after, "u") == CEDAR_OK);
+    CHECK(cedar_policies_add_template(&after, TEXT("u"), CEDAR_FORBID, CEDAR_PRINCIPAL_SLOT) == CEDAR_OK);
+    CHECK(link_id(&after, "u", "n", U("a"), "", "") == CEDAR_OK && add_static(&after, "z", CEDAR_PERMIT) == CEDAR_OK);
+    CHECK(cedar_policies_remove_static(&after, TEXT("p")) == CEDAR_OK);
+    CHECK(cedar_policies_diff(&before, &after, &difference) == CEDAR_OK && differ(&difference, "p", "z", "qrukm", "n"));
+    CHECK(cedar_policies_diff(&after, &before, &difference) == CEDAR_OK && differ(&difference, "z", "p", "qurkm", "n"));
+    CHECK(cedar_policies_diff(&before, &before, &difference) == CEDAR_BAD_ARGUMENT && !difference.changed.len);
+    CHECK(cedar_policies_diff(&before, &closed, &difference) == CEDAR_CLOSED && !difference.removed.bytes);
+    CHECK(cedar_policies_diff((cedar_policies *)null, &after, &difference) == CEDAR_CLOSED);
+    cedar_status status = CEDAR_NO_MEMORY;
+    long n = 0;
+    for (; status == CEDAR_NO_MEMORY && n < 500; n++) {
+        allocations_left = n;
+        status = cedar_policies_diff(&before, &after, &difference);
+        allocations_left = -1;
+        CHECK(status == CEDAR_OK || (!difference.removed.bytes && !difference.added.bytes && !difference.changed.bytes));
+        CHECK(status == CEDAR_OK || !difference.relinked.bytes);
+    }
+    CHECK(status == CEDAR_OK && n > 20 && differ(&difference, "p", "z", "qrukm", "n"));
+    cedar_policies_difference_free(&difference);
+    cedar_policies_free(&before);
+    cedar_policies_free(&after);
+}
+
+/* Builds a store by a list, and reads its result, while one allocation of the headers fails. Returns the status. */
 static cedar_status build_and_read(cedar_store *s, cedar_policies *p, cedar_list *list, cedar_texts *texts, long n) {
     char id[16];
     cedar_status status = CEDAR_OK;
@@ -243,5 +377,8 @@ int main(void) {
     lists_build_stores();
     lists_keep_their_first_error();
     texts_are_iterated();
+    texts_of_queries();
+    differences_of_stores();
+    differences_of_sets();
     return report_counts();
 }

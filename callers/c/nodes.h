@@ -96,6 +96,21 @@ static inline cedar_term *push_term(content *c, size_t of, cedar_part part, cons
     return term;
 }
 
+/* The arguments of `push_term` for one term. */
+typedef struct term_spec {
+    size_t of;
+    cedar_part part;
+    const char *key, *words;
+} term_spec;
+
+static inline void push_terms(content *c, const term_spec *terms, size_t count) {
+    for (size_t k = 0; k < count; k++) push_term(c, terms[k].of, terms[k].part, terms[k].key, terms[k].words);
+}
+
+/* Adds the terms that are listed after the content. */
+#define PUSH_TERMS(c, ...)                                                                                             \
+    push_terms(c, (const term_spec[]){__VA_ARGS__}, sizeof((const term_spec[]){__VA_ARGS__}) / sizeof(term_spec))
+
 /* ---- reads */
 
 static inline size_t write_node(char *out, size_t capacity, const uint8_t *text, const cedar_node *n) {
@@ -122,16 +137,21 @@ static inline size_t write_node(char *out, size_t capacity, const uint8_t *text,
     }
 }
 
-/* Returns the nodes of the last value as words. */
-static inline const char *store_value(cedar_store *s) {
+/* Returns nodes over a text as words. */
+static inline const char *words_of_nodes(const uint8_t *text, const cedar_node *nodes, size_t count) {
     static char out[CAPACITY];
-    uint8_t text[CAPACITY];
-    cedar_node nodes[MAX_NODES];
-    size_t at = 0, count = cedar_store_answer_nodes(s, 0, nodes, MAX_NODES);
-    cedar_store_answer(s, 0, text, sizeof text);
+    size_t at = 0;
     for (size_t k = 0; k < count && k < MAX_NODES; k++) at += write_node(out + at, sizeof out - at, text, &nodes[k]);
     out[at ? at - 1 : 0] = 0;
     return out;
+}
+
+/* Returns the nodes of the last value as words. */
+static inline const char *store_value(cedar_store *s) {
+    uint8_t text[CAPACITY];
+    cedar_node nodes[MAX_NODES];
+    cedar_store_result(s, 0, text, sizeof text);
+    return words_of_nodes(text, nodes, cedar_store_result_nodes(s, 0, nodes, MAX_NODES));
 }
 
 /* Returns the attribute (`part` 0) or the tag (1) with this key as words, `none` if there is none, or the status. */

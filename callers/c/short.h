@@ -93,20 +93,16 @@ static inline list parse_entities(const char *spec) {
 
 static inline cedar_status new_store(cedar_store *s) { return cedar_store_new(s, 0x5eed, 0x6b6579); }
 
-static inline cedar_status build(cedar_store *s, const char *spec, cedar_mode mode) {
-    list l = parse_entities(spec);
-    return cedar_store_build(s, ENTITIES(l), mode);
-}
+/* Defines a call with the entities of a text. */
+#define DEFINE_CALL_WITH_ENTITIES(name)                                                                                \
+    static inline cedar_status name(cedar_store *s, const char *spec, cedar_mode mode) {                               \
+        list l = parse_entities(spec);                                                                                 \
+        return cedar_store_##name(s, ENTITIES(l), mode);                                                               \
+    }
 
-static inline cedar_status add(cedar_store *s, const char *spec, cedar_mode mode) {
-    list l = parse_entities(spec);
-    return cedar_store_add(s, ENTITIES(l), mode);
-}
-
-static inline cedar_status upsert(cedar_store *s, const char *spec, cedar_mode mode) {
-    list l = parse_entities(spec);
-    return cedar_store_upsert(s, ENTITIES(l), mode);
-}
+DEFINE_CALL_WITH_ENTITIES(build)
+DEFINE_CALL_WITH_ENTITIES(add)
+DEFINE_CALL_WITH_ENTITIES(upsert)
 
 static inline cedar_status remove_uids(cedar_store *s, const char *names, cedar_mode mode) {
     list l = uids(names);
@@ -183,41 +179,19 @@ static inline unsigned number_or_status(cedar_status status, size_t count) {
     return status ? 100 + status : (unsigned)count;
 }
 
-static inline unsigned look_up(cedar_store *s, const char *uid) {
-    cedar_found result = (cedar_found)9;
-    cedar_status status = cedar_store_entity(s, TEXT(uid), &result);
-    return number_or_status(status, result);
-}
-
-static inline unsigned attributes(cedar_store *s, const char *uid) {
-    size_t count = 9;
-    cedar_status status = cedar_store_attrs_len(s, TEXT(uid), &count);
-    return number_or_status(status, count);
-}
-
-static inline unsigned tags(cedar_store *s, const char *uid) {
-    size_t count = 9;
-    cedar_status status = cedar_store_tags_len(s, TEXT(uid), &count);
-    return number_or_status(status, count);
-}
-
-static inline unsigned kind_of(cedar_policies *p, const char *id) {
-    cedar_bound kind = (cedar_bound)9;
-    cedar_status status = cedar_policies_get(p, TEXT(id), &kind);
-    return number_or_status(status, kind);
-}
-
-static inline unsigned effect_of(cedar_policies *p, const char *id) {
-    cedar_effect effect = (cedar_effect)9;
-    cedar_status status = cedar_policies_effect(p, TEXT(id), &effect);
-    return number_or_status(status, effect);
-}
-
-static inline unsigned slots_of(cedar_policies *p, const char *id) {
-    uint32_t slots = 9;
-    cedar_status status = cedar_policies_slots(p, TEXT(id), &slots);
-    return number_or_status(status, slots);
-}
+/* Defines a function that returns the number that a call writes for a key, or 100 plus the status. */
+#define NUMBER_OF(name, handle, type, call)                                                                            \
+    static inline unsigned name(handle *h, const char *key) {                                                          \
+        type number = (type)9;                                                                                         \
+        cedar_status status = call(h, TEXT(key), &number);                                                             \
+        return number_or_status(status, number);                                                                       \
+    }
+NUMBER_OF(look_up, cedar_store, cedar_found, cedar_store_entity)
+NUMBER_OF(attributes, cedar_store, size_t, cedar_store_attrs_len)
+NUMBER_OF(tags, cedar_store, size_t, cedar_store_tags_len)
+NUMBER_OF(kind_of, cedar_policies, cedar_bound, cedar_policies_get)
+NUMBER_OF(effect_of, cedar_policies, cedar_effect, cedar_policies_effect)
+NUMBER_OF(slots_of, cedar_policies, uint32_t, cedar_policies_slots)
 
 static inline unsigned has_annotation(cedar_policies *p, const char *id, const char *key) {
     bool result = false;
@@ -274,26 +248,26 @@ static inline const char *join_texts(const uint8_t *text, const cedar_span *span
 static inline const char *store_result(cedar_store *s) {
     uint8_t text[CAPACITY / 2];
     cedar_span spans[MAX_ITEMS];
-    cedar_store_answer(s, 0, text, sizeof text);
-    return join_texts(text, spans, cedar_store_answer_spans(s, 0, spans, MAX_ITEMS));
+    cedar_store_result(s, 0, text, sizeof text);
+    return join_texts(text, spans, cedar_store_result_spans(s, 0, spans, MAX_ITEMS));
 }
 
 static inline const char *set_result(cedar_policies *p) {
     uint8_t text[CAPACITY / 2];
     cedar_span spans[MAX_ITEMS];
-    cedar_policies_answer(p, 0, text, sizeof text);
-    return join_texts(text, spans, cedar_policies_answer_spans(p, 0, spans, MAX_ITEMS));
+    cedar_policies_result(p, 0, text, sizeof text);
+    return join_texts(text, spans, cedar_policies_result_spans(p, 0, spans, MAX_ITEMS));
 }
 
 static inline const char *store_error(cedar_store *s) {
     static char out[CAPACITY];
-    out[cedar_store_refusal(s, (uint8_t *)out, sizeof out - 1)] = 0;
+    out[cedar_store_error_text(s, (uint8_t *)out, sizeof out - 1)] = 0;
     return out;
 }
 
 static inline const char *set_error(cedar_policies *p) {
     static char out[CAPACITY];
-    out[cedar_policies_refusal(p, (uint8_t *)out, sizeof out - 1)] = 0;
+    out[cedar_policies_error_text(p, (uint8_t *)out, sizeof out - 1)] = 0;
     return out;
 }
 

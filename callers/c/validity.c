@@ -112,9 +112,9 @@ static void names_in_fault_texts(void) {
     for (uint32_t k = 0; k < 4; k++) {
         cedar_span part = {0, 0};
         size_t len = strlen(TEXTS[k]);
-        CHECK(cedar_refusal_part(CEDAR_SLOT_IN_CLAUSE + k, TEXT(TEXTS[k]), 0, &part));
+        CHECK(cedar_error_part(CEDAR_SLOT_IN_CLAUSE + k, TEXT(TEXTS[k]), 0, &part));
         CHECK(part.start == len - 3 && part.end == len);
-        CHECK(!cedar_refusal_part(CEDAR_SLOT_IN_CLAUSE + k, TEXT(TEXTS[k]), 1, &part) && part.end == len);
+        CHECK(!cedar_error_part(CEDAR_SLOT_IN_CLAUSE + k, TEXT(TEXTS[k]), 1, &part) && part.end == len);
     }
 }
 

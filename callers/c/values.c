@@ -74,12 +74,8 @@ static void values_are_returned_unchanged(void) {
 static void attributes_and_tags(void) {
     cedar_store s = {0};
     content c = with_entities("a b;b");
-    push_term(&c, 1, 0, "k", "1");
-    push_term(&c, 0, 0, "k", "2");
-    push_term(&c, 0, 1, "k", "3");
-    push_term(&c, 0, 0, "", "t");
-    push_term(&c, 0, 1, "z", "'z");
-    push_term(&c, 0, 0, "\xc3\xa9", "f");
+    PUSH_TERMS(&c, {1, 0, "k", "1"}, {0, 0, "k", "2"}, {0, 1, "k", "3"}, {0, 0, "", "t"}, {0, 1, "z", "'z"},
+                   {0, 0, "\xc3\xa9", "f"});
     CHECK(new_store(&s) == CEDAR_OK && BUILD(&s, c, CEDAR_COMPUTE) == CEDAR_OK && cedar_store_len(&s) == 2);
     CHECK(attributes(&s, U("a")) == 3 && tags(&s, U("a")) == 2 && attributes(&s, U("b")) == 1 && tags(&s, U("b")) == 0);
     CHECK(cedar_store_keys(&s, TEXT(U("a"))) == CEDAR_OK && IS(store_result(&s), ",,k,\xc3\xa9"));
@@ -95,9 +91,7 @@ static void attributes_and_tags(void) {
 static void the_last_value_of_a_key_is_used(void) {
     cedar_store s = {0};
     content c = with_entities("a");
-    push_term(&c, 0, 0, "k", "1");
-    push_term(&c, 0, 1, "k", "2");
-    push_term(&c, 0, 0, "k", "3");
+    PUSH_TERMS(&c, {0, 0, "k", "1"}, {0, 1, "k", "2"}, {0, 0, "k", "3"});
     CHECK(new_store(&s) == CEDAR_OK && BUILD(&s, c, CEDAR_COMPUTE) == CEDAR_OK && attributes(&s, U("a")) == 1);
     CHECK(IS(value_at(&s, U("a"), 0, "k"), "3") && IS(value_at(&s, U("a"), 1, "k"), "2"));
     cedar_store_free(&s);
@@ -192,7 +186,7 @@ static void last_value_is_unchanged(void) {
     content c = with_entities("a b");
     push_term(&c, 0, 0, "k", "'xy 1 [1");
     CHECK(new_store(&s) == CEDAR_OK && BUILD(&s, c, CEDAR_COMPUTE) == CEDAR_OK);
-    CHECK(cedar_store_answer_nodes(&s, 0, nodes, 4) == 0);
+    CHECK(cedar_store_result_nodes(&s, 0, nodes, 4) == 0);
     CHECK(IS(value_at(&s, U("a"), 0, "k"), "'xy 1 [1") && IS(store_result(&s), ",xy"));
     CHECK(cedar_store_get(&s, TEXT(U("a")), TEXT("j"), &has) == CEDAR_OK && !has);
     CHECK(cedar_store_get(&s, TEXT(U("q")), TEXT("k"), &has) == CEDAR_NO_ENTITY && !has);
@@ -206,21 +200,21 @@ static void last_value_is_unchanged(void) {
     /* another result keeps the nodes, and so does an edit */
     CHECK(parents(&s, U("a")) == CEDAR_OK && add(&s, "z", CEDAR_COMPUTE) == CEDAR_OK);
     CHECK(cedar_store_partial(&s) == CEDAR_OK && build(&s, "a a", CEDAR_COMPUTE) == CEDAR_CYCLE);
-    CHECK(cedar_store_answer_nodes(&s, 0, nodes, 4) == 3 && nodes[0].kind == CEDAR_STRING && nodes[0].at.end == 2);
-    CHECK(cedar_store_answer_nodes(&s, 2, nodes, 4) == 3 && nodes[0].kind == CEDAR_RECORD && nodes[0].len == 1);
+    CHECK(cedar_store_result_nodes(&s, 0, nodes, 4) == 3 && nodes[0].kind == CEDAR_STRING && nodes[0].at.end == 2);
+    CHECK(cedar_store_result_nodes(&s, 2, nodes, 4) == 3 && nodes[0].kind == CEDAR_RECORD && nodes[0].len == 1);
     CHECK(nodes[1].kind == CEDAR_LONG && nodes[1].number == 1 && nodes[1].len == 0 && nodes[1].at.end == 0);
-    CHECK(cedar_store_answer_nodes(&s, 3, nodes, 4) == 3 && cedar_store_answer_nodes(&s, SIZE_MAX, nodes, 4) == 3);
-    CHECK(cedar_store_answer_nodes(&s, 1, nodes, 1) == 3 && nodes[0].kind == CEDAR_LONG);
-    CHECK(cedar_store_answer_nodes(&s, 0, nodes, 0) == 3 && nodes[0].kind == CEDAR_LONG);
+    CHECK(cedar_store_result_nodes(&s, 3, nodes, 4) == 3 && cedar_store_result_nodes(&s, SIZE_MAX, nodes, 4) == 3);
+    CHECK(cedar_store_result_nodes(&s, 1, nodes, 1) == 3 && nodes[0].kind == CEDAR_LONG);
+    CHECK(cedar_store_result_nodes(&s, 0, nodes, 0) == 3 && nodes[0].kind == CEDAR_LONG);
     /* a number has no text, so the result is one empty text */
     CHECK(BUILD(&s, c, CEDAR_COMPUTE) == CEDAR_OK && cedar_store_copy(&s, &t) == CEDAR_OK);
-    CHECK(cedar_store_answer_nodes(&t, 0, nodes, 4) == 0 && cedar_store_answer_nodes(&s, 0, nodes, 4) == 3);
+    CHECK(cedar_store_result_nodes(&t, 0, nodes, 4) == 0 && cedar_store_result_nodes(&s, 0, nodes, 4) == 3);
     c = with_entities("a");
     push_term(&c, 0, 1, "k", "7");
     CHECK(BUILD(&t, c, CEDAR_COMPUTE) == CEDAR_OK && IS(value_at(&t, U("a"), 1, "k"), "7"));
-    CHECK(IS(store_result(&t), ",") && cedar_store_answer(&t, 0, text, 8) == 0);
-    CHECK(slice(&s, &t, "a") == CEDAR_OK && cedar_store_answer_nodes(&t, 0, nodes, 4) == 0);
-    CHECK(new_store(&s) == CEDAR_OK && cedar_store_answer_nodes(&s, 0, nodes, 4) == 0);
+    CHECK(IS(store_result(&t), ",") && cedar_store_result(&t, 0, text, 8) == 0);
+    CHECK(slice(&s, &t, "a") == CEDAR_OK && cedar_store_result_nodes(&t, 0, nodes, 4) == 0);
+    CHECK(new_store(&s) == CEDAR_OK && cedar_store_result_nodes(&s, 0, nodes, 4) == 0);
     cedar_store_free(&s);
     cedar_store_free(&t);
 }
@@ -233,7 +227,7 @@ static void closed_handles(void) {
     CHECK(BUILD(&s, c, 0) == CEDAR_CLOSED && ADD(&s, c, 0) == CEDAR_CLOSED && UPSERT(&s, c, 0) == CEDAR_CLOSED);
     CHECK(cedar_store_get(&s, TEXT(U("a")), TEXT("k"), &has) == CEDAR_CLOSED && has);
     CHECK(cedar_store_get_tag(&s, TEXT(U("a")), TEXT("k"), &has) == CEDAR_CLOSED && has);
-    CHECK(cedar_store_answer_nodes(&s, 0, nodes, 1) == 0 && nodes[0].kind == 9 && !s.is_open);
+    CHECK(cedar_store_result_nodes(&s, 0, nodes, 1) == 0 && nodes[0].kind == 9 && !s.is_open);
 }
 
 /* ---- an invalid argument leaves the store unchanged */
@@ -377,12 +371,12 @@ static void number_of_levels(void) {
     CHECK(build_levels(CEDAR_LEVELS + 1, CEDAR_NOT, true) == CEDAR_TOO_DEEP && build(&test_store, "q", 0) == CEDAR_OK);
     CHECK(build_levels(CEDAR_LEVELS, CEDAR_NOT, true) == CEDAR_OK);
     CHECK(cedar_store_get(&test_store, TEXT(U("a")), TEXT(""), &has) == CEDAR_OK && has);
-    CHECK(cedar_store_answer_nodes(&test_store, 0, nodes, CEDAR_LEVELS + 2) == CEDAR_LEVELS + 1);
+    CHECK(cedar_store_result_nodes(&test_store, 0, nodes, CEDAR_LEVELS + 2) == CEDAR_LEVELS + 1);
     CHECK(nodes[0].kind == CEDAR_BOOL && nodes[CEDAR_LEVELS - 1].kind == CEDAR_NOT);
     CHECK(nodes[CEDAR_LEVELS].kind == CEDAR_RESIDUAL);
     CHECK(build_levels(CEDAR_LEVELS, CEDAR_SET, false) == CEDAR_OK);
     CHECK(cedar_store_get(&test_store, TEXT(U("a")), TEXT(""), &has) == CEDAR_OK && has);
-    CHECK(cedar_store_answer_nodes(&test_store, 0, nodes, CEDAR_LEVELS + 2) == CEDAR_LEVELS);
+    CHECK(cedar_store_result_nodes(&test_store, 0, nodes, CEDAR_LEVELS + 2) == CEDAR_LEVELS);
     CHECK(nodes[CEDAR_LEVELS - 1].kind == CEDAR_SET && nodes[CEDAR_LEVELS - 1].len == 1);
     CHECK(build(&test_store, "q", 0) == CEDAR_OK);
     free(nodes);
@@ -460,9 +454,9 @@ static content random_content(void) {
 /* Adds the value that a store returned last, with its text, as a term of another content. */
 static void push_returned(content *c, cedar_store *s, cedar_term term) {
     uint8_t text[CAPACITY];
-    size_t len = cedar_store_answer(s, 0, text, sizeof text), from = c->nodes_len;
+    size_t len = cedar_store_result(s, 0, text, sizeof text), from = c->nodes_len;
     cedar_span at = push_bytes(c, (const char *)text, len);
-    c->nodes_len += cedar_store_answer_nodes(s, 0, c->nodes + from, MAX_NODES - from);
+    c->nodes_len += cedar_store_result_nodes(s, 0, c->nodes + from, MAX_NODES - from);
     for (size_t k = from; k < c->nodes_len; k++) {
         c->nodes[k].at.start += at.start;
         c->nodes[k].at.end += at.start;

@@ -1,4 +1,4 @@
-"""Ten tasks of an authorizer or an administration service. `docs/GUIDE.md` quotes these functions."""
+"""Twelve tasks of an authorizer or an administration service. `docs/GUIDE.md` quotes these functions."""
 from typing import Callable
 
 from cedar_store import CedarError, Constraint, Cycle, DuplicateEntity, Effect, Entities, Policies, Store
@@ -90,9 +90,20 @@ def failing_removals(policies: Policies) -> None:
     print_error(policies.remove_template, "policy0")
 
 
+def print_members(store: Store) -> None:
+    for member in store.descendants('Group::"staff"', "User"):
+        print(*(store.path(member, 'Group::"staff"') or []), sep=" in ")
+
+
+def what_would_change(store: Store, policies: Policies) -> None:
+    print(store.would_change(remove=['Group::"admins"'], upsert={'User::"alice"': ['Group::"staff"']}))
+    print("policies that name the staff:", policies.naming('Group::"staff"'))
+
+
 def main() -> None:
     with build() as store, Policies() as policies, Policies() as other:
         query(store)
+        print_members(store)
         with store.copy() as edited:
             edit(edited)
             print("edited:", len(edited), "entities; ancestors of alice:", *edited.ancestors('User::"alice"'))
@@ -103,6 +114,7 @@ def main() -> None:
             print("the slice:", len(part), "of", len(store), "entities")
         add_and_link(policies)
         list_applicable_policies(policies, 'Group::"staff"', 'Action::"read"', 'Folder::"reports"')
+        what_would_change(store, policies)
         policies.add_static("policy0")
         other.add_static("policy0", Effect.FORBID)
         other.add_static("policy1")

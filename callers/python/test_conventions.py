@@ -9,18 +9,7 @@ import random
 import unittest
 
 import cedar_store
-from cedar_store import (
-    Bound,
-    CedarError,
-    Constraint,
-    ConstraintKind,
-    Effect,
-    Entity,
-    EntityUid,
-    Mode,
-    Policies,
-    Store,
-)
+from cedar_store import Bound, CedarError, Constraint, ConstraintKind, Effect, Entity, EntityUid, Mode, Policies, Store
 from cedar_store.values import CONTEXT, PRINCIPAL, And, Call, Eq, Expr, Extension, In, Lit, SetOf, Slot, UnknownExpr
 
 ALICE, STAFF = EntityUid('User::"alice"'), EntityUid('Group::"staff"')

@@ -1,36 +1,18 @@
 """Tests of deep copies that other threads use. `test_cedar_store.py` runs them too."""
 import concurrent.futures
-import os
 import pickle
 import unittest
 import warnings
 
 from cedar_store import CedarError, Closed, Constraint, Effect, Entity, EntityUid, Policies, Store
 from cedar_store.values import PRINCIPAL, RESOURCE
-
-
-def uid(name):
-    return f'A::"{name}"'
-
-
-def entities(*pairs):
-    """Returns a mapping from uids to parents, for pairs of a name and the names of the parents."""
-    return {uid(name): list(map(uid, parents)) for name, parents in pairs}
+from test_support import entities, resident_bytes, uid
 
 
 def on_thread(call):
     """Calls a function on another thread. Returns its result, or raises its exception."""
     with concurrent.futures.ThreadPoolExecutor(1) as pool:
         return pool.submit(call).result()
-
-
-def resident_bytes():
-    """Returns the resident memory of this process in bytes, or 0 if the system does not report it."""
-    try:
-        with open("/proc/self/statm") as file:
-            return int(file.read().split()[1]) * os.sysconf("SC_PAGE_SIZE")
-    except OSError:
-        return 0
 
 
 class DeepCopies(unittest.TestCase):

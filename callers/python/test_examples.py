@@ -6,9 +6,23 @@ import re
 import unittest
 
 import cedar_store
-from cedar_store import _bodies, _dot, _entity, _library, _policies, _statuses, _store, _uids, values
+from cedar_store import (
+    _bodies,
+    _diff,
+    _dot,
+    _entity,
+    _library,
+    _policies,
+    _statuses,
+    _store,
+    _store_queries,
+    _uids,
+    values,
+)
 
-MODULES = (cedar_store, _bodies, _dot, _entity, _library, _policies, _store, _uids, values)
+MODULES = (
+    cedar_store, _bodies, _diff, _dot, _entity, _library, _policies, _store, _store_queries, _uids, values
+)
 
 
 class Examples(unittest.TestCase):
@@ -21,7 +35,7 @@ class Examples(unittest.TestCase):
         self.assertGreater(attempted, 150)
 
     def test_each_method_of_stores_and_sets_has_an_example(self):
-        for cls in (cedar_store.Store, cedar_store.Policies):
+        for cls in (cedar_store.Store, _store_queries.StoreQueries, cedar_store.Policies):
             for name, member in vars(cls).items():
                 if inspect.isfunction(member) and not name.startswith("_"):
                     self.assertIn(">>>", member.__doc__, f"{cls.__name__}.{name}")

@@ -42,7 +42,7 @@ def output_of(program, *options):
     environment["CEDAR_LIBRARY"] = cedar_store._library._LIBRARY._name
     result = subprocess.run(
         [sys.executable, "-B", "-X", "dev", "-W", "error", *options, "-c", program],
-        env=environment, capture_output=True, text=True, timeout=60,
+        env=environment, capture_output=True, text=True, timeout=300,
     )
     return result.returncode, result.stdout + result.stderr
 

@@ -165,36 +165,37 @@ static inline cedar_status cedar_list_end(cedar_list_arguments *arguments, cedar
     return status;
 }
 
+/* A call that edits a store by a list of entities. */
+typedef cedar_status cedar_store_edit(cedar_store *s, const uint8_t *text, size_t text_len, const cedar_span *uids,
+                                      size_t uids_len, size_t count, const cedar_edge *edges, size_t edges_len,
+                                      cedar_mode mode);
+
+/* Makes an edit of a store with the entities of a list. */
+CEDAR_WARN_UNUSED static inline cedar_status cedar_list_edit(cedar_store *s, const cedar_list *list, cedar_mode mode,
+                                                             cedar_store_edit *edit) {
+    cedar_list_arguments a;
+    cedar_status status = cedar_list_encode(list, true, &a);
+    if (!status)
+        status = edit(s, list->text, list->text_len, a.uids, a.uids_len, list->entities_len, a.edges, list->edges_len,
+                      mode);
+    return cedar_list_end(&a, status);
+}
+
 /* The three calls below do the same as `cedar_store_build`, `cedar_store_add` and `cedar_store_upsert`, for the
  * entities of a list. They return the first error of the list, or the status of the call. */
 CEDAR_WARN_UNUSED static inline cedar_status cedar_store_build_list(cedar_store *s, const cedar_list *list,
                                                                     cedar_mode mode) {
-    cedar_list_arguments a;
-    cedar_status status = cedar_list_encode(list, true, &a);
-    if (!status)
-        status = cedar_checked_store_build(s, list->text, list->text_len, a.uids, a.uids_len, list->entities_len,
-                                           a.edges, list->edges_len, mode);
-    return cedar_list_end(&a, status);
+    return cedar_list_edit(s, list, mode, cedar_checked_store_build);
 }
 
 CEDAR_WARN_UNUSED static inline cedar_status cedar_store_add_list(cedar_store *s, const cedar_list *list,
                                                                   cedar_mode mode) {
-    cedar_list_arguments a;
-    cedar_status status = cedar_list_encode(list, true, &a);
-    if (!status)
-        status = cedar_checked_store_add(s, list->text, list->text_len, a.uids, a.uids_len, list->entities_len,
-                                         a.edges, list->edges_len, mode);
-    return cedar_list_end(&a, status);
+    return cedar_list_edit(s, list, mode, cedar_checked_store_add);
 }
 
 CEDAR_WARN_UNUSED static inline cedar_status cedar_store_upsert_list(cedar_store *s, const cedar_list *list,
                                                                      cedar_mode mode) {
-    cedar_list_arguments a;
-    cedar_status status = cedar_list_encode(list, true, &a);
-    if (!status)
-        status = cedar_checked_store_upsert(s, list->text, list->text_len, a.uids, a.uids_len, list->entities_len,
-                                            a.edges, list->edges_len, mode);
-    return cedar_list_end(&a, status);
+    return cedar_list_edit(s, list, mode, cedar_checked_store_upsert);
 }
 
 /* Does the same as `cedar_store_remove`, for the uids of a list. */
@@ -261,7 +262,7 @@ CEDAR_WARN_UNUSED static inline cedar_status cedar_policies_add_template_body(ce
 
 /* ---- iteration over results */
 
-/* The texts of an answer, copied out of a handle, so that further calls on it change nothing here. They are empty if
+/* The texts of a result, copied out of a handle, so that further calls on it change nothing here. They are empty if
  * all bytes are zero. */
 typedef struct cedar_texts {
     char *bytes;
@@ -286,7 +287,7 @@ static inline const char *cedar_texts_next(cedar_texts *texts, size_t *length) {
     return texts->bytes + span.start;
 }
 
-/* Reserves memory for an answer of some bytes and some texts. Frees the old texts. */
+/* Reserves memory for a result of some bytes and some texts. Frees the old texts. */
 static inline cedar_status cedar_texts_reserve(cedar_texts *texts, size_t bytes_len, size_t len) {
     cedar_texts_free(texts);
     texts->bytes = (char *)malloc(bytes_len + len + 1);
@@ -309,26 +310,26 @@ static inline void cedar_texts_separate(cedar_texts *texts, size_t len) {
     }
 }
 
-/* Copies all texts of the answer of a store. Frees the old texts. Returns CEDAR_OK, CEDAR_CLOSED or CEDAR_NO_MEMORY. */
+/* Copies all texts of the result of a store. Frees the old texts. Returns CEDAR_OK, CEDAR_CLOSED or CEDAR_NO_MEMORY. */
 CEDAR_WARN_UNUSED static inline cedar_status cedar_store_texts(cedar_store *s, cedar_texts *texts) {
-    size_t bytes_len = cedar_checked_store_answer(s, 0, NULL, 0);
-    size_t len = cedar_checked_store_answer_spans(s, 0, NULL, 0);
+    size_t bytes_len = cedar_checked_store_result(s, 0, NULL, 0);
+    size_t len = cedar_checked_store_result_spans(s, 0, NULL, 0);
     cedar_status status = cedar_texts_reserve(texts, bytes_len, len);
     if (status) return status;
-    cedar_checked_store_answer(s, 0, (uint8_t *)texts->bytes, bytes_len);
-    cedar_checked_store_answer_spans(s, 0, texts->spans, len);
+    cedar_checked_store_result(s, 0, (uint8_t *)texts->bytes, bytes_len);
+    cedar_checked_store_result_spans(s, 0, texts->spans, len);
     cedar_texts_separate(texts, len);
     return CEDAR_OK;
 }
 
-/* Copies all texts of the answer of a set, as `cedar_store_texts` does. */
+/* Copies all texts of the result of a set, as `cedar_store_texts` does. */
 CEDAR_WARN_UNUSED static inline cedar_status cedar_policies_texts(cedar_policies *p, cedar_texts *texts) {
-    size_t bytes_len = cedar_checked_policies_answer(p, 0, NULL, 0);
-    size_t len = cedar_checked_policies_answer_spans(p, 0, NULL, 0);
+    size_t bytes_len = cedar_checked_policies_result(p, 0, NULL, 0);
+    size_t len = cedar_checked_policies_result_spans(p, 0, NULL, 0);
     cedar_status status = cedar_texts_reserve(texts, bytes_len, len);
     if (status) return status;
-    cedar_checked_policies_answer(p, 0, (uint8_t *)texts->bytes, bytes_len);
-    cedar_checked_policies_answer_spans(p, 0, texts->spans, len);
+    cedar_checked_policies_result(p, 0, (uint8_t *)texts->bytes, bytes_len);
+    cedar_checked_policies_result_spans(p, 0, texts->spans, len);
     cedar_texts_separate(texts, len);
     return CEDAR_OK;
 }
@@ -341,6 +342,30 @@ CEDAR_WARN_UNUSED static inline cedar_status cedar_store_ancestor_texts(cedar_st
     return status ? status : cedar_store_texts(s, texts);
 }
 
+/* Copies the descendants of a uid, or with a `type` that is not a null pointer, those of the type. Returns the statuses
+ * of `cedar_store_descendants_of_type`. */
+CEDAR_WARN_UNUSED static inline cedar_status cedar_store_descendant_texts(cedar_store *s, const char *uid,
+                                                                          const char *type, cedar_texts *texts) {
+    cedar_status status = type ? cedar_checked_store_descendants_of_type(s, CEDAR_TEXT(uid), CEDAR_TEXT(type))
+                               : cedar_checked_store_descendants(s, CEDAR_TEXT(uid));
+    return status ? status : cedar_store_texts(s, texts);
+}
+
+/* Copies the uids of a shortest path, or no texts if there is no path. Returns the statuses of `cedar_store_path`. */
+CEDAR_WARN_UNUSED static inline cedar_status cedar_store_path_texts(cedar_store *s, const char *from, const char *to,
+                                                                    cedar_texts *texts) {
+    bool has = false;
+    cedar_status status = cedar_checked_store_path(s, CEDAR_TEXT(from), CEDAR_TEXT(to), &has);
+    return status ? status : cedar_store_texts(s, texts);
+}
+
+/* Copies the ids of the policies that name a uid. Returns the statuses of `cedar_policies_naming`. */
+CEDAR_WARN_UNUSED static inline cedar_status cedar_policies_naming_texts(cedar_policies *p, const char *uid,
+                                                                         cedar_texts *texts) {
+    cedar_status status = cedar_checked_policies_naming(p, CEDAR_TEXT(uid));
+    return status ? status : cedar_policies_texts(p, texts);
+}
+
 /* Copies one of the two lists of ids of a set. Returns the statuses of `cedar_policies_ids`. */
 CEDAR_WARN_UNUSED static inline cedar_status cedar_policies_id_texts(cedar_policies *p, cedar_ids list,
                                                                      cedar_texts *texts) {
@@ -350,14 +375,14 @@ CEDAR_WARN_UNUSED static inline cedar_status cedar_policies_id_texts(cedar_polic
 
 /* Copies the text of the last error of a store, as much as fits, with a zero after it. Returns `out`. */
 static inline const char *cedar_store_error(cedar_store *s, char *out, size_t capacity) {
-    size_t length = capacity ? cedar_checked_store_refusal(s, (uint8_t *)out, capacity - 1) : 0;
+    size_t length = capacity ? cedar_checked_store_error_text(s, (uint8_t *)out, capacity - 1) : 0;
     if (capacity) out[length < capacity ? length : capacity - 1] = 0;
     return out;
 }
 
 /* Copies the text of the last error of a set, as much as fits, with a zero after it. Returns `out`. */
 static inline const char *cedar_policies_error(cedar_policies *p, char *out, size_t capacity) {
-    size_t length = capacity ? cedar_checked_policies_refusal(p, (uint8_t *)out, capacity - 1) : 0;
+    size_t length = capacity ? cedar_checked_policies_error_text(p, (uint8_t *)out, capacity - 1) : 0;
     if (capacity) out[length < capacity ? length : capacity - 1] = 0;
     return out;
 }

@@ -77,12 +77,12 @@ static inline size_t cedar_checked_status_text(uint32_t status, uint8_t *out, si
     return cedar_status_text(status, out, capacity);
 }
 
-CEDAR_WARN_UNUSED static inline bool cedar_checked_refusal_part(cedar_status status, const uint8_t *text,
-                                                                size_t text_len, size_t place, cedar_span *part) {
+CEDAR_WARN_UNUSED static inline bool cedar_checked_error_part(cedar_status status, const uint8_t *text, size_t text_len,
+                                                              size_t place, cedar_span *part) {
     if (!text && text_len) return false;
     if (!text) text = (const uint8_t *)cedar_empty_list();
     if (!part) return false;
-    return cedar_refusal_part(status, text, text_len, place, part);
+    return cedar_error_part(status, text, text_len, place, part);
 }
 
 CEDAR_WARN_UNUSED static inline cedar_status cedar_checked_store_new(cedar_store *s, uint64_t seed, uint64_t key) {
@@ -309,6 +309,49 @@ CEDAR_WARN_UNUSED static inline cedar_status cedar_checked_store_indirect_ancest
     return cedar_store_indirect_ancestors(s, uid, uid_len);
 }
 
+CEDAR_WARN_UNUSED static inline cedar_status cedar_checked_store_descendants(cedar_store *s, const uint8_t *uid,
+                                                                     size_t uid_len) {
+    if (!s) return CEDAR_CLOSED;
+    if (!uid && uid_len) return CEDAR_BAD_ARGUMENT;
+    if (!uid) uid = (const uint8_t *)cedar_empty_list();
+    return cedar_store_descendants(s, uid, uid_len);
+}
+
+CEDAR_WARN_UNUSED static inline cedar_status cedar_checked_store_descendants_of_type(cedar_store *s, const uint8_t *uid,
+                                                                     size_t uid_len, const uint8_t *type,
+                                                                     size_t type_len) {
+    if (!s) return CEDAR_CLOSED;
+    if (!uid && uid_len) return CEDAR_BAD_ARGUMENT;
+    if (!uid) uid = (const uint8_t *)cedar_empty_list();
+    if (!type && type_len) return CEDAR_BAD_ARGUMENT;
+    if (!type) type = (const uint8_t *)cedar_empty_list();
+    return cedar_store_descendants_of_type(s, uid, uid_len, type, type_len);
+}
+
+CEDAR_WARN_UNUSED static inline cedar_status cedar_checked_store_path(cedar_store *s, const uint8_t *from,
+                                                                     size_t from_len, const uint8_t *to, size_t to_len,
+                                                                     bool *has) {
+    if (!s) return CEDAR_CLOSED;
+    if (!from && from_len) return CEDAR_BAD_ARGUMENT;
+    if (!from) from = (const uint8_t *)cedar_empty_list();
+    if (!to && to_len) return CEDAR_BAD_ARGUMENT;
+    if (!to) to = (const uint8_t *)cedar_empty_list();
+    if (!has) return CEDAR_BAD_ARGUMENT;
+    return cedar_store_path(s, from, from_len, to, to_len, has);
+}
+
+CEDAR_WARN_UNUSED static inline cedar_status cedar_checked_store_reaches(cedar_store *s, const uint8_t *from,
+                                                                     size_t from_len, const uint8_t *to, size_t to_len,
+                                                                     bool *result) {
+    if (!s) return CEDAR_CLOSED;
+    if (!from && from_len) return CEDAR_BAD_ARGUMENT;
+    if (!from) from = (const uint8_t *)cedar_empty_list();
+    if (!to && to_len) return CEDAR_BAD_ARGUMENT;
+    if (!to) to = (const uint8_t *)cedar_empty_list();
+    if (!result) return CEDAR_BAD_ARGUMENT;
+    return cedar_store_reaches(s, from, from_len, to, to_len, result);
+}
+
 CEDAR_WARN_UNUSED static inline cedar_status cedar_checked_store_is_child_of(cedar_store *s, const uint8_t *child,
                                                                      size_t child_len, const uint8_t *parent,
                                                                      size_t parent_len, bool *result) {
@@ -483,28 +526,28 @@ CEDAR_WARN_UNUSED static inline cedar_status cedar_checked_store_equal(cedar_sto
     return cedar_store_equal(first, second, result);
 }
 
-static inline size_t cedar_checked_store_answer(cedar_store *s, size_t from, uint8_t *out, size_t capacity) {
+static inline size_t cedar_checked_store_result(cedar_store *s, size_t from, uint8_t *out, size_t capacity) {
     if (!s) return 0;
     if (!out) capacity = 0, out = (uint8_t *)cedar_empty_list();
-    return cedar_store_answer(s, from, out, capacity);
+    return cedar_store_result(s, from, out, capacity);
 }
 
-static inline size_t cedar_checked_store_answer_spans(cedar_store *s, size_t from, cedar_span *out, size_t capacity) {
+static inline size_t cedar_checked_store_result_spans(cedar_store *s, size_t from, cedar_span *out, size_t capacity) {
     if (!s) return 0;
     if (!out) capacity = 0, out = (cedar_span *)cedar_empty_list();
-    return cedar_store_answer_spans(s, from, out, capacity);
+    return cedar_store_result_spans(s, from, out, capacity);
 }
 
-static inline size_t cedar_checked_store_answer_nodes(cedar_store *s, size_t from, cedar_node *out, size_t capacity) {
+static inline size_t cedar_checked_store_result_nodes(cedar_store *s, size_t from, cedar_node *out, size_t capacity) {
     if (!s) return 0;
     if (!out) capacity = 0, out = (cedar_node *)cedar_empty_list();
-    return cedar_store_answer_nodes(s, from, out, capacity);
+    return cedar_store_result_nodes(s, from, out, capacity);
 }
 
-static inline size_t cedar_checked_store_refusal(cedar_store *s, uint8_t *out, size_t capacity) {
+static inline size_t cedar_checked_store_error_text(cedar_store *s, uint8_t *out, size_t capacity) {
     if (!s) return 0;
     if (!out) capacity = 0, out = (uint8_t *)cedar_empty_list();
-    return cedar_store_refusal(s, out, capacity);
+    return cedar_store_error_text(s, out, capacity);
 }
 
 CEDAR_WARN_UNUSED static inline cedar_status cedar_checked_policies_new(cedar_policies *p, uint64_t seed,
@@ -770,6 +813,22 @@ CEDAR_WARN_UNUSED static inline cedar_status cedar_checked_policies_unknown_enti
     return cedar_policies_unknown_entities(p, id, id_len);
 }
 
+CEDAR_WARN_UNUSED static inline cedar_status cedar_checked_policies_naming(cedar_policies *p, const uint8_t *uid,
+                                                                     size_t uid_len) {
+    if (!p) return CEDAR_CLOSED;
+    if (!uid && uid_len) return CEDAR_BAD_ARGUMENT;
+    if (!uid) uid = (const uint8_t *)cedar_empty_list();
+    return cedar_policies_naming(p, uid, uid_len);
+}
+
+CEDAR_WARN_UNUSED static inline cedar_status cedar_checked_policies_templates_naming(cedar_policies *p,
+                                                                     const uint8_t *uid, size_t uid_len) {
+    if (!p) return CEDAR_CLOSED;
+    if (!uid && uid_len) return CEDAR_BAD_ARGUMENT;
+    if (!uid) uid = (const uint8_t *)cedar_empty_list();
+    return cedar_policies_templates_naming(p, uid, uid_len);
+}
+
 CEDAR_WARN_UNUSED static inline cedar_status cedar_checked_policies_validate(cedar_policies *p) {
     if (!p) return CEDAR_CLOSED;
     return cedar_policies_validate(p);
@@ -796,30 +855,30 @@ CEDAR_WARN_UNUSED static inline cedar_status cedar_checked_policies_equal(cedar_
     return cedar_policies_equal(first, second, result);
 }
 
-static inline size_t cedar_checked_policies_answer(cedar_policies *p, size_t from, uint8_t *out, size_t capacity) {
+static inline size_t cedar_checked_policies_result(cedar_policies *p, size_t from, uint8_t *out, size_t capacity) {
     if (!p) return 0;
     if (!out) capacity = 0, out = (uint8_t *)cedar_empty_list();
-    return cedar_policies_answer(p, from, out, capacity);
+    return cedar_policies_result(p, from, out, capacity);
 }
 
-static inline size_t cedar_checked_policies_answer_spans(cedar_policies *p, size_t from, cedar_span *out,
+static inline size_t cedar_checked_policies_result_spans(cedar_policies *p, size_t from, cedar_span *out,
                                                          size_t capacity) {
     if (!p) return 0;
     if (!out) capacity = 0, out = (cedar_span *)cedar_empty_list();
-    return cedar_policies_answer_spans(p, from, out, capacity);
+    return cedar_policies_result_spans(p, from, out, capacity);
 }
 
-static inline size_t cedar_checked_policies_answer_nodes(cedar_policies *p, size_t from, cedar_node *out,
+static inline size_t cedar_checked_policies_result_nodes(cedar_policies *p, size_t from, cedar_node *out,
                                                          size_t capacity) {
     if (!p) return 0;
     if (!out) capacity = 0, out = (cedar_node *)cedar_empty_list();
-    return cedar_policies_answer_nodes(p, from, out, capacity);
+    return cedar_policies_result_nodes(p, from, out, capacity);
 }
 
-static inline size_t cedar_checked_policies_refusal(cedar_policies *p, uint8_t *out, size_t capacity) {
+static inline size_t cedar_checked_policies_error_text(cedar_policies *p, uint8_t *out, size_t capacity) {
     if (!p) return 0;
     if (!out) capacity = 0, out = (uint8_t *)cedar_empty_list();
-    return cedar_policies_refusal(p, out, capacity);
+    return cedar_policies_error_text(p, out, capacity);
 }
 
 #ifdef __cplusplus
@@ -833,7 +892,7 @@ static inline size_t cedar_checked_policies_refusal(cedar_policies *p, uint8_t *
 #define cedar_uid_parts cedar_checked_uid_parts
 #define cedar_uids_check cedar_checked_uids_check
 #define cedar_status_text cedar_checked_status_text
-#define cedar_refusal_part cedar_checked_refusal_part
+#define cedar_error_part cedar_checked_error_part
 #define cedar_store_new cedar_checked_store_new
 #define cedar_store_free cedar_checked_store_free
 #define cedar_store_build cedar_checked_store_build
@@ -854,6 +913,10 @@ static inline size_t cedar_checked_policies_refusal(cedar_policies *p, uint8_t *
 #define cedar_store_ancestors cedar_checked_store_ancestors
 #define cedar_store_parents cedar_checked_store_parents
 #define cedar_store_indirect_ancestors cedar_checked_store_indirect_ancestors
+#define cedar_store_descendants cedar_checked_store_descendants
+#define cedar_store_descendants_of_type cedar_checked_store_descendants_of_type
+#define cedar_store_path cedar_checked_store_path
+#define cedar_store_reaches cedar_checked_store_reaches
 #define cedar_store_is_child_of cedar_checked_store_is_child_of
 #define cedar_store_is_indirect_descendant_of cedar_checked_store_is_indirect_descendant_of
 #define cedar_store_is_partial cedar_checked_store_is_partial
@@ -874,10 +937,10 @@ static inline size_t cedar_checked_policies_refusal(cedar_policies *p, uint8_t *
 #define cedar_store_slice_deep_copy cedar_checked_store_slice_deep_copy
 #define cedar_store_deep_copy cedar_checked_store_deep_copy
 #define cedar_store_equal cedar_checked_store_equal
-#define cedar_store_answer cedar_checked_store_answer
-#define cedar_store_answer_spans cedar_checked_store_answer_spans
-#define cedar_store_answer_nodes cedar_checked_store_answer_nodes
-#define cedar_store_refusal cedar_checked_store_refusal
+#define cedar_store_result cedar_checked_store_result
+#define cedar_store_result_spans cedar_checked_store_result_spans
+#define cedar_store_result_nodes cedar_checked_store_result_nodes
+#define cedar_store_error_text cedar_checked_store_error_text
 #define cedar_policies_new cedar_checked_policies_new
 #define cedar_policies_free cedar_checked_policies_free
 #define cedar_policies_add_static cedar_checked_policies_add_static
@@ -906,14 +969,16 @@ static inline size_t cedar_checked_policies_refusal(cedar_policies *p, uint8_t *
 #define cedar_policies_policy_text cedar_checked_policies_policy_text
 #define cedar_policies_template_text cedar_checked_policies_template_text
 #define cedar_policies_unknown_entities cedar_checked_policies_unknown_entities
+#define cedar_policies_naming cedar_checked_policies_naming
+#define cedar_policies_templates_naming cedar_checked_policies_templates_naming
 #define cedar_policies_validate cedar_checked_policies_validate
 #define cedar_policies_copy cedar_checked_policies_copy
 #define cedar_policies_deep_copy cedar_checked_policies_deep_copy
 #define cedar_policies_equal cedar_checked_policies_equal
-#define cedar_policies_answer cedar_checked_policies_answer
-#define cedar_policies_answer_spans cedar_checked_policies_answer_spans
-#define cedar_policies_answer_nodes cedar_checked_policies_answer_nodes
-#define cedar_policies_refusal cedar_checked_policies_refusal
+#define cedar_policies_result cedar_checked_policies_result
+#define cedar_policies_result_spans cedar_checked_policies_result_spans
+#define cedar_policies_result_nodes cedar_checked_policies_result_nodes
+#define cedar_policies_error_text cedar_checked_policies_error_text
 
 /* In C `cedar_status_text` returns a text that ends with a zero. The function of the library is
  * `cedar_status_copy_text`. */

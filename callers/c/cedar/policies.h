@@ -131,7 +131,7 @@ CEDAR_WARN_UNUSED cedar_status cedar_policies_remove_template(cedar_policies *p,
 
 /* Merges another set into this one; the other set stays. An id that both sets use differently is a conflict. With
  * `rename` it gets the first of policy0, policy1 and so on that neither set uses. Otherwise the first conflict returns
- * CEDAR_OCCUPIED. Stores each renamed id, followed by its new id, as the answer. The added policies are shared. */
+ * CEDAR_OCCUPIED. Stores each renamed id, followed by its new id, as the result. The added policies are shared. */
 CEDAR_WARN_UNUSED cedar_status cedar_policies_merge(cedar_policies *p, cedar_policies *other, bool rename);
 
 /* Does the same as `cedar_policies_merge`, with a deep copy: the added policies and templates share nothing with the
@@ -142,7 +142,7 @@ CEDAR_WARN_UNUSED cedar_status cedar_policies_merge_deep_copy(cedar_policies *p,
  * CEDAR_NO_BODY if there is none with this id. A static policy is a policy and a template. A link has the effect, the
  * annotations, the clause and the condition of its template. */
 
-/* Stores the ids of one of the two lists as the answer, in insertion order. */
+/* Stores the ids of one of the two lists as the result, in insertion order. */
 CEDAR_WARN_UNUSED cedar_status cedar_policies_ids(cedar_policies *p, cedar_ids list);
 
 /* Writes to `bound` what an id is bound to. Never returns CEDAR_NO_BODY. */
@@ -157,23 +157,23 @@ CEDAR_WARN_UNUSED cedar_status cedar_policies_effect(cedar_policies *p, const ui
 CEDAR_WARN_UNUSED cedar_status cedar_policies_slots(cedar_policies *p, const uint8_t *id, size_t id_len,
                                                     uint32_t *slots);
 
-/* Writes to `has` whether a policy or a template has an annotation with a key. Stores the value as the answer, which
+/* Writes to `has` whether a policy or a template has an annotation with a key. Stores the value as the result, which
  * has no text if there is no annotation. Returns CEDAR_NOT_A_NAME if the key is not an identifier. */
 CEDAR_WARN_UNUSED cedar_status cedar_policies_annotation(cedar_policies *p, const uint8_t *id, size_t id_len,
                                                          const uint8_t *key, size_t key_len, bool *has);
 
-/* Stores the annotations of a policy or a template as the answer, in byte order of their keys: each key, followed by
+/* Stores the annotations of a policy or a template as the result, in byte order of their keys: each key, followed by
  * its value. */
 CEDAR_WARN_UNUSED cedar_status cedar_policies_annotations(cedar_policies *p, const uint8_t *id, size_t id_len);
 
-/* Writes the kind of the constraint of a policy or a template on a variable to `kind`. Stores its texts as the answer:
+/* Writes the kind of the constraint of a policy or a template on a variable to `kind`. Stores its texts as the result:
  * the name of the type, if there is one, followed by the text of each uid. For a link the slots are filled; an action
  * constraint `in` a slot becomes a list of one uid. Returns CEDAR_BAD_ARGUMENT if `variable` is invalid. */
 CEDAR_WARN_UNUSED cedar_status cedar_policies_scope(cedar_policies *p, const uint8_t *id, size_t id_len,
                                                     cedar_variable variable, cedar_scope_kind *kind);
 
 /* Writes to `has` whether a policy or a template has a clause. If it has, stores the nodes of the clause, and their
- * text as the answer, which is one text. Otherwise both stay. The slots of a link are not filled. */
+ * text as the result, which is one text. Otherwise both stay. The slots of a link are not filled. */
 CEDAR_WARN_UNUSED cedar_status cedar_policies_clause(cedar_policies *p, const uint8_t *id, size_t id_len, bool *has);
 
 /* Stores the nodes and the text of the condition of a policy or a template in the same way. The condition is: principal
@@ -181,34 +181,43 @@ CEDAR_WARN_UNUSED cedar_status cedar_policies_clause(cedar_policies *p, const ui
  * The slots of a link are not filled. */
 CEDAR_WARN_UNUSED cedar_status cedar_policies_condition(cedar_policies *p, const uint8_t *id, size_t id_len);
 
-/* Stores the bindings of a policy as the answer: three texts of uids, for principal, action and resource. A text is
+/* Stores the bindings of a policy as the result: three texts of uids, for principal, action and resource. A text is
  * empty if there is no such slot. A static policy binds nothing. */
 CEDAR_WARN_UNUSED cedar_status cedar_policies_env(cedar_policies *p, const uint8_t *id, size_t id_len);
 
-/* Stores the id of the template of a policy as the answer, one text. For a static policy it is its own id. */
+/* Stores the id of the template of a policy as the result, one text. For a static policy it is its own id. */
 CEDAR_WARN_UNUSED cedar_status cedar_policies_template_id(cedar_policies *p, const uint8_t *id, size_t id_len);
 
-/* Stores the ids of the links of a template as the answer, in insertion order. For a static policy it is its own id. */
+/* Stores the ids of the links of a template as the result, in insertion order. For a static policy it is its own id. */
 CEDAR_WARN_UNUSED cedar_status cedar_policies_linked(cedar_policies *p, const uint8_t *id, size_t id_len);
 
-/* Stores the text of the set as the answer, one text for people. The text is proved only if all its contents are
+/* Stores the text of the set as the result, one text for people. The text is proved only if all its contents are
  * ASCII. */
 CEDAR_WARN_UNUSED cedar_status cedar_policies_text(cedar_policies *p);
 
-/* Stores the text of a policy as the answer, like `cedar_policies_text`. */
+/* Stores the text of a policy as the result, like `cedar_policies_text`. */
 CEDAR_WARN_UNUSED cedar_status cedar_policies_policy_text(cedar_policies *p, const uint8_t *id, size_t id_len);
 
-/* Stores the text of a template as the answer, like `cedar_policies_text`. */
+/* Stores the text of a template as the result, like `cedar_policies_text`. */
 CEDAR_WARN_UNUSED cedar_status cedar_policies_template_text(cedar_policies *p, const uint8_t *id, size_t id_len);
 
-/* Stores the uids that unknowns name in the condition of a policy as the answer, in ascending order of uid, each once.
+/* Stores the uids that unknowns name in the condition of a policy as the result, in ascending order of uid, each once.
  * They are the names of the CEDAR_UNKNOWN nodes that have a type and whose name is the text of a uid. */
 CEDAR_WARN_UNUSED cedar_status cedar_policies_unknown_entities(cedar_policies *p, const uint8_t *id, size_t id_len);
+
+/* Stores the ids of the policies that name a uid as the result, in insertion order. A policy names a uid if its scope
+ * constraints, its bindings or its clause contain it; unknowns are not looked at. So before an entity is removed, an
+ * administrator knows which policies will mean something else. Scans each policy and each node of its clause. */
+CEDAR_WARN_UNUSED cedar_status cedar_policies_naming(cedar_policies *p, const uint8_t *uid, size_t uid_len);
+
+/* Does the same for the templates with slots, with or without links. A template names the uids in its scope constraints
+ * and its clause. */
+CEDAR_WARN_UNUSED cedar_status cedar_policies_templates_naming(cedar_policies *p, const uint8_t *uid, size_t uid_len);
 
 /* Validates the set: finds faults that a parser would not have produced. Returns the status of the first fault:
  * CEDAR_SLOTLESS_LINK of the first link, in the order of policies, whose template has no slots; otherwise of the first
  * faulty body, in the order of bodies, one of CEDAR_SLOT_IN_CLAUSE (templates only), CEDAR_NOT_ACTIONS,
- * CEDAR_UNKNOWN_FUNCTION, in this order. The set and the answer stay. Copies the set, which shares its bodies; then
+ * CEDAR_UNKNOWN_FUNCTION, in this order. The set and the result stay. Copies the set, which shares its bodies; then
  * copies each body in turn, which shares its clause, and scans the clause. */
 CEDAR_WARN_UNUSED cedar_status cedar_policies_validate(cedar_policies *p);
 
@@ -224,28 +233,28 @@ CEDAR_WARN_UNUSED cedar_status cedar_policies_deep_copy(cedar_policies *from, ce
 /* Writes to `result` whether two sets have equal bodies and policies in the same order. Does not allocate. */
 CEDAR_WARN_UNUSED cedar_status cedar_policies_equal(cedar_policies *first, cedar_policies *second, bool *result);
 
-/* ---- results. The answer is the answer of the last call at CEDAR_OK that stores one. A handle has no answer, no nodes
- * and no error text after `cedar_policies_new` or a copy, deep or not, filled it. The calls do not allocate, and return
- * 0 for a closed handle. */
+/* ---- results. A handle keeps the result of the last call at CEDAR_OK that stores one. A handle has no result, no
+ * nodes and no error text after `cedar_policies_new` or a copy, deep or not, filled it. The calls do not allocate, and
+ * return 0 for a closed handle. */
 
-/* Copies the bytes of all texts of the answer, one after another, from byte `from` on, as many as fit. Returns the
+/* Copies the bytes of all texts of the result, one after another, from byte `from` on, as many as fit. Returns the
  * number of all bytes. */
-size_t cedar_policies_answer(cedar_policies *p, size_t from, uint8_t *out, size_t capacity);
+size_t cedar_policies_result(cedar_policies *p, size_t from, uint8_t *out, size_t capacity);
 
-/* Copies the span of each text of the answer in these bytes, from text `from` on, as many as fit. Returns the number of
+/* Copies the span of each text of the result in these bytes, from text `from` on, as many as fit. Returns the number of
  * all texts. */
-size_t cedar_policies_answer_spans(cedar_policies *p, size_t from, cedar_span *out, size_t capacity);
+size_t cedar_policies_result_spans(cedar_policies *p, size_t from, cedar_span *out, size_t capacity);
 
 /* Copies the nodes of the last expression, from node `from` on, as many as fit. Returns the number of all nodes. The
  * last expression is the expression of the last `cedar_policies_clause` that found one, or of the last
- * `cedar_policies_condition`. Its parts refer to the answer of that call. Other calls leave the nodes, even if they
- * store another answer. */
-size_t cedar_policies_answer_nodes(cedar_policies *p, size_t from, cedar_node *out, size_t capacity);
+ * `cedar_policies_condition`. Its parts refer to the result of that call. Other calls leave the nodes, even if they
+ * store another result. */
+size_t cedar_policies_result_nodes(cedar_policies *p, size_t from, cedar_node *out, size_t capacity);
 
 /* Copies the text of the last error of the set, from CEDAR_OCCUPIED to CEDAR_NOT_STATIC, or from CEDAR_SLOT_IN_CLAUSE
  * on, as much as fits. Returns the whole length. The text is the text of the status, a blank, and the id, the slots or
  * the uid of the error. */
-size_t cedar_policies_refusal(cedar_policies *p, uint8_t *out, size_t capacity);
+size_t cedar_policies_error_text(cedar_policies *p, uint8_t *out, size_t capacity);
 
 #ifdef __cplusplus
 }

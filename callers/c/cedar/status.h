@@ -4,7 +4,7 @@
 
 /* The status that a call returns. An error whose comment says what its text names has a text. A handle stores the text
  * until its next error that has one. No other status changes the stored text, not even CEDAR_NO_MEMORY.
- * `cedar_store_refusal` and `cedar_policies_refusal` copy it, and `cedar_refusal_part` finds the names in it. */
+ * `cedar_store_error_text` and `cedar_policies_error_text` copy it, and `cedar_error_part` finds the names in it. */
 typedef enum cedar_status {
     /* The call succeeded. */
     CEDAR_OK = 0,

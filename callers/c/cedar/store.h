@@ -126,7 +126,7 @@ CEDAR_WARN_UNUSED cedar_status cedar_store_remove(cedar_store *s, const uint8_t 
                                                   const cedar_span *uids, size_t uids_len, cedar_mode mode);
 
 /* Makes the store partial: a missing entity is then unknown, while in another store it does not exist. The entities,
- * the answer and the last error stay. A store that is built, or a slice, is not partial; a copy is partial if its
+ * the result and the last error stay. A store that is built, or a slice, is not partial; a copy is partial if its
  * source is. Adding, upserting and removing leave a partial store partial, at every status. Does not allocate. */
 CEDAR_WARN_UNUSED cedar_status cedar_store_partial(cedar_store *s);
 
@@ -155,7 +155,7 @@ CEDAR_WARN_UNUSED cedar_status cedar_store_is_descendant_of(cedar_store *s, cons
 CEDAR_WARN_UNUSED cedar_status cedar_store_uid_number(cedar_store *s, const uint8_t *uid, size_t uid_len,
                                                       size_t *number);
 
-/* Stores the text of the uid of a number as the answer. Returns CEDAR_BAD_ARGUMENT if no uid has this number. */
+/* Stores the text of the uid of a number as the result. Returns CEDAR_BAD_ARGUMENT if no uid has this number. */
 CEDAR_WARN_UNUSED cedar_status cedar_store_number_uid(cedar_store *s, size_t number);
 
 /* Does the same as `cedar_store_has`, for the number of a uid. Returns CEDAR_BAD_ARGUMENT if no uid has this number.
@@ -167,15 +167,38 @@ CEDAR_WARN_UNUSED cedar_status cedar_store_has_number(cedar_store *s, size_t num
 CEDAR_WARN_UNUSED cedar_status cedar_store_is_descendant_of_numbers(cedar_store *s, size_t child, size_t ancestor,
                                                                     bool *result);
 
-/* Stores the ancestors of the entity with a uid as the answer, in ascending order of uid, each once. */
+/* Stores the ancestors of the entity with a uid as the result, in ascending order of uid, each once. */
 CEDAR_WARN_UNUSED cedar_status cedar_store_ancestors(cedar_store *s, const uint8_t *uid, size_t uid_len);
 
-/* Stores the parents of the entity with a uid as the answer, in ascending order of uid, each once. */
+/* Stores the parents of the entity with a uid as the result, in ascending order of uid, each once. */
 CEDAR_WARN_UNUSED cedar_status cedar_store_parents(cedar_store *s, const uint8_t *uid, size_t uid_len);
 
-/* Stores the indirect ancestors of the entity with a uid as the answer, in ascending order of uid, each once. In a
+/* Stores the indirect ancestors of the entity with a uid as the result, in ascending order of uid, each once. In a
  * computed store they are the ancestors that are not parents. */
 CEDAR_WARN_UNUSED cedar_status cedar_store_indirect_ancestors(cedar_store *s, const uint8_t *uid, size_t uid_len);
+
+/* Stores the descendants of a uid as the result: the uids of all entities that reach it over one or more parents, in
+ * ascending order of uid, each once. A uid on a cycle of parents is its own descendant. Never returns CEDAR_NO_ENTITY:
+ * the store need not have an entity for the uid. Looks the uid up in each entity. After some edits in the mode
+ * CEDAR_COMPUTE a store lists its children, and is searched down from the uid. In a store that another mode made, reads
+ * each parent of each entity. */
+CEDAR_WARN_UNUSED cedar_status cedar_store_descendants(cedar_store *s, const uint8_t *uid, size_t uid_len);
+
+/* Does the same as `cedar_store_descendants`, for the descendants of a type. Returns CEDAR_NOT_A_NAME if the type is
+ * invalid. */
+CEDAR_WARN_UNUSED cedar_status cedar_store_descendants_of_type(cedar_store *s, const uint8_t *uid, size_t uid_len,
+                                                               const uint8_t *type, size_t type_len);
+
+/* Writes to `has` whether there is a path over one or more parents from one uid to another. Stores a shortest path as
+ * the result: `from`, the uids between, and `to`, each a parent of the one before. Without a path the result has no
+ * text. In a computed store there is a path exactly to an ancestor. Never returns CEDAR_NO_ENTITY. */
+CEDAR_WARN_UNUSED cedar_status cedar_store_path(cedar_store *s, const uint8_t *from, size_t from_len,
+                                                const uint8_t *to, size_t to_len, bool *has);
+
+/* Writes to `result` whether there is such a path. If there is none to an ancestor, the parents do not explain the
+ * ancestor: it is an indirect ancestor that the store was given. Never returns CEDAR_NO_ENTITY. */
+CEDAR_WARN_UNUSED cedar_status cedar_store_reaches(cedar_store *s, const uint8_t *from, size_t from_len,
+                                                   const uint8_t *to, size_t to_len, bool *result);
 
 /* Writes to `result` whether the second uid is a parent of the entity with the first uid. */
 CEDAR_WARN_UNUSED cedar_status cedar_store_is_child_of(cedar_store *s, const uint8_t *child, size_t child_len,
@@ -193,7 +216,7 @@ CEDAR_WARN_UNUSED cedar_status cedar_store_is_partial(cedar_store *s, bool *resu
 CEDAR_WARN_UNUSED cedar_status cedar_store_entity(cedar_store *s, const uint8_t *uid, size_t uid_len,
                                                   cedar_found *found);
 
-/* Stores the uids of all entities as the answer, each once, in an order that depends on the key. */
+/* Stores the uids of all entities as the result, each once, in an order that depends on the key. */
 CEDAR_WARN_UNUSED cedar_status cedar_store_uids(cedar_store *s);
 
 /* Writes the number of attributes of the entity with a uid to `count`. */
@@ -203,14 +226,14 @@ CEDAR_WARN_UNUSED cedar_status cedar_store_attrs_len(cedar_store *s, const uint8
 /* Writes the number of tags of the entity with a uid to `count`. */
 CEDAR_WARN_UNUSED cedar_status cedar_store_tags_len(cedar_store *s, const uint8_t *uid, size_t uid_len, size_t *count);
 
-/* Stores the keys of the attributes of the entity with a uid as the answer, in byte order. */
+/* Stores the keys of the attributes of the entity with a uid as the result, in byte order. */
 CEDAR_WARN_UNUSED cedar_status cedar_store_keys(cedar_store *s, const uint8_t *uid, size_t uid_len);
 
-/* Stores the keys of the tags of the entity with a uid as the answer, in byte order. */
+/* Stores the keys of the tags of the entity with a uid as the result, in byte order. */
 CEDAR_WARN_UNUSED cedar_status cedar_store_tag_keys(cedar_store *s, const uint8_t *uid, size_t uid_len);
 
 /* Writes to `has` whether the entity with a uid has an attribute at a key. If it has, stores the nodes of its partial
- * value, and their text as the answer, which is one text. Otherwise both stay. Elements of a set and keys of a record
+ * value, and their text as the result, which is one text. Otherwise both stay. Elements of a set and keys of a record
  * are in ascending order. */
 CEDAR_WARN_UNUSED cedar_status cedar_store_get(cedar_store *s, const uint8_t *uid, size_t uid_len, const uint8_t *key,
                                                size_t key_len, bool *has);
@@ -224,12 +247,12 @@ CEDAR_WARN_UNUSED cedar_status cedar_store_get_tag(cedar_store *s, const uint8_t
 CEDAR_WARN_UNUSED cedar_status cedar_store_entity_equal(cedar_store *s, const uint8_t *uid, size_t uid_len,
                                                         cedar_store *other, bool *result);
 
-/* Stores the text of the store as the answer: one text, for people. It has the texts of its entities in ascending order
+/* Stores the text of the store as the result: one text, for people. It has the texts of its entities in ascending order
  * of uid, each followed by a line feed. It is tested, not proved. Needs a list of one pointer per entity. If that list
  * cannot be allocated, each entity is found by a scan of all entities, with the same result. */
 CEDAR_WARN_UNUSED cedar_status cedar_store_text(cedar_store *s);
 
-/* Stores the text of the entity with a uid as the answer: one text, for people. It has lines for its uid, its
+/* Stores the text of the entity with a uid as the result: one text, for people. It has lines for its uid, its
  * attributes and its ancestors. It is tested, not proved. */
 CEDAR_WARN_UNUSED cedar_status cedar_store_entity_text(cedar_store *s, const uint8_t *uid, size_t uid_len);
 
@@ -260,26 +283,26 @@ CEDAR_WARN_UNUSED cedar_status cedar_store_deep_copy(cedar_store *from, cedar_st
  * ancestors, and are both partial or both not. Does not compare which ancestors are parents. Does not allocate. */
 CEDAR_WARN_UNUSED cedar_status cedar_store_equal(cedar_store *first, cedar_store *second, bool *result);
 
-/* ---- results. The answer is the answer of the last call at CEDAR_OK that stores one. Other calls leave it,
- * `cedar_store_build` too. A handle has no answer, no nodes and no error text after `cedar_store_new`, a slice or a
+/* ---- results. A handle keeps the result of the last call at CEDAR_OK that stores one. Other calls leave it,
+ * `cedar_store_build` too. A handle has no result, no nodes and no error text after `cedar_store_new`, a slice or a
  * copy filled it. The calls do not allocate, and return 0 for a closed handle. */
 
-/* Copies the bytes of all texts of the answer, one after another, from byte `from` on, as many as fit. Returns the
+/* Copies the bytes of all texts of the result, one after another, from byte `from` on, as many as fit. Returns the
  * number of all bytes. */
-size_t cedar_store_answer(cedar_store *s, size_t from, uint8_t *out, size_t capacity);
+size_t cedar_store_result(cedar_store *s, size_t from, uint8_t *out, size_t capacity);
 
-/* Copies the span of each text of the answer in these bytes, from text `from` on, as many as fit. Returns the number of
+/* Copies the span of each text of the result in these bytes, from text `from` on, as many as fit. Returns the number of
  * all texts. */
-size_t cedar_store_answer_spans(cedar_store *s, size_t from, cedar_span *out, size_t capacity);
+size_t cedar_store_result_spans(cedar_store *s, size_t from, cedar_span *out, size_t capacity);
 
 /* Copies the nodes of the last value, from node `from` on, as many as fit. Returns the number of all nodes. The last
  * value is the value of the last `cedar_store_get` or `cedar_store_get_tag` that found one, and its parts refer to the
- * answer of that call. Other calls leave the nodes, even if they store another answer. */
-size_t cedar_store_answer_nodes(cedar_store *s, size_t from, cedar_node *out, size_t capacity);
+ * result of that call. Other calls leave the nodes, even if they store another result. */
+size_t cedar_store_result_nodes(cedar_store *s, size_t from, cedar_node *out, size_t capacity);
 
 /* Copies the text of the last error of the store, from CEDAR_DUPLICATE to CEDAR_RESERVED_KEY, as much as fits. Returns
  * the whole length. The text is the text of the status, then a blank and a uid or key for each name. */
-size_t cedar_store_refusal(cedar_store *s, uint8_t *out, size_t capacity);
+size_t cedar_store_error_text(cedar_store *s, uint8_t *out, size_t capacity);
 
 #ifdef __cplusplus
 }

@@ -132,8 +132,8 @@ size_t cedar_status_text(uint32_t status, uint8_t *out, size_t capacity);
  * slot (first the unbound slots, then the bound slots that do not exist). The text is the whole text of an error with
  * this status. Returns true and writes the part to `part`. Returns false and writes nothing if there is no such name.
  * For a uid whose eid is not ASCII this is tested, not proved. Does not allocate. */
-CEDAR_WARN_UNUSED bool cedar_refusal_part(cedar_status status, const uint8_t *text, size_t text_len, size_t place,
-                                          cedar_span *part);
+CEDAR_WARN_UNUSED bool cedar_error_part(cedar_status status, const uint8_t *text, size_t text_len, size_t place,
+                                        cedar_span *part);
 
 /* Returns the version of the library as one number: 65536 times the major number, plus 256 times the minor number, plus
  * the patch number. Does not allocate. */

@@ -31,44 +31,16 @@ several cycles, or of several missing ancestors, an error names.
 """
 from __future__ import annotations
 
-from . import values
+from . import _statuses, values
 from ._bodies import Constraint, ConstraintKind
 from ._content import Entities
+from ._diff import EntityChange, PoliciesDiff, PolicyChange, PolicySnapshot, StoreDiff
 from ._entity import Entity, Unknown
 from ._errors import CedarError
 from ._library import PROVED, VERSION, run, status_text, version
 from ._mode import Mode
 from ._policies import Bound, Effect, Env, Policies
-from ._statuses import (  # noqa: F401
-    BadArgument,
-    Closed,
-    Cycle,
-    DuplicateAncestor,
-    DuplicateEntity,
-    IdInUse,
-    InvalidActionParent,
-    LinkWithoutSlots,
-    MissingAncestor,
-    NotALink,
-    NotAName,
-    NotATemplate,
-    NotAUid,
-    NotActions,
-    NotAnAction,
-    NotStatic,
-    NotUtf8,
-    OutOfMemory,
-    ReservedKey,
-    SelfAncestor,
-    SlotInClause,
-    SlotMismatch,
-    TemplateHasLinks,
-    TooDeep,
-    UnknownEntity,
-    UnknownFunction,
-    UnknownPolicy,
-    UnknownTemplate,
-)
+from ._statuses import *  # noqa: F403
 from ._store import Store
 from ._uids import EntityUid, is_uid
 
@@ -77,50 +49,28 @@ __version__ = VERSION
 __proved__ = PROVED
 
 __all__ = [
-    "BadArgument",
     "Bound",
     "CedarError",
-    "Closed",
     "Constraint",
     "ConstraintKind",
-    "Cycle",
-    "DuplicateAncestor",
-    "DuplicateEntity",
     "Effect",
     "Entities",
     "Entity",
+    "EntityChange",
     "EntityUid",
     "Env",
-    "IdInUse",
-    "InvalidActionParent",
-    "LinkWithoutSlots",
-    "MissingAncestor",
     "Mode",
-    "NotALink",
-    "NotAName",
-    "NotATemplate",
-    "NotAUid",
-    "NotActions",
-    "NotAnAction",
-    "NotStatic",
-    "NotUtf8",
-    "OutOfMemory",
     "Policies",
-    "ReservedKey",
-    "SelfAncestor",
-    "SlotInClause",
-    "SlotMismatch",
+    "PoliciesDiff",
+    "PolicyChange",
+    "PolicySnapshot",
     "Store",
-    "TemplateHasLinks",
-    "TooDeep",
+    "StoreDiff",
     "Unknown",
-    "UnknownEntity",
-    "UnknownFunction",
-    "UnknownPolicy",
-    "UnknownTemplate",
     "is_uid",
     "run",
     "status_text",
     "values",
     "version",
 ]
+__all__ += _statuses.__all__

@@ -2,8 +2,9 @@
 from __future__ import annotations
 
 import enum
+import itertools
 from array import array
-from typing import List, Mapping, NamedTuple, Optional, Tuple, Union
+from typing import Iterable, List, Mapping, NamedTuple, Optional, Tuple, Union
 
 from ._errors import NOT_A_NAME, NOT_A_UID
 from ._expressions import Expr, Operand, Slot, expr_of
@@ -82,6 +83,11 @@ class Constraint(NamedTuple):
 
 
 ANY = Constraint()
+# The effects with three constraints that every entity meets, encoded: the effect, and for each constraint its kind, the
+# span of its uid and the span of its type.
+_HEADS = [array("Q", [effect] + [0] * 15) for effect in (0, 1)]
+# A list without items, with an address.
+_EMPTY = array("Q", [0])
 _EQ_SLOT = Constraint.is_eq_slot()
 _KINDS = list(ConstraintKind)
 
@@ -128,7 +134,7 @@ def decode_constraint(kind: int, texts: List[str]) -> Constraint:
 class Body:
     """A body, encoded as one text and lists of spans in it. It must live until the call returns."""
 
-    __slots__ = ("_encoder", "_text", "_lists", "_uids", "_names")
+    __slots__ = ("_encoder", "_text", "_lists", "_scope", "_annotations")
 
     def __init__(
         self,
@@ -139,17 +145,23 @@ class Body:
     ) -> None:
         principal, action, resource = scope
         self._encoder = encoder = Encoder()
-        head = [effect, *self._encode(principal), *self._encode(action, lists_uids=True), *self._encode(resource)]
-        pairs = [bound for pair in annotations.items() for text in pair for bound in encoder.span(text)]
-        action_uids = list_of_texts(action.uids) if action.kind == ConstraintKind.IN else []
-        uids = [bound for uid in action_uids for bound in encoder.span(uid)]
+        self._scope, self._annotations = scope, annotations
+        if principal is action is resource is ANY:
+            head = _HEADS[effect]
+        else:
+            constraints = self._encode(principal), self._encode(action, lists_uids=True), self._encode(resource)
+            head = array("Q", [effect, *itertools.chain.from_iterable(constraints)])
+        pairs = self._spans(itertools.chain.from_iterable(annotations.items())) if annotations else _EMPTY
+        uids = self._spans(list_of_texts(action.uids)) if action.kind == ConstraintKind.IN else _EMPTY
         if when is not None:
             encoder.expr(when if isinstance(when, Expr) else expr_of(when))
         self._text = bytes(encoder.text)
-        self._uids = [uid for one in scope for uid in one.uids]
-        self._names = [one.type for one in scope if one.type is not None]
-        self._names += annotations
-        self._lists = array("Q", head), array("Q", pairs or (0,)), array("Q", uids or (0,)), encoder.packed()
+        self._lists = head, pairs, uids, encoder.packed()
+
+    def _spans(self, texts: Iterable[str]) -> array[int]:
+        """Encodes texts, and returns their spans as a list with an address."""
+        bounds = [bound for text in texts for bound in self._encoder.span(text)]
+        return array("Q", bounds) if bounds else _EMPTY
 
     def _encode(self, constraint: Constraint, lists_uids: bool = False) -> List[int]:
         """Encodes a constraint as its kind, the span of its uid and the span of its type."""
@@ -165,18 +177,22 @@ class Body:
 
     def arguments(self) -> Tuple[object, ...]:
         """Returns the arguments of the call that follow the handle and the id."""
-        (head, _), *lists = (numbers.buffer_info() for numbers in self._lists)
-        (pairs, pairs_len), (uids, uids_len), (nodes, nodes_len) = lists
+        head, pairs, uids, nodes = self._lists
+        pairs_at, pairs_len = pairs.buffer_info()
+        uids_at, uids_len = uids.buffer_info()
+        nodes_at, nodes_len = nodes.buffer_info()
+        text = self._text
         return (
-            *(self._text, len(self._text), head),
-            *(pairs, pairs_len // 4, uids, uids_len // 2, nodes, nodes_len // 5),
+            *(text, len(text), head.buffer_info()[0]),
+            *(pairs_at, pairs_len // 4, uids_at, uids_len // 2, nodes_at, nodes_len // 5),
         )
 
     def names_of(self, status: int) -> Tuple[str, ...]:
         """Returns the text of the body that is not what a status requires: a uid, a name, or UTF-8."""
         invalid: List[str] = []
         if status == NOT_A_UID:
-            invalid = [uid for uid in self._uids if not is_uid(uid)]
+            invalid = [uid for one in self._scope for uid in one.uids if not is_uid(uid)]
         if status == NOT_A_NAME:
-            invalid = [name for name in self._names if not is_name(name)]
+            types = [one.type for one in self._scope if one.type is not None]
+            invalid = [name for name in (*types, *self._annotations) if not is_name(name)]
         return tuple(invalid[:1]) or self._encoder.first_invalid(status)

@@ -296,7 +296,8 @@ class Not(Expr):
     __slots__ = ()
 
     def __init__(self, operand: Operand) -> None:
-        self._set_fields((), expr_of(operand))
+        _set_data(self, ())
+        _set_operands(self, (expr_of(operand),))
 
     def _text(self, operands: List[str]) -> str:
         return f"!({operands[0]})"
@@ -309,8 +310,10 @@ class _BinaryExpr(Expr):
     _operator = ""
 
     def __init__(self, left: Operand, right: Operand) -> None:
+        left_expr = left if isinstance(left, Expr) else expr_of(left)
+        right_expr = right if isinstance(right, Expr) else expr_of(right)
         _set_data(self, ())
-        _set_operands(self, (expr_of(left), expr_of(right)))
+        _set_operands(self, (left_expr, right_expr))
 
     def _text(self, operands: List[str]) -> str:
         return f"({operands[0]} {self._operator} {operands[1]})"

@@ -6,11 +6,12 @@ groups share nothing: their calls run at the same time.
 """
 from __future__ import annotations
 
+import contextlib
 import ctypes
 import os
 import threading
 import weakref
-from typing import Any, Callable, List, NoReturn, Optional, Tuple, TypeVar
+from typing import Any, Callable, Iterator, List, NoReturn, Optional, Tuple, TypeVar
 
 from ._library import Handle
 
@@ -97,9 +98,24 @@ class Group:
         return self._span_buffer
 
 
+def _in_order(first: Group, second: Group) -> Tuple[Group, Group]:
+    """Returns two groups in the order in which each thread takes their locks."""
+    return (first, second) if id(first) < id(second) else (second, first)
+
+
+@contextlib.contextmanager
+def both_locked(first: Group, second: Group) -> Iterator[None]:
+    """Returns a context with the locks of two groups, for several calls."""
+    low, high = _in_order(first, second)
+    with low.lock, high.lock:
+        yield
+
+
 def run_on_both(first: Group, second: Group, call: Callable[..., _Result], *arguments: Any) -> _Result:
     """Makes a call in several steps, with the locks of two groups. Their order is the same in each thread."""
-    low, high = (first, second) if id(first) < id(second) else (second, first)
+    if first is second:
+        return first.run(call, *arguments)
+    low, high = _in_order(first, second)
     is_nested = low.lock._is_owned(), high.lock._is_owned()
     with low.lock, high.lock:
         low._begin(is_nested[0])

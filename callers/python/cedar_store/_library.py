@@ -30,7 +30,7 @@ _DECLARED: Dict[str, Tuple[Any, List[Any]]] = {
     "run": (_U, _TEXT + _KEY + [_P, _N, _P, _P]),
     "uid_check": (_U, _TEXT),
     "uids_check": (_U, _TEXT + [_P, _N, _P]),
-    "refusal_part": (ctypes.c_bool, [_U] + _TEXT + [_N, _P]),
+    "error_part": (ctypes.c_bool, [_U] + _TEXT + [_N, _P]),
     "uid_make": (_U, _TEXT + _TEXT + [_P, _N, _P]),
     "uid_parts": (_U, _TEXT + [_P, _N, _P, _P]),
     "status_text": (_N, [_U, _P, _N]),
@@ -41,10 +41,14 @@ _DECLARED: Dict[str, Tuple[Any, List[Any]]] = {
     "store_remove": (_U, [_P] + _TEXT + [_P, _N, _U]),
     "store_get": (_U, [_P] + _TEXT + _TEXT + [_P]),
     "store_get_tag": (_U, [_P] + _TEXT + _TEXT + [_P]),
-    "store_answer_nodes": (_N, [_P, _N, _P, _N]),
+    "store_result_nodes": (_N, [_P, _N, _P, _N]),
     "store_validate": (_U, [_P]),
     "store_uids": (_U, [_P]),
     "store_text": (_U, [_P]),
+    "store_descendants": (_U, [_P] + _TEXT),
+    "store_descendants_of_type": (_U, [_P] + _TEXT + _TEXT),
+    "store_path": (_U, [_P] + _TEXT + _TEXT + [_P]),
+    "store_reaches": (_U, [_P] + _TEXT + _TEXT + [_P]),
     "store_slice": (_U, [_P, _P] + _TEXT + [_P, _N]),
     "store_slice_deep_copy": (_U, [_P, _P] + _TEXT + [_P, _N]),
     "policies_add_static": (_U, [_P] + _TEXT + [_U]),
@@ -62,13 +66,16 @@ _DECLARED: Dict[str, Tuple[Any, List[Any]]] = {
     "policies_scope": (_U, [_P] + _TEXT + [_U, _P]),
     "policies_clause": (_U, [_P] + _TEXT + [_P]),
     "policies_condition": (_U, [_P] + _TEXT),
-    "policies_answer_nodes": (_N, [_P, _N, _P, _N]),
+    "policies_result_nodes": (_N, [_P, _N, _P, _N]),
 }
 for _name in ("static", "template"):
     _DECLARED[f"policies_add_{_name}_with"] = (_U, [_P] + _TEXT + _TEXT + [_P] + [_P, _N] * 3)
 for _name in ("get", "effect", "slots"):
     _DECLARED[f"policies_{_name}"] = (_U, [_P] + _TEXT + [_P])
-for _name in ("annotations", "env", "template_id", "linked", "policy_text", "template_text", "unknown_entities"):
+for _name in (
+    *("annotations", "env", "template_id", "linked", "policy_text", "template_text", "unknown_entities"),
+    *("naming", "templates_naming"),
+):
     _DECLARED[f"policies_{_name}"] = (_U, [_P] + _TEXT)
 for _name in ("build", "add", "upsert"):
     _DECLARED[f"store_{_name}_with"] = (_U, [_P] + _TEXT + [_P, _N, _N] + [_P, _N] * 4 + [_U])
@@ -78,7 +85,7 @@ for _prefix in ("store_", "policies_"):
     _DECLARED[_prefix + "copy"] = (_U, [_P, _P])
     _DECLARED[_prefix + "deep_copy"] = (_U, [_P, _P])
     _DECLARED[_prefix + "equal"] = (_U, [_P, _P, _P])
-    _DECLARED[_prefix + "refusal"] = (_N, [_P, _P, _N])
+    _DECLARED[_prefix + "error_text"] = (_N, [_P, _P, _N])
 
 
 def _path() -> str:
@@ -150,6 +157,18 @@ def quick_function(name: str, result: Any = _U) -> Any:
     symbol = _symbol(_LOCKED_LIBRARY, name)
     symbol.restype = result
     return symbol
+
+
+def functions(kind: str, *names: str) -> List[Any]:
+    """Returns some functions of a kind of handles, `store` or `policies`."""
+    return [function(f"{kind}_{name}") for name in names]
+
+
+def copying_functions(kind: str) -> List[Any]:
+    """Returns the functions that copy the text of the last error, the last result and its spans from a kind of handles.
+    Each returns the whole length.
+    """
+    return [quick_function(f"{kind}_{name}", _N) for name in ("error_text", "result", "result_spans")]
 
 
 class _Sizes(Dict[int, Any]):
@@ -240,7 +259,7 @@ def key_numbers(key: Optional[bytes]) -> Tuple[int, int]:
 
 
 _run, _status_text, _version = function("run"), function("status_text"), function("version")
-_uids_check, _name_span = function("uids_check"), function("refusal_part")
+_uids_check, _name_span = function("uids_check"), function("error_part")
 
 
 def names_in_error_text(status: int, text: str) -> List[str]:

@@ -6,10 +6,21 @@ import enum
 from typing import Any, Dict, FrozenSet, Iterator, List, Mapping, NamedTuple, Optional, Tuple, Union
 
 from ._bodies import ANY, Body, Constraint, constraints_of, decode_constraint
+from ._diff import PoliciesDiff, diff_policies
 from ._errors import NOT_A_NAME, NOT_A_UID, NOT_UTF8, enum_number, raise_error
 from ._expressions import Expr, Operand, Slot
+from ._groups import both_locked
 from ._handle import HandleOwner
-from ._library import SIZES, UidList, encode, encode_with_length, function, quick_function
+from ._library import (
+    SIZES,
+    UidList,
+    copying_functions,
+    encode,
+    encode_with_length,
+    function,
+    functions,
+    quick_function,
+)
 from ._uids import EntityUid, is_uid
 from .values import NODE_SIZE, expr_from_nodes, node_fields
 
@@ -24,9 +35,10 @@ _text, _policy_text, _template_text = [
     function("policies_" + name) for name in ("text", "policy_text", "template_text")
 ]
 _unknown_entities, _validate = function("policies_unknown_entities"), function("policies_validate")
+_naming, _templates_naming = function("policies_naming"), function("policies_templates_naming")
 _add_static_with, _add_template_with = [function(f"policies_add_{name}_with") for name in ("static", "template")]
 _scope, _clause, _condition = [quick_function("policies_" + name) for name in ("scope", "clause", "condition")]
-_result_nodes = quick_function("policies_answer_nodes", ctypes.c_size_t)
+_result_nodes = quick_function("policies_result_nodes", ctypes.c_size_t)
 
 
 class Effect(enum.IntEnum):
@@ -83,11 +95,8 @@ class Policies(HandleOwner):
 
     __slots__ = ()
     _noun = "a policy set"
-    _new, _free, _copy = function("policies_new"), function("policies_free"), function("policies_copy")
-    _deep_copy = function("policies_deep_copy")
-    _equal, _error_text = function("policies_equal"), quick_function("policies_refusal", ctypes.c_size_t)
-    _result = quick_function("policies_answer", ctypes.c_size_t)
-    _result_spans = quick_function("policies_answer_spans", ctypes.c_size_t)
+    _new, _free, _copy, _deep_copy, _equal = functions("policies", "new", "free", "copy", "deep_copy", "equal")
+    _error_text, _result, _result_spans = copying_functions("policies")
 
     def _add(self, function: Any, id: str, body: Body) -> None:
         def names(status: int) -> Tuple[str, ...]:
@@ -446,8 +455,12 @@ class Policies(HandleOwner):
         """
         return self._constraint(id, 2)
 
-    def _expr_of(self, function: Any, id: str, *arguments: Any, exists: Optional[Any] = None) -> Optional[Expr]:
-        """Calls a library function that stores an expression as its result, and returns it."""
+    def _encoding_of(
+        self, function: Any, id: str, *arguments: Any, exists: Optional[Any] = None
+    ) -> Optional[Tuple[bytes, List[Tuple[int, int, int, int, int]]]]:
+        """Calls a library function that stores an expression as its result. Returns its text and its nodes, which are
+        the same for equal expressions.
+        """
 
         def read() -> Optional[Tuple[bytes, bytes]]:
             if exists is not None and not exists.value:
@@ -460,7 +473,12 @@ class Policies(HandleOwner):
             return self._result_bytes(), bytes(buffer)[: NODE_SIZE * count]
 
         result = self._call_and_read(function, *_id_arguments(id), *arguments, names=(id,), read=read)
-        return None if result is None else expr_from_nodes(result[0], node_fields(result[1]))
+        return None if result is None else (result[0], node_fields(result[1]))
+
+    def _expr_of(self, function: Any, id: str, *arguments: Any, exists: Optional[Any] = None) -> Optional[Expr]:
+        """Calls a library function that stores an expression as its result, and returns it."""
+        result = self._encoding_of(function, id, *arguments, exists=exists)
+        return None if result is None else expr_from_nodes(*result)
 
     def non_scope_constraints(self, id: str) -> Optional[Expr]:
         """Returns the clause, or None. A link has the clause of its template, with its slots not filled.
@@ -552,6 +570,74 @@ class Policies(HandleOwner):
         [EntityUid('User::"alice"')]
         """
         return [EntityUid(uid) for uid in self._call_for_texts(_unknown_entities, *encode_with_length(id), names=(id,))]
+
+    def naming(self, uid: str) -> List[str]:
+        """Returns the ids of the static policies and links that name a uid, in insertion order.
+
+        A policy names a uid if its constraints, its bindings or its clause contain it. Unknowns are not looked at: see
+        `unknown_entities`. So before an entity is removed, you know which policies will mean something else.
+
+        Raises:
+            NotAUid: the text is not a uid.
+
+        >>> policies = Policies()
+        >>> policies.add_static("p", principal=Constraint.is_in('Group::"staff"'))
+        >>> policies.naming('Group::"staff"'), policies.naming('Group::"board"')
+        (['p'], [])
+        """
+        return self._call_for_texts(_naming, *encode_with_length(uid), names=(uid,))
+
+    def templates_naming(self, uid: str) -> List[str]:
+        """Returns the ids of the templates with slots that name a uid in their constraints or their clause, with or
+        without links, in insertion order.
+
+        Raises:
+            NotAUid: the text is not a uid.
+
+        >>> policies = Policies()
+        >>> policies.add_template("t", principal=Slot("?principal"), resource=Constraint.is_in('Folder::"reports"'))
+        >>> policies.templates_naming('Folder::"reports"'), policies.naming('Folder::"reports"')
+        (['t'], [])
+        """
+        return self._call_for_texts(_templates_naming, *encode_with_length(uid), names=(uid,))
+
+    def _content_of(self, id: str) -> Tuple[Any, ...]:
+        """Returns the kind and the content of an item, which are the same for equal items. A link has the id of its
+        template and its bindings.
+        """
+        kind = self.get(id)
+        if kind is Bound.LINK:
+            return kind, self.template_id(id), self.env(id)
+        exists = ctypes.c_bool(False)
+        clause = self._encoding_of(_clause, id, ctypes.byref(exists), exists=exists)
+        scope = [self._constraint(id, index) for index in range(3)]
+        return kind, self.effect(id), self.annotations(id), scope, clause
+
+    def diff(self, other: Policies) -> PoliciesDiff:
+        """Returns what differs between this set and another one, which is taken as the later one: see `PoliciesDiff`.
+
+        A link is compared by the id of its template and by its bindings. The order of the policies is not compared. The
+        comparison is Python over proved calls that read both sets. It is tested, not proved.
+
+        Raises:
+            TypeError: `other` is not a `Policies`.
+
+        >>> policies, other = Policies(), Policies()
+        >>> policies.add_static("p")
+        >>> other.add_static("p", Effect.FORBID)
+        >>> print(policies.diff(other))
+          static p
+        -   permit(
+        +   forbid(
+              principal,
+              action,
+              resource
+            );
+        """
+        if not isinstance(other, Policies):
+            raise TypeError(f"expected a policy set, got a {type(other).__name__}")
+        with both_locked(self._group, other._group):
+            return diff_policies(self, other)
 
     def validate(self) -> None:
         """Checks the set, and raises the first fault. The error names the id of a link or of a body.

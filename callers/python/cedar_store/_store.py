@@ -6,22 +6,25 @@ import dataclasses
 from typing import Any, Dict, Iterable, Iterator, List, Mapping, Optional, Tuple, Type, TypeVar, Union
 
 from ._content import Content, Entities, as_entity, as_pair, encode_pairs
+from ._diff import StoreDiff, diff_stores
 from ._dot import to_dot
 from ._entity import Entity, Unknown
 from ._errors import BAD_ARGUMENT, NOT_A_UID, CedarError, UNKNOWN_ENTITY, enum_number, raise_error
-from ._groups import Group
-from ._handle import HandleOwner
+from ._groups import Group, both_locked
 from ._mode import Mode
 from ._library import (
     SIZES,
     UidList,
     as_size,
+    copying_functions,
     encode,
     encode_edges,
     function,
+    functions,
     list_of_texts,
     quick_function,
 )
+from ._store_queries import StoreQueries
 from ._uids import EntityUid, is_uid, unchecked_uids
 from .values import NODE_SIZE, ReadTerm, Term, from_nodes, node_fields
 
@@ -35,7 +38,7 @@ _remove, _validate, _slice, _slice_deep_copy = [
 ]
 _uids, _text = function("store_uids"), function("store_text")
 _get, _get_tag = quick_function("store_get"), quick_function("store_get_tag")
-_len, _result_nodes = [quick_function("store_" + name, ctypes.c_size_t) for name in ("len", "answer_nodes")]
+_len, _result_nodes = [quick_function("store_" + name, ctypes.c_size_t) for name in ("len", "result_nodes")]
 _has, _entity, _entity_equal = [quick_function("store_" + name) for name in ("has", "entity", "entity_equal")]
 _partial, _is_partial = quick_function("store_partial"), quick_function("store_is_partial")
 _is_descendant, _is_child, _is_indirect_descendant = [
@@ -69,7 +72,7 @@ _MAX_LEN_FOR_TEXT = 100
 _Self = TypeVar("_Self", bound="Store")
 
 
-class Store(HandleOwner):
+class Store(StoreQueries):
     """A store of entities, given as a mapping from uids to parents, or as a list of pairs, of `Entity` or of dataclass
     instances.
 
@@ -93,11 +96,8 @@ class Store(HandleOwner):
 
     __slots__ = ()
     _noun = "a store"
-    _new, _free, _copy = function("store_new"), function("store_free"), function("store_copy")
-    _deep_copy = function("store_deep_copy")
-    _equal, _error_text = function("store_equal"), quick_function("store_refusal", ctypes.c_size_t)
-    _result = quick_function("store_answer", ctypes.c_size_t)
-    _result_spans = quick_function("store_answer_spans", ctypes.c_size_t)
+    _new, _free, _copy, _deep_copy, _equal = functions("store", "new", "free", "copy", "deep_copy", "equal")
+    _error_text, _result, _result_spans = copying_functions("store")
 
     def __init__(self, entities: Entities = (), mode: int = Mode.COMPUTE, *, key: Optional[bytes] = None) -> None:
         enum_number(mode, Mode)
@@ -581,6 +581,57 @@ class Store(HandleOwner):
         text, result = encode(uid), _bool_out()
         self._call_with_other(_entity_equal, other, text, SIZES[len(text)], _byref(result), names=(uid,))
         return result.value
+
+    def diff(self, other: Store) -> StoreDiff:
+        """Returns what differs between this store and another one, which is taken as the later one: see `StoreDiff`.
+
+        The comparison is Python over proved calls that read both stores. It is tested, not proved. It makes three calls
+        for each entity of both stores, and more for each one that differs.
+
+        Raises:
+            TypeError: `other` is not a `Store`.
+
+        >>> Store({'User::"alice"': []}).diff(Store({'User::"alice"': [], 'User::"bob"': ['Group::"staff"']}))
+        StoreDiff(added=[Entity('User::"bob"', ['Group::"staff"'])])
+        """
+        if not isinstance(other, Store):
+            raise TypeError(f"expected a store, got a {type(other).__name__}")
+        with both_locked(self._group, other._group):
+            return diff_stores(self, other)
+
+    def would_change(
+        self,
+        *,
+        add: Optional[Entities] = None,
+        upsert: Optional[Entities] = None,
+        remove: Optional[Iterable[str]] = None,
+        mode: int = Mode.COMPUTE,
+    ) -> StoreDiff:
+        """Returns what these edits would change, in this order, and changes nothing: see `diff`.
+
+        The edits are made on a copy, which shares the entities with this store.
+
+        Raises:
+            ValueError: the mode is invalid, or a number does not fit into 64 bits.
+            DuplicateEntity, Cycle, MissingAncestor, NotAUid, NotAName, NotUtf8, TooDeep: an edit would fail: see `add`,
+                `upsert` and `remove`.
+
+        >>> store = Store({'User::"alice"': ['Group::"staff"'], 'Group::"staff"': ['Group::"all"']})
+        >>> print(store.would_change(remove=['Group::"staff"']))
+        - Group::"staff"
+        -   parent Group::"all"
+          User::"alice"
+        -   parent Group::"staff"
+        -   ancestor Group::"all"
+        """
+        with self._group.lock, self.copy() as edited:
+            if add is not None:
+                edited.add(add, mode)
+            if upsert is not None:
+                edited.upsert(upsert, mode)
+            if remove is not None:
+                edited.remove(remove, mode)
+            return self.diff(edited)
 
     def entity_text(self, uid: str) -> str:
         """Returns the text of an entity, for display: its uid, its attributes and its ancestors.

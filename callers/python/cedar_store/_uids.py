@@ -125,3 +125,12 @@ def unchecked_uids(texts: Iterable[str]) -> List[EntityUid]:
     """Returns texts that the library wrote as `EntityUid`s, without a check."""
     new, uid_type = str.__new__, EntityUid
     return [new(uid_type, text) for text in texts]
+
+
+def order_key(uid: EntityUid) -> Tuple[str, List[str], str]:
+    """Returns a key by which uids sort as in the library: by the last part of their types, by the parts before it, and
+    by id.
+    """
+    type_name, id = uid.parts
+    *path, last = type_name.split("::")
+    return last, path, id

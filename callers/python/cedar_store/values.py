@@ -371,23 +371,32 @@ class Encoder:
         """Returns the fields of the nodes of an expression, from the last to the first."""
         fields: List[int] = []
         pending: List[Expr] = [root]
+        known_span, new_span = self._spans.get, self.span
         while pending:
             expr = pending.pop()
             kind = type(expr)
-            if kind is Lit:
-                fields += self._literal_fields(expr._data[1])
-                continue
-            operator = _OPERATOR_KINDS.get(kind)
-            if operator is not None:
-                fields += (0, 0, 0, 0, operator)
+            if kind in _OPERATOR_FIELDS:
+                fields += _OPERATOR_FIELDS[kind]
+                pending += expr.operands
+            elif kind is Lit:
+                literal_kind, literal = expr._data
+                if literal_kind is EntityUid:
+                    start, end = known_span(literal) or new_span(literal)
+                    fields += (0, end, start, 0, _UID)
+                elif literal_kind is int and _LEAST <= literal <= _MOST:
+                    fields += (literal, 0, 0, 0, _LONG)
+                else:
+                    fields += self._literal_fields(literal)
+            elif kind is Var:
+                fields += _VAR_FIELDS[expr._data[0]]
             else:
                 fields += self._other_fields(expr)
-            pending += expr.operands
+                pending += expr.operands
         return fields
 
     def _other_fields(self, expr: Expr) -> Tuple[int, int, int, int, int]:
-        if isinstance(expr, (Var, Slot)):
-            return expr.number, 0, 0, 0, _VAR if isinstance(expr, Var) else _SLOT
+        if isinstance(expr, Slot):
+            return expr.number, 0, 0, 0, _SLOT
         if isinstance(expr, SetOf):
             return 0, 0, 0, len(expr.operands), _SET
         if isinstance(expr, UnknownExpr):
@@ -413,6 +422,9 @@ def fields_of(instance: Any) -> Dict[str, Any]:
 
 
 _OPERATOR_KINDS: Dict[Type[Expr], int] = {Not: _NOT, And: _AND, Eq: _EQ, In: _IN}
+# The fields of the nodes of operators and variables, which are the same in each expression.
+_OPERATOR_FIELDS = {kind: (0, 0, 0, 0, operator) for kind, operator in _OPERATOR_KINDS.items()}
+_VAR_FIELDS = {name: (number, 0, 0, 0, _VAR) for number, name in enumerate(Var._names)}
 
 
 def _checked_key(key: object) -> str:

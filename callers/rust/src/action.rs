@@ -1,12 +1,11 @@
 //! Constraints on the action of a request: any action, one uid, a list of uids, or the action's slot.
+use crate::by_key::compare_by_key;
 use crate::expr::Expr;
 use crate::invalid::{ActionTypesError, NonEmpty};
 use crate::name::Loc;
 use crate::slots::{SlotId, Var};
 use crate::uid::{EntityType, EntityUID};
-use std::cmp::Ordering;
 use std::fmt;
-use std::hash::{Hash, Hasher};
 use std::slice;
 use std::sync::Arc;
 
@@ -169,31 +168,7 @@ impl ActionConstraint {
     }
 }
 
-impl PartialEq for ActionConstraint {
-    fn eq(&self, other: &ActionConstraint) -> bool {
-        self.key() == other.key()
-    }
-}
-
-impl Eq for ActionConstraint {}
-
-impl PartialOrd for ActionConstraint {
-    fn partial_cmp(&self, other: &ActionConstraint) -> Option<Ordering> {
-        Some(self.cmp(other))
-    }
-}
-
-impl Ord for ActionConstraint {
-    fn cmp(&self, other: &ActionConstraint) -> Ordering {
-        self.key().cmp(&other.key())
-    }
-}
-
-impl Hash for ActionConstraint {
-    fn hash<H: Hasher>(&self, state: &mut H) {
-        self.key().hash(state);
-    }
-}
+compare_by_key!(ActionConstraint);
 
 impl fmt::Display for ActionConstraint {
     fn fmt(&self, f: &mut fmt::Formatter<'_>) -> fmt::Result {

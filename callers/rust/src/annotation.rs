@@ -1,9 +1,8 @@
 //! Annotations of policies and templates: keys with texts that do not affect any decision.
+use crate::by_key::compare_by_key;
 use crate::name::{escaped, AnyId, Loc};
-use std::cmp::Ordering;
 use std::collections::{btree_map, BTreeMap};
 use std::fmt;
-use std::hash::{Hash, Hasher};
 
 /// The value of an annotation: a text and an optional location. Comparisons ignore the location.
 #[derive(Clone, Debug, Default)]
@@ -28,31 +27,14 @@ impl AsRef<str> for Annotation {
     }
 }
 
-impl PartialEq for Annotation {
-    fn eq(&self, other: &Annotation) -> bool {
-        self.val == other.val
+impl Annotation {
+    // Returns the comparison key.
+    fn key(&self) -> &str {
+        &self.val
     }
 }
 
-impl Eq for Annotation {}
-
-impl PartialOrd for Annotation {
-    fn partial_cmp(&self, other: &Annotation) -> Option<Ordering> {
-        Some(self.cmp(other))
-    }
-}
-
-impl Ord for Annotation {
-    fn cmp(&self, other: &Annotation) -> Ordering {
-        self.val.cmp(&other.val)
-    }
-}
-
-impl Hash for Annotation {
-    fn hash<H: Hasher>(&self, state: &mut H) {
-        self.val.hash(state);
-    }
-}
+compare_by_key!(Annotation);
 
 impl fmt::Display for Annotation {
     fn fmt(&self, f: &mut fmt::Formatter<'_>) -> fmt::Result {

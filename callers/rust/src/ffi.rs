@@ -1,5 +1,5 @@
 //! The declarations of the functions of `cedar.h`, and handles with safe calls. All unsafe code of this crate is in
-//! this file and in `ffi/deep_copy.rs`. It keeps the rules of the header as follows:
+//! this file and in the folder `ffi`. It keeps the rules of the header as follows:
 //!
 //! - A handle starts as zeroes, and only the library writes its bytes. It is not copied. Because it contains a pointer,
 //!   it is neither sent to another thread nor shared with one, except in a [`DeepCopyHandle`]. The library does not
@@ -13,6 +13,7 @@
 //!   are compared first.
 mod deep_copy;
 mod numbers;
+mod queries;
 
 use crate::body_lists::{AnnotationSpans, BodyLists, Head};
 use crate::key::Key;
@@ -49,23 +50,25 @@ declare!(CopyFn(from: *mut Handle, to: *mut Handle) -> u32: cedar_store_copy ced
 declare!(EqualFn(one: *mut Handle, other: *mut Handle, result: *mut bool) -> u32:
     cedar_store_equal cedar_policies_equal);
 declare!(ResultTextFn(s: *mut Handle, from: usize, out: *mut u8, capacity: usize) -> usize:
-    cedar_store_answer cedar_policies_answer);
+    cedar_store_result cedar_policies_result);
 declare!(SpansFn(s: *mut Handle, from: usize, out: *mut Span, capacity: usize) -> usize:
-    cedar_store_answer_spans cedar_policies_answer_spans);
+    cedar_store_result_spans cedar_policies_result_spans);
 declare!(ErrorTextFn(s: *mut Handle, out: *mut u8, capacity: usize) -> usize:
-    cedar_store_refusal cedar_policies_refusal);
+    cedar_store_error_text cedar_policies_error_text);
 declare!(NodesFn(s: *mut Handle, from: usize, out: *mut Node, capacity: usize) -> usize:
-    cedar_store_answer_nodes cedar_policies_answer_nodes);
+    cedar_store_result_nodes cedar_policies_result_nodes);
 declare!(HandleFn(s: *mut Handle) -> u32:
     cedar_store_uids cedar_store_text cedar_store_partial cedar_store_validate
     cedar_policies_text cedar_policies_validate);
 declare!(TextFn(s: *mut Handle, text: *const u8, len: usize) -> u32:
     cedar_store_ancestors cedar_store_parents cedar_store_indirect_ancestors
-    cedar_store_keys cedar_store_tag_keys cedar_store_entity_text
+    cedar_store_descendants cedar_store_keys cedar_store_tag_keys cedar_store_entity_text
     cedar_policies_unlink cedar_policies_remove_static cedar_policies_remove_template
     cedar_policies_annotations cedar_policies_env cedar_policies_template_id cedar_policies_linked
     cedar_policies_policy_text cedar_policies_template_text cedar_policies_condition
-    cedar_policies_unknown_entities);
+    cedar_policies_unknown_entities cedar_policies_naming cedar_policies_templates_naming);
+declare!((s: *mut Handle, uid: *const u8, len: usize, ty: *const u8, ty_len: usize) -> u32:
+    cedar_store_descendants_of_type);
 declare!(NumberFn(s: *mut Handle, text: *const u8, len: usize, number: *mut u32) -> u32:
     cedar_store_entity cedar_policies_get cedar_policies_effect cedar_policies_slots);
 declare!(BoolFn(s: *mut Handle, text: *const u8, len: usize, result: *mut bool) -> u32:
@@ -76,7 +79,7 @@ declare!(PairBoolFn(
     s: *mut Handle, first: *const u8, first_len: usize, second: *const u8, second_len: usize, result: *mut bool
 ) -> u32:
     cedar_store_is_descendant_of cedar_store_is_child_of cedar_store_is_indirect_descendant_of
-    cedar_store_get cedar_store_get_tag cedar_policies_annotation);
+    cedar_store_path cedar_store_reaches cedar_store_get cedar_store_get_tag cedar_policies_annotation);
 declare!(EditFn(
     s: *mut Handle, text: *const u8, text_len: usize, uids: *const Span, uids_len: usize, count: usize,
     edges: *const Edge, edges_len: usize, mode: u32
@@ -259,10 +262,10 @@ impl Kind for Stores {
         copy: cedar_store_copy,
         deep_copy: cedar_store_deep_copy,
         equal: cedar_store_equal,
-        result_text: cedar_store_answer,
-        spans: cedar_store_answer_spans,
-        nodes: cedar_store_answer_nodes,
-        error_text: cedar_store_refusal,
+        result_text: cedar_store_result,
+        spans: cedar_store_result_spans,
+        nodes: cedar_store_result_nodes,
+        error_text: cedar_store_error_text,
     };
 }
 
@@ -276,10 +279,10 @@ impl Kind for Sets {
         copy: cedar_policies_copy,
         deep_copy: cedar_policies_deep_copy,
         equal: cedar_policies_equal,
-        result_text: cedar_policies_answer,
-        spans: cedar_policies_answer_spans,
-        nodes: cedar_policies_answer_nodes,
-        error_text: cedar_policies_refusal,
+        result_text: cedar_policies_result,
+        spans: cedar_policies_result_spans,
+        nodes: cedar_policies_result_nodes,
+        error_text: cedar_policies_error_text,
     };
 }
 

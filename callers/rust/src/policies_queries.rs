@@ -26,7 +26,7 @@ pub enum Bound {
 
 impl PolicySet {
     // Returns the texts of the last result.
-    fn result_texts(&self, status: u32) -> Result<Vec<String>, Error> {
+    pub(crate) fn result_texts(&self, status: u32) -> Result<Vec<String>, Error> {
         self.check_status(status)?;
         Ok(self.handle.map_results(str::to_owned))
     }

@@ -60,6 +60,18 @@ impl PolicyID {
     }
 }
 
+impl From<&str> for PolicyID {
+    fn from(text: &str) -> PolicyID {
+        PolicyID::from_string(text)
+    }
+}
+
+impl From<String> for PolicyID {
+    fn from(text: String) -> PolicyID {
+        PolicyID { text }
+    }
+}
+
 impl AsRef<str> for PolicyID {
     fn as_ref(&self) -> &str {
         &self.text

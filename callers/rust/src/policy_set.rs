@@ -80,7 +80,7 @@ pub struct PolicySet {
     cache: OnceCell<SetCache>,
 }
 
-fn expect_allocated<T>(result: Result<T, Error>) -> T {
+pub(crate) fn expect_allocated<T>(result: Result<T, Error>) -> T {
     result.expect(MEMORY)
 }
 

@@ -1,11 +1,10 @@
 //! Constraints on the principal and the resource of a request.
+use crate::by_key::compare_by_key;
 use crate::expr::Expr;
 use crate::name::Loc;
 use crate::slots::{SlotId, Var};
 use crate::uid::{EntityType, EntityUID};
-use std::cmp::Ordering;
 use std::fmt;
-use std::hash::{Hash, Hasher};
 use std::sync::Arc;
 
 /// The entity to which a constraint refers: a uid, or the slot of its variable. In the order of references, every uid
@@ -54,31 +53,7 @@ impl EntityReference {
     }
 }
 
-impl PartialEq for EntityReference {
-    fn eq(&self, other: &EntityReference) -> bool {
-        self.key() == other.key()
-    }
-}
-
-impl Eq for EntityReference {}
-
-impl PartialOrd for EntityReference {
-    fn partial_cmp(&self, other: &EntityReference) -> Option<Ordering> {
-        Some(self.cmp(other))
-    }
-}
-
-impl Ord for EntityReference {
-    fn cmp(&self, other: &EntityReference) -> Ordering {
-        self.key().cmp(&other.key())
-    }
-}
-
-impl Hash for EntityReference {
-    fn hash<H: Hasher>(&self, state: &mut H) {
-        self.key().hash(state);
-    }
-}
+compare_by_key!(EntityReference);
 
 impl From<EntityUID> for EntityReference {
     fn from(uid: EntityUID) -> EntityReference {

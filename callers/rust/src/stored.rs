@@ -429,7 +429,7 @@ impl Entities {
     }
 
     // Returns the texts of the last result, as uids.
-    fn result_uids(&self, status: u32) -> Result<Vec<EntityUID>, Error> {
+    pub(crate) fn result_uids(&self, status: u32) -> Result<Vec<EntityUID>, Error> {
         self.check_status(status)?;
         Ok(self.handle.map_results(EntityUID::from_valid_text))
     }

@@ -264,6 +264,13 @@ impl PartialEq for EntityUID {
     }
 }
 
+// Lists of uids are compared with lists of borrowed uids.
+impl PartialEq<&EntityUID> for EntityUID {
+    fn eq(&self, other: &&EntityUID) -> bool {
+        self == *other
+    }
+}
+
 impl Eq for EntityUID {}
 
 impl Hash for EntityUID {

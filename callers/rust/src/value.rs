@@ -218,35 +218,24 @@ impl fmt::Display for PartialValue {
     }
 }
 
-impl From<bool> for Literal {
-    fn from(truth: bool) -> Literal {
-        Literal::Bool(truth)
-    }
+// Implements conversions into a type, each by a function.
+macro_rules! conversions {
+    ($target:ty: $($source:ty => $convert:expr;)*) => {
+        $(impl From<$source> for $target {
+            fn from(source: $source) -> $target {
+                $convert(source)
+            }
+        })*
+    };
 }
 
-impl From<i64> for Literal {
-    fn from(number: i64) -> Literal {
-        Literal::Long(number)
-    }
-}
-
-impl From<&str> for Literal {
-    fn from(text: &str) -> Literal {
-        Literal::String(text.into())
-    }
-}
-
-impl From<String> for Literal {
-    fn from(text: String) -> Literal {
-        Literal::String(text)
-    }
-}
-
-impl From<EntityUID> for Literal {
-    fn from(uid: EntityUID) -> Literal {
-        Literal::EntityUID(Arc::new(uid))
-    }
-}
+conversions!(Literal:
+    bool => Literal::Bool;
+    i64 => Literal::Long;
+    &str => |text: &str| Literal::String(text.into());
+    String => Literal::String;
+    EntityUID => |uid| Literal::EntityUID(Arc::new(uid));
+);
 
 impl<L: Into<Literal>> From<L> for Value {
     fn from(literal: L) -> Value {
@@ -260,14 +249,7 @@ impl From<ExtensionValue> for Value {
     }
 }
 
-impl From<Value> for PartialValue {
-    fn from(value: Value) -> PartialValue {
-        PartialValue::Value(value)
-    }
-}
-
-impl From<Expr> for PartialValue {
-    fn from(expr: Expr) -> PartialValue {
-        PartialValue::Residual(expr)
-    }
-}
+conversions!(PartialValue:
+    Value => PartialValue::Value;
+    Expr => PartialValue::Residual;
+);

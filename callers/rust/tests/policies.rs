@@ -123,14 +123,11 @@ fn check_cache(policy_set: &PolicySet) {
         policy_set.body_ids().unwrap(),
         policy_set.policy_ids().unwrap(),
     );
-    assert!(policy_set
-        .all_templates()
-        .map(|body| body.id().as_ref())
-        .eq(&bodies));
-    assert!(policy_set
-        .policies()
-        .map(|policy| policy.id().as_ref())
-        .eq(&policies));
+    assert_eq!(
+        ids(policy_set),
+        (bodies.join(" "), policies.join(" ")),
+        "the cached ids"
+    );
     assert_eq!(policy_set.is_empty(), bodies.is_empty());
     for id in &bodies {
         let body = policy_set.get_template(&short::id(id)).unwrap();

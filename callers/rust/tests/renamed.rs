@@ -40,3 +40,9 @@ mod policy;
 #[rustfmt::skip]
 #[path = "../../../rust/tests/policy_set.rs"]
 mod policy_set;
+#[rustfmt::skip]
+#[path = "../../../rust/tests/queries.rs"]
+mod queries;
+#[rustfmt::skip]
+#[path = "../../../rust/tests/naming.rs"]
+mod naming;
