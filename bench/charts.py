@@ -2,7 +2,7 @@
 """Measures the program of the package in Rust at several sizes, and draws the charts of docs/PERFORMANCE.md.
 
     python3 bench/charts.py measure    measures by bench/run, and writes the figures to bench/figures.txt
-                                       (cargo build --release in rust first)
+                                       (cargo build --release -F cli in rust first)
     python3 bench/charts.py            draws docs/chart-*.svg from bench/figures.txt and bench/original.txt
 
 A line of a file of figures has a kind of input, its size, million instructions and the peak memory in MB; `-` is a figure
