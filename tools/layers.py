@@ -47,7 +47,10 @@ def below(graph, name):
 
 def groups(graph):
     """Returns the crates of each group, in the order of crates.txt."""
-    entities, policies = below(graph, 'cedar_dry_run') | {'cedar_dry_run'}, below(graph, 'cedar_policy_set') | {'cedar_policy_set'}
+    tops = {'cedar_dry_run', 'cedar_queries', 'cedar_entity_diff'}
+    entities = tops.union(*(below(graph, name) for name in tops))
+    tops = {'cedar_naming', 'cedar_policy_diff'}
+    policies = tops.union(*(below(graph, name) for name in tops))
     base = (entities & policies) | {'cedar_keyed_hash', 'cedar_components', 'cedar_graph', 'cedar_uid_sets'}
 
     def group(name):

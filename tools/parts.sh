@@ -44,6 +44,17 @@ part() {
     fi
 }
 
+# Runs a part that needs a tool, or skips it if the tool is missing. Arguments: the tool, a title, then the command.
+part_with() {
+    local tool=$1
+    shift
+    if "$tool" --version > /dev/null 2>&1; then
+        part "$@"
+    else
+        skip "$1 ($tool is missing)"
+    fi
+}
+
 # Prints the sum as the last line and exits with the status for it.
 finish() {
     if [ "$skipped" -eq 0 ]; then

@@ -4,8 +4,8 @@
     tools/statuses.py            writes the copies
     tools/statuses.py --check    checks that they are current, and that the table agrees with the proved crates
 
-The copies are callers/c/cedar/status.h, callers/rust/src/reason.rs, callers/python/cedar_store/_statuses.py, and the
-list in callers/README.md. The last line of a check is `N passed, M failed`.
+The copies are callers/c/cedar/status.h, callers/rust/src/reason.rs and callers/python/cedar_store/_statuses.py. The last
+line of a check is `N passed, M failed`.
 """
 import re
 import sys
@@ -71,7 +71,7 @@ def c_header(statuses):
 
 /* The status that a call returns. An error whose comment says what its text names has a text. A handle stores the text
  * until its next error that has one. No other status changes the stored text, not even CEDAR_NO_MEMORY.
- * `cedar_store_refusal` and `cedar_policies_refusal` copy it, and `cedar_refusal_part` finds the names in it. */
+ * `cedar_store_error_text` and `cedar_policies_error_text` copy it, and `cedar_error_part` finds the names in it. */
 typedef enum cedar_status {{
 {enum}}} cedar_status;
 
@@ -202,25 +202,10 @@ for _status in STATUSES.values():
 '''
 
 
-def page_list(statuses):
-    """Returns the list for the page: the number, the name in C and the exception in Python."""
-    rows = ''.join(f'{one.number} CEDAR_{one.c_name} {one.python.partition(":")[0]}\n' for one in statuses[1:])
-    return f'```text\n{rows}```\n'
-
-
-PAGE, AFTER_HEADING = 'callers/README.md', '<!-- Written by tools/statuses.py. -->\n'
-
-
-def page(statuses):
-    """Returns the page with the current list."""
-    before, after = read(PAGE).split(AFTER_HEADING)
-    return before + AFTER_HEADING + page_list(statuses) + after.split('```\n', 1)[1]
-
-
 def copies(statuses):
     """Returns the copies by their paths."""
     return {'callers/c/cedar/status.h': c_header(statuses), 'callers/rust/src/reason.rs': rust_reasons(statuses),
-            'callers/python/cedar_store/_statuses.py': python_exceptions(statuses), PAGE: page(statuses)}
+            'callers/python/cedar_store/_statuses.py': python_exceptions(statuses)}
 
 
 def check(fault, is_valid):

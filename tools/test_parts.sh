@@ -32,6 +32,8 @@ check_sum "no part" "0 passed, 0 failed" 1 'true'
 check_sum "tests that are skipped" "2 passed, 0 failed, 3 skipped" 0 'part one echo "2 passed, 0 failed, 3 skipped"'
 check_sum "all tests skipped" "0 passed, 0 failed, 3 skipped" 1 'part one echo "0 passed, 0 failed, 3 skipped"'
 check_sum "a part that was skipped" "2 passed, 0 failed, 1 skipped" 0 'part one echo "2 passed, 0 failed"; skip "two"'
+check_sum "a part whose tool is missing" "2 passed, 0 failed, 1 skipped" 0 'part one echo "2 passed, 0 failed"; part_with not_there two echo "3 passed, 0 failed"'
+check_sum "a part whose tool is there" "2 passed, 1 failed" 1 'part_with bash one echo "2 passed, 1 failed"'
 check_sum "a part that was not run" "2 passed, 1 failed" 1 'part one echo "2 passed, 0 failed"; fail "two was not run"'
 echo "$passed passed, $failed failed"
 [ "$failed" -eq 0 ]
