@@ -15,6 +15,9 @@ import psycopg
 _TABLES = ("entities", "parents", "policies", "texts", "changes")
 _LOCK = 0x6D6F7665  # "move"
 _WAIT_SECONDS = 0.02
+# A server notices only after some time that a client was killed, or that a subscription was disabled.
+_LOCK_SECONDS = 10.0
+_SLOT_SECONDS = 60.0
 # The target is this near when the fence is closed, in bytes of the log.
 _NEAR_BYTES = 100_000
 
@@ -48,12 +51,21 @@ class Moved(NamedTuple):
 
 
 class Move:
-    """A move of one tenant. `after` is called after each step with its name."""
+    """A move of one tenant. `after` is called after each step with its name.
+
+    A call waits for another move to end, for `lock_seconds` at most.
+    """
 
     def __init__(
-        self, directory: str, tenant: int, target: str, after: Callable[[str], None] = lambda _: None
+        self,
+        directory: str,
+        tenant: int,
+        target: str,
+        after: Callable[[str], None] = lambda _: None,
+        lock_seconds: float = _LOCK_SECONDS,
     ) -> None:
         self._directory_dsn, self.tenant, self.target, self._after = directory, int(tenant), target, after
+        self._lock_seconds = lock_seconds
         self.name = f"cedar_move_{self.tenant}"
         self._fenced_at = self._rejected = 0.0
 
@@ -90,8 +102,7 @@ class Move:
         """Connects to the three databases, and holds the lock of moves."""
         with contextlib.ExitStack() as stack:
             self.directory = stack.enter_context(psycopg.connect(self._directory_dsn, autocommit=True))
-            if not self._value(self.directory, "SELECT pg_try_advisory_lock(%s)", _LOCK):
-                raise MoveError("another move is running: one at a time")
+            self._lock()
             source = self._value(
                 self.directory,
                 "SELECT coalesce((SELECT source FROM cedar.moves WHERE tenant = %s), "
@@ -110,6 +121,14 @@ class Move:
                 if not self._value(connection, "SELECT rolsuper FROM pg_roles WHERE rolname = current_user"):
                     raise MoveError("a move needs connection strings of superusers in cedar.servers")
             yield
+
+    def _lock(self) -> None:
+        """Takes the lock of moves, which ends with the connection."""
+        deadline = time.monotonic() + self._lock_seconds
+        while not self._value(self.directory, "SELECT pg_try_advisory_lock(%s)", _LOCK):
+            if time.monotonic() > deadline:
+                raise MoveError("another move is running: one at a time")
+            time.sleep(_WAIT_SECONDS)
 
     def _admin(self, server: str) -> str:
         dsn = self._value(self.directory, "SELECT admin FROM cedar.servers WHERE server = %s", server)
@@ -292,7 +311,7 @@ class Move:
             self.copy.execute(f"ALTER SUBSCRIPTION {self.name} DISABLE".encode())
             self.copy.execute(f"ALTER SUBSCRIPTION {self.name} SET (slot_name = NONE)".encode())
             self.copy.execute(f"DROP SUBSCRIPTION {self.name}".encode())
-        deadline = time.monotonic() + 10
+        deadline = time.monotonic() + _SLOT_SECONDS
         while self._value(self.source, "SELECT true FROM pg_replication_slots WHERE slot_name = %s", self.name):
             with contextlib.suppress(psycopg.errors.ObjectInUse):
                 self._drop_slot()

@@ -23,8 +23,11 @@ class DatabaseTest(unittest.IsolatedAsyncioTestCase):
         self.database = await self.open()
 
     async def open(self, **options: Any) -> Database:
-        """Opens the database of this test once more. The test closes it at its end."""
-        database = await Database(self.dsn, **options).open()
+        """Opens the database of this test once more. The test closes it at its end.
+
+        It waits long enough for a server on a busy machine.
+        """
+        database = await Database(self.dsn, **{"statement_seconds": 30.0, "patience_seconds": 30.0, **options}).open()
         self.addAsyncCleanup(database.close)
         return database
 

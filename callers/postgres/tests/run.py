@@ -17,10 +17,16 @@ import signal
 import sys
 import time
 import unittest
+from typing import Any
 
 HERE = os.path.dirname(os.path.abspath(__file__))
 CALLERS = os.path.dirname(os.path.dirname(HERE))
 sys.path[:0] = [HERE, os.path.dirname(HERE), os.path.join(CALLERS, "python")]
+
+from limits import TooSlow
+
+# A test that misses a time limit is run again, because the machine may have been busy.
+ATTEMPTS = 3
 
 
 def missing_requirement() -> str:
@@ -39,9 +45,19 @@ def missing_requirement() -> str:
 
 
 class TimedResult(unittest.TextTestResult):
-    """A test result that prints the duration of each test and counts the passed tests."""
+    """A test result that prints the duration of each test, and that counts the passed and names the slow tests."""
 
-    passed = 0
+    def __init__(self, *arguments: Any) -> None:
+        super().__init__(*arguments)
+        self.passed = 0
+        self.slow: list[str] = []
+
+    def addFailure(self, test: unittest.TestCase, error: Any) -> None:
+        if isinstance(error[1], TooSlow):
+            self.slow.append(test.id())
+            self.stream.writeln(f"too slow: {error[1]}")
+        else:
+            super().addFailure(test, error)
 
     def addSuccess(self, test: unittest.TestCase) -> None:
         self.passed += 1
@@ -73,15 +89,21 @@ def main(arguments: list[str]) -> int:
     logging.getLogger("asyncio").setLevel(logging.ERROR)  # it reports slow steps
     logging.getLogger("psycopg.pool").setLevel(logging.CRITICAL)  # it reports each connection that a test cuts
     signal.signal(signal.SIGTERM, signal.default_int_handler)  # so that the servers are stopped
-    tests = unittest.defaultTestLoader.loadTestsFromNames(names)
-    result = unittest.TextTestRunner(stream=output, verbosity=2, resultclass=TimedResult).run(tests)
-    failed = len(result.failures) + len(result.errors)
+    passed, failed, skipped = 0, 0, list[Any]()
+    for _ in range(ATTEMPTS):
+        tests = unittest.defaultTestLoader.loadTestsFromNames(names)
+        result: Any = unittest.TextTestRunner(stream=output, verbosity=2, resultclass=TimedResult).run(tests)
+        passed, failed = passed + result.passed, failed + len(result.failures) + len(result.errors)
+        skipped += result.skipped
+        names = result.slow
+        if not names:
+            break
+    failed += len(names)
     if failed or os.environ.get("CEDAR_VERBOSE"):
         print(output.getvalue())
-    for test, reason in result.skipped:
+    for test, reason in skipped:
         print(f"{reason}: NOT RUN: {test.id()}")
-    skipped = f", {len(result.skipped)} skipped" if result.skipped else ""
-    print(f"{result.passed} passed, {failed} failed{skipped}")
+    print(f"{passed} passed, {failed} failed{f', {len(skipped)} skipped' if skipped else ''}")
     return failed != 0
 
 

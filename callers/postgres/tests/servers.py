@@ -85,7 +85,7 @@ class Server:
             raise RuntimeError(f"{program} failed with exit status {result.returncode}: {result.stdout}")
 
     def _control(self, *arguments: str) -> None:
-        self._run("pg_ctl", "-D", self.folder + "/data", "-s", "-w", "-t", "60", *arguments)
+        self._run("pg_ctl", "-D", self.folder + "/data", "-s", "-w", "-t", "300", *arguments)
 
     def start(self) -> None:
         """Starts the server, and waits until it accepts connections."""

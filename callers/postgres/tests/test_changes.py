@@ -11,6 +11,7 @@ import psycopg
 from cedar_postgres import Applied, Conflict, Database, Draft, NoTenant, Retry
 from cedar_store import Constraint, Effect, Entity, EntityUid, Mode, Policies, Store
 from helpers import DatabaseTest, reason_by, reason_of
+from limits import assert_within
 
 NAMES = [EntityUid(f'A::"{name}"') for name in "abcdefgh"]
 
@@ -290,8 +291,9 @@ class Administrators(DatabaseTest):
             connection.execute("SELECT set_config('cedar.tenant', '1', true)")
             connection.execute("SELECT FROM cedar.tenants WHERE tenant = 1 FOR UPDATE")
             await self.database.change(2, lambda draft: draft.add_static("p"))
+            impatient = await self.open(patience_seconds=3)
             with self.assertRaises(Retry):
-                await self.database.change(1, lambda draft: draft.add_static("p"))
+                await impatient.change(1, lambda draft: draft.add_static("p"))
         self.assertEqual((await self.database.change(1, lambda draft: draft.add_static("p"))).token, 2)
 
 
@@ -304,7 +306,7 @@ class Costs(DatabaseTest):
             start = time.process_time()
             await self.database.change(1, lambda draft: draft.add_static(f"n{number}"))
             durations.append(time.process_time() - start)
-        self.assertLess(sorted(durations)[10], 0.02)
+        assert_within(0.02, sorted(durations)[10])
         administrators = [await self.open() for _ in range(4)]
         for database in administrators:
             await database.view(1)
@@ -321,7 +323,7 @@ class Costs(DatabaseTest):
             f"administrators took {seconds:.2f} s, and {processor:.2f} s of processor of this process"
         )
         # By the clock it depends on the other work of the machine.
-        self.assertLess(processor, 1)
+        assert_within(1, processor)
         view = await (await self.open()).view(1)
         self.assertEqual(len(view.policies.bodies()), 20060)
 
@@ -339,4 +341,4 @@ class Costs(DatabaseTest):
             durations.append(time.process_time() - start)
             self.assertEqual((await self.database.view(1, token=token)).ancestors(edited.uid), [groups[99]])
         print(f"10,000 entities: the change of one takes {sorted(durations)[10] * 1e3:.1f} ms of processor")
-        self.assertLess(sorted(durations)[10], 0.02)
+        assert_within(0.02, sorted(durations)[10])

@@ -126,7 +126,7 @@ class ClusterTest(unittest.IsolatedAsyncioTestCase):
         self.assertEqual(await self.cluster._read_place(self.tenant), server)
         other = "b" if server == "a" else "a"
         self.assertEqual(set(self.rows(other, self.tenant).values()), {0})
-        async with Cluster(self.directory) as cluster:
+        async with Cluster(self.directory, patience_seconds=30) as cluster:
             view = await cluster.view(self.tenant)
             self.assertTrue(view.store == self.store)
             self.assertTrue(view.policies == self.policies)
@@ -179,7 +179,7 @@ class Moves(ClusterTest):
         for writer in writers:
             writer.is_stopped = True
         await asyncio.gather(*tasks)
-        async with Cluster(self.directory) as cluster:
+        async with Cluster(self.directory, patience_seconds=30) as cluster:
             view = await cluster.view(self.tenant)
             lost = [
                 user
@@ -260,7 +260,7 @@ class Moves(ClusterTest):
         await started.wait()
         for target in ("a", "b"):
             with self.assertRaisesRegex(MoveError, "another move is running"):
-                await asyncio.to_thread(Move(self.admin_directory, self.tenant, target).run)
+                await asyncio.to_thread(Move(self.admin_directory, self.tenant, target, lock_seconds=0.2).run)
         go_on.set()
         await first
         await self.check_contents("b")

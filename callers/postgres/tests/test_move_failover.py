@@ -41,7 +41,7 @@ class MoveFailover(StackTest):
                 killed.append(done)
                 leader.stop()
 
-        begun, deadline = 0, time.monotonic() + 180
+        begun, deadline = 0, time.monotonic() + 300
         while True:
             begun += 1
             try:
@@ -51,7 +51,7 @@ class MoveFailover(StackTest):
                 self.assertLess(time.monotonic(), deadline, "the move does not go on")
                 time.sleep(1)
         self.assertEqual(killed, [step])
-        stack.wait_until(lambda: group.node_as("leader") is not leader, 90, "a new primary")
+        stack.wait_until(lambda: group.node_as("leader") is not leader, 180, "a new primary")
         leader.start()
         group.wait_for_replica()
         return begun

@@ -19,6 +19,7 @@ from cedar_postgres.errors import database_error
 from cedar_postgres.pool import Pool, single_hosts
 from cedar_store import Entity, EntityUid
 from helpers import DatabaseTest
+from limits import assert_within
 from proxy import Proxy
 from servers import Server, shared_server
 
@@ -78,7 +79,7 @@ class Errors(DatabaseTest):
 
     async def test_more_callers_than_connections(self) -> None:
         """Callers wait for a connection. If none is returned in time, the error says that."""
-        pool = Pool(self.dsn, size=2, wait_seconds=0.3)
+        pool = Pool(self.dsn, size=2, wait_seconds=3)
         await pool.open()
         self.addAsyncCleanup(pool.close)
         await asyncio.gather(*(pool.run("SELECT pg_sleep(0.01)") for _ in range(20)))
@@ -126,7 +127,7 @@ class LostAnswers(DatabaseTest):
             start = time.monotonic()
             database.cache.drop(1)
             await database.view(1)
-            self.assertLess(time.monotonic() - start, 1)
+            assert_within(1, time.monotonic() - start)
 
     async def test_a_silent_server_does_not_hold_its_callers(self) -> None:
         database = await self._open_over_proxy(statement_seconds=0.5, patience_seconds=1)
@@ -137,7 +138,7 @@ class LostAnswers(DatabaseTest):
             start = time.monotonic()
             with self.assertRaises(Unavailable):
                 await call()
-            self.assertLess(time.monotonic() - start, 8)
+            assert_within(8, time.monotonic() - start)
         self.proxy.is_silent = False
         self.proxy.cut()
         applied = await database.change(1, lambda draft: draft.add_static("q"))
@@ -171,7 +172,7 @@ class Servers(unittest.IsolatedAsyncioTestCase):
                 number += 1
 
         async def until_acknowledged(count: int) -> None:
-            deadline = time.monotonic() + 60
+            deadline = time.monotonic() + 180
             while len(acknowledged) < count:
                 self.assertLess(time.monotonic(), deadline, "the changes do not go on")
                 await asyncio.sleep(0.05)
@@ -205,7 +206,7 @@ class Servers(unittest.IsolatedAsyncioTestCase):
             start = time.monotonic()
             with self.assertRaises(Unavailable):
                 await database.change(1, lambda draft: draft.add_static("p"))
-            self.assertLess(time.monotonic() - start, 8)
+            assert_within(8, time.monotonic() - start)
         finally:
             for pid in pids:
                 os.kill(pid, signal.SIGCONT)
@@ -280,7 +281,7 @@ class Pooler(DatabaseTest):
         self.addCleanup(process.wait)
         self.addCleanup(process.kill)
         self.pooled_dsn = self.dsn.replace(shared_server().folder, folder)
-        deadline = time.monotonic() + 10
+        deadline = time.monotonic() + 120
         while time.monotonic() < deadline:
             with contextlib.suppress(psycopg.Error), psycopg.connect(self.pooled_dsn):
                 return

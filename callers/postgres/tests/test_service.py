@@ -20,7 +20,9 @@ from typing import Any, Iterator, Optional
 
 from cedar_postgres import Database
 from cedar_store import Entity, EntityUid, Store
+from limits import TooSlow, assert_within
 from servers import Server
+from stack_test import stack
 
 HERE = os.path.dirname(os.path.abspath(__file__))
 SERVICE = os.path.join(os.path.dirname(HERE), "example", "service.py")
@@ -76,9 +78,7 @@ class Service(unittest.TestCase):
     @classmethod
     def start(cls) -> tuple[subprocess.Popen[bytes], int]:
         """Starts a process of the service. Returns it and its port."""
-        with socket.socket() as free:
-            free.bind(("127.0.0.1", 0))
-            port = free.getsockname()[1]
+        (port,) = stack.free_ports(1)
         environment = {
             **os.environ,
             "PYTHONPATH": os.pathsep.join(folder for folder in sys.path if folder),
@@ -98,10 +98,10 @@ class Service(unittest.TestCase):
     @staticmethod
     def stop(process: subprocess.Popen[bytes]) -> int:
         process.terminate()
-        return process.wait(20)
+        return process.wait(120)
 
     def setUp(self) -> None:
-        self.client = http.client.HTTPConnection("127.0.0.1", self.port, timeout=30)
+        self.client = http.client.HTTPConnection("127.0.0.1", self.port, timeout=120)
         self.addCleanup(self.client.close)
         self.last_response_at = 0.0
         self.assertIn(self.request("PUT", "/tenants/1")[0], (200, 201))
@@ -233,11 +233,11 @@ class Responses(Service):
 
 
 class Hostile(Service):
-    def _send(self, text: str) -> bytes:
+    def _send(self, text: str, quiet_seconds: float = 0.5) -> bytes:
         """Sends bytes, and returns what the service sends back before it is quiet."""
         received = b""
-        with contextlib.suppress(OSError), socket.create_connection(("127.0.0.1", self.port), 2) as client:
-            client.settimeout(0.5)
+        with contextlib.suppress(OSError), socket.create_connection(("127.0.0.1", self.port), 60) as client:
+            client.settimeout(quiet_seconds)
             client.sendall(text.encode())
             while part := client.recv(65536):
                 received += part
@@ -258,7 +258,7 @@ class Hostile(Service):
     def test_a_hidden_request_in_the_open_runs(self) -> None:
         """The same DELETE, sent as a request of its own, has an effect: so the test above can fail."""
         self.request("PUT", "/tenants/1/entities", [{"uid": 'Victim::"1"'}])
-        self.assertRegex(self._send(HIDDEN), rb"^HTTP/1.1 200")
+        self.assertRegex(self._send(HIDDEN, quiet_seconds=10), rb"^HTTP/1.1 200")
         self.assertEqual(
             self.server.sql(
                 "SELECT uid FROM cedar.entities WHERE uid = 'Victim::\"1\"'", dsn=self.server.owner_dsn("tenants")
@@ -269,7 +269,7 @@ class Hostile(Service):
     def _seconds_until_end(self, parts: Iterator[bytes]) -> float:
         """Sends parts with pauses. Returns how long the service keeps the connection."""
         start = time.monotonic()
-        with socket.create_connection(("127.0.0.1", self.port), 2) as client:
+        with socket.create_connection(("127.0.0.1", self.port), 60) as client:
             client.settimeout(0.2)
             with contextlib.suppress(ConnectionError):
                 while time.monotonic() < start + 15:
@@ -284,12 +284,12 @@ class Hostile(Service):
         body = (part for part in [(HEAD + "Content-Length: 1000\r\n\r\n").encode(), *[b" "] * 99])
         second = (part for part in [(QUERY + "\r\n").encode(), *[b"G"] * 99])
         for parts in (head, body, second, iter(())):
-            self.assertLess(self._seconds_until_end(parts), 12)
+            assert_within(12, self._seconds_until_end(parts))
 
     def test_a_client_that_disconnects_leaves_the_service_working(self) -> None:
         body = json.dumps([{"uid": uid(f"d{number}")} for number in range(3000)])
         for cut in (20, 60, 200, len(body)):
-            with socket.create_connection(("127.0.0.1", self.port), 2) as client:
+            with socket.create_connection(("127.0.0.1", self.port), 60) as client:
                 client.sendall((HEAD + f"Content-Length: {len(body)}\r\n\r\n{body}").encode()[: cut + 60])
         self.assertEqual(self.request("PUT", "/tenants/1/policies/after", {"effect": "permit"})[0], 200)
 
@@ -312,21 +312,24 @@ class Faults(Service):
             self.assertEqual(self.request("GET", "/healthz")[0], 200)
         finally:
             self.server.start()
-        deadline = time.monotonic() + 10
+        deadline = time.monotonic() + 120
         while self.query(a, a, token=token)[0] != 200 and time.monotonic() < deadline:
             time.sleep(0.1)
         self.assertEqual(self.query(a, a, token=token), (200, False))
 
     def test_a_stop_finishes_the_requests_that_have_begun(self) -> None:
         process, port = self.start()
-        with socket.create_connection(("127.0.0.1", port), 2) as client:
+        with socket.create_connection(("127.0.0.1", port), 60) as client:
             body = json.dumps([{"uid": uid(f"s{number}")} for number in range(5000)])
             client.sendall((HEAD + f"Content-Length: {len(body)}\r\n\r\n{body}").encode())
             time.sleep(0.15)
             process.send_signal(signal.SIGTERM)
-            client.settimeout(20)
-            self.assertRegex(client.recv(1000), rb"^HTTP/1.1 200")
-        self.assertEqual(process.wait(20), 0)
+            client.settimeout(120)
+            received = client.recv(1000)
+            if not received:
+                raise TooSlow("the request had not begun")
+            self.assertRegex(received, rb"^HTTP/1.1 200")
+        self.assertEqual(process.wait(120), 0)
         self.assertEqual(self.query(uid("s1"), uid("s1"))[0], 200)
 
     def test_the_database_names_nothing_of_another_service(self) -> None:
