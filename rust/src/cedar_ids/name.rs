@@ -5,6 +5,7 @@
 use crate::cedar_ids::err::ParseErrors;
 use crate::cedar_ids::id::Id;
 use crate::cedar_ids::loc::Loc;
+use crate::handwritten::name_path::NamePath;
 use std::cmp::Ordering;
 use std::fmt;
 use std::hash::{Hash, Hasher};
@@ -18,7 +19,7 @@ use std::sync::Arc;
 /// components separated by `::`.
 #[derive(Clone, Debug)]
 pub struct Name {
-    path: Arc<Vec<Id>>,
+    path: NamePath,
     basename: Id,
     loc: Option<Loc>,
 }
@@ -42,7 +43,7 @@ pub(crate) fn read_name(text: &str, loc: Option<Loc>) -> Result<Name, ParseError
         rest = back;
     }
     let basename = Id::from_normalized_str(rest).map_err(|error| error.after(text.len() - rest.len()))?;
-    let path = Arc::new(path);
+    let path = NamePath::from(path);
     Ok(Name { path, basename, loc })
 }
 
@@ -75,7 +76,7 @@ impl Name {
     /// ```
     pub fn parse_unqualified_name(text: &str) -> Result<Self, ParseErrors> {
         let basename = Id::from_normalized_str(text)?;
-        let path = Arc::new(Vec::new());
+        let path = NamePath::default();
         Ok(Self {
             path,
             basename,
@@ -159,7 +160,7 @@ impl Name {
             return self.clone();
         }
         let path = namespace.components();
-        let path = Arc::new(path);
+        let path = NamePath::from(path);
         Self {
             path,
             basename: self.basename.clone(),
@@ -170,7 +171,7 @@ impl Name {
     // Returns all components: the path, followed by the basename.
     fn components(&self) -> Vec<Id> {
         let mut all = Vec::with_capacity(self.path.len() + 1);
-        for id in self.path.iter() {
+        for id in &*self.path {
             all.push(id.clone());
         }
         all.push(self.basename.clone());
@@ -210,7 +211,7 @@ impl Hash for Name {
 
 impl fmt::Display for Name {
     fn fmt(&self, f: &mut fmt::Formatter<'_>) -> fmt::Result {
-        for id in self.path.iter() {
+        for id in &*self.path {
             f.write_str(id.as_ref())?;
             f.write_str("::")?;
         }

@@ -10,6 +10,7 @@ pub(crate) mod line_feed;
 pub(crate) mod linked_map;
 #[cfg(test)]
 mod linked_map_tests;
+pub(crate) mod name_path;
 mod naming;
 pub(crate) mod node_map;
 pub(crate) mod ordered_map;
