@@ -6,7 +6,7 @@ ghost use Rattle.std.specs.Option.{option_map};
 ghost use Rattle.cedar_ids.specs.UidOf.{uid_parts};
 ghost use Rattle.cedar_lines.specs.Reads.{ReadsAs};
 ghost use Rattle.cedar_binding.specs.Views.{env_of};
-ghost use Rattle.cedar_policy_lines.specs.PolicyCommand.{IsPolicyCommand, Static, Template, Link, Other, Ids, bound_more};
+ghost use Rattle.cedar_policy_lines.specs.PolicyCommand.{IsPolicyCommand, Static, Template, Link, Unlink, Other, Ids, bound_more};
 ghost use Rattle.cedar_policy_lines.specs.CommandOf.{policy_command_of};
 ghost use Rattle.cedar_policy_lines.specs.laws.SlotFlagLaws.{is_named, named_alone, bound_if};
 ghost use Rattle.cedar_policy_lines.specs.laws.PolicyReading.{only, bindings_of, static_of, template_of, link_of};
@@ -99,7 +99,7 @@ impl LinkRoom {
 }
 
 // Returns the empty id. Does not allocate.
-fn no_id(alloc: Global) -> PolicyID {
+pub(crate) fn no_id(alloc: Global) -> PolicyID {
     PolicyID::from_smolstr(String::new(alloc))
 }
 
@@ -272,6 +272,22 @@ fn link_of(
     let template = mem::replace(&mut room.template, no_id(alloc));
     let values = mem::replace(&mut room.values, no_bindings(alloc));
     Ok(Some(PolicyCommand::Link(template, id, values)))
+}
+
+// Reads the fields after `unlink`, and sets `id` to the id. Returns whether they are a command.
+pub(crate) fn read_unlink(
+    alloc: Global,
+    id: &mut PolicyID,
+    fields: &[&str],
+) -> Result<bool, AllocError>
+    ensures { IfOk result (λ is_read. (if is_read then Some (Unlink id.new) else None)
+        ≡ unlink_of (map (λ f. f.now) fields.now)) }
+{
+    let Some(text) = only(fields) else {
+        return Ok(false);
+    };
+    set_id(alloc, id, text)?;
+    Ok(true)
 }
 
 // Reads the command `unlink`.

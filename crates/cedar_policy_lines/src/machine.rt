@@ -9,10 +9,12 @@ ghost use Rattle.cedar_policy_lines.specs.PolicyCommand.{Other as other_command,
 ghost use Rattle.cedar_policy_lines.specs.PolicyCommand.{IsPolicyCommand, Ids as ids_command};
 ghost use Rattle.cedar_policy_lines.specs.CommandOf.{policy_command_of};
 ghost use Rattle.cedar_policy_lines.specs.PolicyOutput.{PolicyWrites, RunsPolicyFields};
-ghost use Rattle.cedar_policy_lines.specs.laws.PolicyReading.{link_of, static_of, template_of};
+ghost use Rattle.cedar_policy_lines.specs.laws.PolicyReading.{link_of, static_of, template_of, unlink_of};
 ghost use Rattle.cedar_policy_lines.specs.laws.Machines.{TakesAs};
 
-use crate::command::{LinkRoom, PolicyCommand, read_static, read_template, read_with};
+use crate::command::{
+    LinkRoom, PolicyCommand, no_id, read_static, read_template, read_unlink, read_with,
+};
 use crate::field::TemplateSlots;
 use crate::making::{template, unconstrained};
 use crate::writing::{
@@ -36,13 +38,14 @@ use std::rc::Rc;
 /// # Differences from cedar-policy-core
 ///
 /// The original has no such type.
-// `room` is reused by all links. Its content between lines has no meaning. The bodies of all lines share `annotations`,
-// which is empty.
+// `room` is reused by all links, and `unlinked` by all commands `unlink`. Their content between lines has no meaning. The
+// bodies of all lines share `annotations`, which is empty.
 #[derive(Debug, Drop)]
 pub struct PolicySets<S: BuildHasher = BuildHasherDefault<FoldHasher>> {
     current: PolicySet<S>,
     aside: PolicySet<S>,
     room: LinkRoom,
+    unlinked: PolicyID,
     annotations: Option<Rc<Annotations>>,
 }
 
@@ -78,6 +81,7 @@ impl<S: BuildHasher + Copy> PolicySets<S> {
             current: PolicySet::with_hasher(alloc, hasher),
             aside: PolicySet::with_hasher(alloc, hasher),
             room: LinkRoom::new(alloc),
+            unlinked: no_id(alloc),
             annotations: None,
         }
     }
@@ -174,7 +178,7 @@ impl<S: BuildHasher + Copy> PolicySets<S> {
     }
 
     // Runs the fields after `static` if they are a command, and returns whether they are.
-    fn remove_static_by_id(
+    fn apply_static(
         &mut self,
         alloc: Global,
         fields: &[&str],
@@ -193,7 +197,7 @@ impl<S: BuildHasher + Copy> PolicySets<S> {
     }
 
     // Runs the fields after `template` if they are a command, and returns whether they are.
-    fn remove_template_by_id(
+    fn apply_template(
         &mut self,
         alloc: Global,
         fields: &[&str],
@@ -213,7 +217,7 @@ impl<S: BuildHasher + Copy> PolicySets<S> {
 
     // Runs the fields after `link` if they are a command, and returns whether they are. The link is made from the
     // buffers in which it was read.
-    fn remove_link_by_id(
+    fn apply_link(
         &mut self,
         alloc: Global,
         known: &mut KnownTypes,
@@ -231,6 +235,24 @@ impl<S: BuildHasher + Copy> PolicySets<S> {
             .current
             .link_copying(alloc, &room.template, id, &room.values);
         push_by_linking(alloc, out, answer)?;
+        Ok(true)
+    }
+
+    // Runs the fields after `unlink` if they are a command, and returns whether they are.
+    fn apply_unlink(
+        &mut self,
+        alloc: Global,
+        fields: &[&str],
+        out: &mut Vec<u8>,
+    ) -> Result<bool, AllocError>
+        ensures { IfOk result (λ taken. TakesAs (unlink_of (map (λ f. f.now) fields.now)) taken
+            self.old self.new out.old.items out.new.items) }
+    {
+        if !read_unlink(alloc, &mut self.unlinked, fields)? {
+            return Ok(false);
+        }
+        let answer = self.current.unlink(&self.unlinked);
+        push_by_unlinking(alloc, out, answer)?;
         Ok(true)
     }
 
@@ -255,7 +277,8 @@ impl<S: BuildHasher + Copy> PolicySets<S> {
     }
 
     /// Runs the fields of a line if they are a command on policy sets, and returns whether they are. The effect is the
-    /// same as [`PolicySets::read`] and then [`PolicySets::take`]. For insertions it creates no [`PolicyCommand`].
+    /// same as [`PolicySets::read`] and then [`PolicySets::take`]. For insertions and `unlink` it creates no
+    /// [`PolicyCommand`].
     ///
     /// # Errors
     ///
@@ -283,13 +306,16 @@ impl<S: BuildHasher + Copy> PolicySets<S> {
             return Ok(false);
         };
         if *word == "link" {
-            return self.remove_link_by_id(alloc, known, rest, out);
+            return self.apply_link(alloc, known, rest, out);
         }
         if *word == "static" {
-            return self.remove_static_by_id(alloc, rest, out);
+            return self.apply_static(alloc, rest, out);
         }
         if *word == "template" {
-            return self.remove_template_by_id(alloc, rest, out);
+            return self.apply_template(alloc, rest, out);
+        }
+        if *word == "unlink" {
+            return self.apply_unlink(alloc, rest, out);
         }
         self.apply_command(alloc, known, fields, out)
     }

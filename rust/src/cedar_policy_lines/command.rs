@@ -75,7 +75,7 @@ impl LinkRoom {
 }
 
 // Returns the empty id. Does not allocate.
-fn no_id() -> PolicyID {
+pub(crate) fn no_id() -> PolicyID {
     PolicyID::from_smolstr(String::new())
 }
 
@@ -161,6 +161,15 @@ fn link_of(known: &mut KnownTypes, room: &mut LinkRoom, fields: &[&str]) -> Opti
     let template = mem::replace(&mut room.template, no_id());
     let values = mem::replace(&mut room.values, no_bindings());
     Some(PolicyCommand::Link(template, id, values))
+}
+
+// Reads the fields after `unlink`, and sets `id` to the id. Returns whether they are a command.
+pub(crate) fn read_unlink(id: &mut PolicyID, fields: &[&str]) -> bool {
+    let Some(text) = only(fields) else {
+        return false;
+    };
+    set_id(id, text);
+    true
 }
 
 // Reads the command `unlink`.

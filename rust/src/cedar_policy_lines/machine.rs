@@ -8,7 +8,9 @@ use crate::cedar_ids::policy_id::PolicyID;
 use crate::cedar_keyed_hash::KeyedState;
 use crate::cedar_lines::known_types::KnownTypes;
 use crate::cedar_policy::SlotEnv;
-use crate::cedar_policy_lines::command::{LinkRoom, PolicyCommand, read_static, read_template, read_with};
+use crate::cedar_policy_lines::command::{
+    LinkRoom, PolicyCommand, no_id, read_static, read_template, read_unlink, read_with,
+};
 use crate::cedar_policy_lines::field::TemplateSlots;
 use crate::cedar_policy_lines::making::{template, unconstrained};
 use crate::cedar_policy_lines::writing::{
@@ -24,13 +26,14 @@ use std::sync::Arc;
 /// # Differences from cedar-policy-core
 ///
 /// The original has no such type.
-// `room` is reused by all links. Its content between lines has no meaning. The bodies of all lines share `annotations`,
-// which is empty.
+// `room` is reused by all links, and `unlinked` by all commands `unlink`. Their content between lines has no meaning. The
+// bodies of all lines share `annotations`, which is empty.
 #[derive(Debug)]
 pub struct PolicySets<S = KeyedState> {
     current: PolicySet<S>,
     aside: PolicySet<S>,
     room: LinkRoom,
+    unlinked: PolicyID,
     annotations: Option<Arc<Annotations>>,
 }
 
@@ -41,6 +44,7 @@ impl<S: BuildHasher + Clone> PolicySets<S> {
             current: PolicySet::with_hasher(hasher.clone()),
             aside: PolicySet::with_hasher(hasher),
             room: LinkRoom::new(),
+            unlinked: no_id(),
             annotations: None,
         }
     }
@@ -94,7 +98,7 @@ impl<S: BuildHasher + Clone> PolicySets<S> {
     }
 
     // Runs the fields after `static` if they are a command, and returns whether they are.
-    fn remove_static_by_id(&mut self, fields: &[&str], out: &mut Vec<u8>) -> bool {
+    fn apply_static(&mut self, fields: &[&str], out: &mut Vec<u8>) -> bool {
         match read_static(fields) {
             None => false,
             Some((id, effect)) => {
@@ -105,7 +109,7 @@ impl<S: BuildHasher + Clone> PolicySets<S> {
     }
 
     // Runs the fields after `template` if they are a command, and returns whether they are.
-    fn remove_template_by_id(&mut self, fields: &[&str], out: &mut Vec<u8>) -> bool {
+    fn apply_template(&mut self, fields: &[&str], out: &mut Vec<u8>) -> bool {
         match read_template(fields) {
             None => false,
             Some((id, slots)) => {
@@ -117,13 +121,23 @@ impl<S: BuildHasher + Clone> PolicySets<S> {
 
     // Runs the fields after `link` if they are a command, and returns whether they are. The link is made from the
     // buffers in which it was read.
-    fn remove_link_by_id(&mut self, known: &mut KnownTypes, fields: &[&str], out: &mut Vec<u8>) -> bool {
+    fn apply_link(&mut self, known: &mut KnownTypes, fields: &[&str], out: &mut Vec<u8>) -> bool {
         let Some(id) = self.room.read(known, fields) else {
             return false;
         };
         let room = &self.room;
         let answer = self.current.link_copying(&room.template, id, &room.values);
         push_by_linking(out, answer);
+        true
+    }
+
+    // Runs the fields after `unlink` if they are a command, and returns whether they are.
+    fn apply_unlink(&mut self, fields: &[&str], out: &mut Vec<u8>) -> bool {
+        if !read_unlink(&mut self.unlinked, fields) {
+            return false;
+        }
+        let answer = self.current.unlink(&self.unlinked);
+        push_by_unlinking(out, answer);
         true
     }
 
@@ -139,7 +153,8 @@ impl<S: BuildHasher + Clone> PolicySets<S> {
     }
 
     /// Runs the fields of a line if they are a command on policy sets, and returns whether they are. The effect is the
-    /// same as [`PolicySets::read`] and then [`PolicySets::take`]. For insertions it creates no [`PolicyCommand`].
+    /// same as [`PolicySets::read`] and then [`PolicySets::take`]. For insertions and `unlink` it creates no
+    /// [`PolicyCommand`].
     ///
     /// # Complexity
     ///
@@ -153,13 +168,16 @@ impl<S: BuildHasher + Clone> PolicySets<S> {
             return false;
         };
         if *word == "link" {
-            return self.remove_link_by_id(known, rest, out);
+            return self.apply_link(known, rest, out);
         }
         if *word == "static" {
-            return self.remove_static_by_id(rest, out);
+            return self.apply_static(rest, out);
         }
         if *word == "template" {
-            return self.remove_template_by_id(rest, out);
+            return self.apply_template(rest, out);
+        }
+        if *word == "unlink" {
+            return self.apply_unlink(rest, out);
         }
         self.apply_command(known, fields, out)
     }
