@@ -20,7 +20,7 @@ import time
 TOP = os.path.dirname(os.path.dirname(os.path.abspath(__file__)))
 DONE = re.compile(r'^rt: (cedar_\w+) (?:proved|is kept:)')
 # the assumed processor time in seconds of a crate that the table does not list, and of a mutant
-UNKNOWN, MUTANT = 100, 60
+UNKNOWN, MUTANT = 100, 30
 
 
 def crates():
