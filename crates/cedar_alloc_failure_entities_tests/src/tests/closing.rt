@@ -214,31 +214,40 @@ fn dag_of(text: &str) -> (bool, &str) {
     }
 }
 
+// Runs a repair of a graph at keys.
+macro_rules! repaired_by {
+    ($alloc:ident, $number:ident, $names:ident, $text:ident, |$keys:ident, $nodes:ident| $call:expr) => {
+        match (hashed($alloc, $names), store($alloc, $text)) {
+            (Some($keys), Some(nodes)) => {
+                let mut $nodes = nodes;
+                refuse($alloc, $number);
+                let tried = $call;
+                drop($keys);
+                drop($nodes);
+                tried
+            }
+            (keys, nodes) => {
+                drop(keys);
+                drop(nodes);
+                unmade()
+            }
+        }
+    };
+}
+
 // Runs a repair of a graph at the keys before the colon.
 fn repaired(alloc: Global, number: usize, row: Row<'_>) -> CallOutcome {
     let (dag, given) = dag_of(row.given);
-    let (keys, text) = given.split_once(": ").unwrap_or(("", given));
-    match (hashed(alloc, keys), store(alloc, text)) {
-        (Some(keys), Some(nodes)) => {
-            let mut nodes = nodes;
-            refuse(alloc, number);
-            let tried = if row.call == "repair_tc" {
-                let answer = repair_tc(alloc, &keys, &mut nodes, dag);
-                told(alloc, answer, &nodes, text, row.want)
-            } else {
-                let answer = repair_tc_counted(alloc, &keys, &mut nodes, dag);
-                told(alloc, answer, &nodes, text, row.want)
-            };
-            drop(keys);
-            drop(nodes);
-            tried
+    let (names, text) = given.split_once(": ").unwrap_or(("", given));
+    repaired_by!(alloc, number, names, text, |keys, nodes| {
+        if row.call == "repair_tc" {
+            let answer = repair_tc(alloc, &keys, &mut nodes, dag);
+            told(alloc, answer, &nodes, text, row.want)
+        } else {
+            let answer = repair_tc_counted(alloc, &keys, &mut nodes, dag);
+            told(alloc, answer, &nodes, text, row.want)
         }
-        (keys, nodes) => {
-            drop(keys);
-            drop(nodes);
-            unmade()
-        }
-    }
+    })
 }
 
 // Runs a closure of a graph that must be acyclic.
@@ -258,23 +267,11 @@ fn closed_dag(alloc: Global, number: usize, row: Row<'_>) -> CallOutcome {
 
 // Runs a repair of a graph at the keys before the colon. None of the keys may be on a cycle.
 fn repaired_dag(alloc: Global, number: usize, row: Row<'_>) -> CallOutcome {
-    let (keys, text) = row.given.split_once(": ").unwrap_or(("", row.given));
-    match (hashed(alloc, keys), store(alloc, text)) {
-        (Some(keys), Some(nodes)) => {
-            let mut nodes = nodes;
-            refuse(alloc, number);
-            let answer = repair_dag(alloc, &keys, &mut nodes);
-            let tried = told(alloc, answer, &nodes, text, row.want);
-            drop(keys);
-            drop(nodes);
-            tried
-        }
-        (keys, nodes) => {
-            drop(keys);
-            drop(nodes);
-            unmade()
-        }
-    }
+    let (names, text) = row.given.split_once(": ").unwrap_or(("", row.given));
+    repaired_by!(alloc, number, names, text, |keys, nodes| {
+        let answer = repair_dag(alloc, &keys, &mut nodes);
+        told(alloc, answer, &nodes, text, row.want)
+    })
 }
 
 // Runs the check of a graph.

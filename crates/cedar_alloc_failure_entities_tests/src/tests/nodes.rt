@@ -147,6 +147,19 @@ fn grown<K: Eq + Drop, N: TCNode<K> + Told + Drop>(
     came
 }
 
+// Runs a method that adds edges to keys.
+macro_rules! joined_by {
+    ($alloc:ident, $number:ident, $node:ident, $keys:ident, $want:ident, $method:ident) => {{
+        let before = N::told($alloc, &$node).unwrap_or(String::new($alloc));
+        refuse($alloc, $number);
+        let answer = $node.$method($alloc, &mut $keys);
+        let refused = stop_failing($alloc);
+        drop($keys);
+        let answer = grown::<K, N>($alloc, before, $node, answer, $want);
+        CallOutcome { answer, refused }
+    }};
+}
+
 // Runs the addition of edges to keys.
 fn joined_to<K: Eq + Drop, N: TCNode<K> + Told + Drop>(
     alloc: Global,
@@ -155,13 +168,7 @@ fn joined_to<K: Eq + Drop, N: TCNode<K> + Told + Drop>(
     mut keys: Vec<K>,
     want: &str,
 ) -> CallOutcome {
-    let before = N::told(alloc, &node).unwrap_or(String::new(alloc));
-    refuse(alloc, number);
-    let answer = node.add_edges_to(alloc, &mut keys);
-    let refused = stop_failing(alloc);
-    drop(keys);
-    let answer = grown::<K, N>(alloc, before, node, answer, want);
-    CallOutcome { answer, refused }
+    joined_by!(alloc, number, node, keys, want, add_edges_to)
 }
 
 // Runs the addition of an edge to a key to which the node has no edge. The key is passed as a list.
@@ -174,13 +181,7 @@ fn newly_joined_to<K: Eq + Drop, N: TCNode<K> + Told + Drop>(
 ) -> CallOutcome
     requires { AreNewTo K.eq (N.edges node) row.items }
 {
-    let before = N::told(alloc, &node).unwrap_or(String::new(alloc));
-    refuse(alloc, number);
-    let answer = node.add_new_edges_to(alloc, &mut row);
-    let refused = stop_failing(alloc);
-    drop(row);
-    let answer = grown::<K, N>(alloc, before, node, answer, want);
-    CallOutcome { answer, refused }
+    joined_by!(alloc, number, node, row, want, add_new_edges_to)
 }
 
 // Runs the addition of an edge to a key to which the node has no edge. The key is passed as a list, which ascends.
@@ -194,13 +195,7 @@ fn newly_joined_to_one<K: Eq + Drop, N: TCNode<K> + Told + Drop>(
     requires one { length row.items < 2 }
     requires new { AreNewTo K.eq (N.edges node) row.items }
 {
-    let before = N::told(alloc, &node).unwrap_or(String::new(alloc));
-    refuse(alloc, number);
-    let answer = node.add_ascending_edges_to(alloc, &mut row);
-    let refused = stop_failing(alloc);
-    drop(row);
-    let answer = grown::<K, N>(alloc, before, node, answer, want);
-    CallOutcome { answer, refused }
+    joined_by!(alloc, number, node, row, want, add_ascending_edges_to)
 }
 
 // Returns whether the node has an edge to one of the keys.

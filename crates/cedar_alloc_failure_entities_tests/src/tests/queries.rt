@@ -148,78 +148,69 @@ fn two_uids(alloc: Global, names: &str) -> Option<(EntityUID, EntityUID)> {
     both(uid_of(alloc, from), uid_of(alloc, to))
 }
 
+// Runs a query on the store of a case and on uids, and checks its result.
+macro_rules! queried {
+    ($alloc:ident, $number:ident, $row:ident, $calls:ident, $uids:expr,
+     |$store:ident, $given:pat_param| $query:expr, |$found:ident| $is_right:expr) => {
+        on($alloc, $number, both(stored($alloc, $calls), $uids), |($store, $given)| {
+            judged($alloc, $query, $row.want, |$found| $is_right)
+        })
+    };
+}
+
 fn below(alloc: Global, number: usize, row: Row<'_>) -> CallOutcome {
     let (calls, name) = row.given.rsplit_once(';').unwrap_or(("", row.given));
-    on(
+    queried!(
         alloc,
         number,
-        both(stored(alloc, calls), uid_of(alloc, name.trim())),
-        |(store, uid)| {
-            judged(
-                alloc,
-                descendants(alloc, store, uid),
-                row.want,
-                |uids| are_uids(alloc, uids.as_slice(), row.want),
-            )
-        },
+        row,
+        calls,
+        uid_of(alloc, name.trim()),
+        |store, uid| descendants(alloc, store, uid),
+        |uids| are_uids(alloc, uids.as_slice(), row.want)
     )
 }
 
 fn below_of_type(alloc: Global, number: usize, row: Row<'_>) -> CallOutcome {
     let (calls, names) = row.given.rsplit_once(';').unwrap_or(("", row.given));
     let (name, ty) = names.trim().split_once(", ").unwrap_or((names, ""));
-    on(
+    queried!(
         alloc,
         number,
-        both(
-            stored(alloc, calls),
-            both(uid_of(alloc, name), typed(alloc, ty)),
-        ),
-        |(store, (uid, ty))| {
-            judged(
-                alloc,
-                descendants_of_type(alloc, store, uid, ty),
-                row.want,
-                |uids| are_uids(alloc, uids.as_slice(), row.want),
-            )
-        },
+        row,
+        calls,
+        both(uid_of(alloc, name), typed(alloc, ty)),
+        |store, (uid, ty)| descendants_of_type(alloc, store, uid, ty),
+        |uids| are_uids(alloc, uids.as_slice(), row.want)
     )
 }
 
 fn shortest(alloc: Global, number: usize, row: Row<'_>) -> CallOutcome {
     let (calls, names) = row.given.rsplit_once(';').unwrap_or(("", row.given));
-    on(
+    queried!(
         alloc,
         number,
-        both(stored(alloc, calls), two_uids(alloc, names)),
-        |(store, (from, to))| {
-            judged(
-                alloc,
-                path(alloc, store, from, to),
-                row.want,
-                |found| match found {
-                    Some(uids) => are_uids(alloc, uids.as_slice(), row.want),
-                    None => row.want == "none",
-                },
-            )
-        },
+        row,
+        calls,
+        two_uids(alloc, names),
+        |store, (from, to)| path(alloc, store, from, to),
+        |found| match found {
+            Some(uids) => are_uids(alloc, uids.as_slice(), row.want),
+            None => row.want == "none",
+        }
     )
 }
 
 fn explained(alloc: Global, number: usize, row: Row<'_>) -> CallOutcome {
     let (calls, names) = row.given.rsplit_once(';').unwrap_or(("", row.given));
-    on(
+    queried!(
         alloc,
         number,
-        both(stored(alloc, calls), two_uids(alloc, names)),
-        |(store, (from, to))| {
-            judged(
-                alloc,
-                reaches(alloc, store, from, to),
-                row.want,
-                |found| row.want == if *found { "yes" } else { "no" },
-            )
-        },
+        row,
+        calls,
+        two_uids(alloc, names),
+        |store, (from, to)| reaches(alloc, store, from, to),
+        |found| row.want == if *found { "yes" } else { "no" }
     )
 }
 
