@@ -1,3 +1,4 @@
+pub mod Frame
 pub mod PoliciesAsBox
 pub mod PolicyChanges
 pub mod StoreAsBox

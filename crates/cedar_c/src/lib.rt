@@ -10,6 +10,7 @@
 
 mod copying;
 mod errors;
+mod handles;
 mod keys;
 mod parts;
 mod policies;

@@ -9,6 +9,7 @@ ghost use Rattle.cedar_c.specs.PolicyCalls.{Boxes, Changes, ChangesBy, Compares,
 ghost use Rattle.cedar_c.specs.PolicyCalls.{CopiesSpans, Fills, FillsBy, HasSet, HasNoTexts};
 
 use crate::copying::copy_out;
+use crate::handles::{CLOSED, on_both, on_open};
 use crate::keys::hasher_of;
 use crate::policies_handle::{Held, Inner};
 use cedar_c_lists::{Reason, Span, status_of};
@@ -26,9 +27,6 @@ pub struct Policies {
     is_open: bool,
     ghost agrees: { is_open ≡ is_some held.value },
 }
-
-// The status of a closed handle.
-pub(crate) const CLOSED: u32 = 2;
 
 // Creates a closed handle.
 fn closed(alloc: Global) -> Policies
@@ -143,12 +141,7 @@ pub extern "C" fn cedar_policies_add_static(
 ) -> u32
     ensures { Changes (AddsStatic id.now effect) handle.old.held.value result handle.new.held.value }
 {
-    let Some(mut inner) = take(alloc, handle) else {
-        return CLOSED;
-    };
-    let outcome = inner.kept.add_static(alloc, id, effect);
-    *handle = opened(inner);
-    status_of(outcome)
+    on_open!(in alloc; handle, CLOSED, |state| status_of(state.add_static(alloc, id, effect)))
 }
 
 /// Adds a template with these bytes as its id, the effect with a number, and the slots with a number. Its only
@@ -173,12 +166,7 @@ pub extern "C" fn cedar_policies_add_template(
 ) -> u32
     ensures { Changes (AddsTemplate id.now effect slots) handle.old.held.value result handle.new.held.value }
 {
-    let Some(mut inner) = take(alloc, handle) else {
-        return CLOSED;
-    };
-    let outcome = inner.kept.add_template(alloc, id, effect, slots);
-    *handle = opened(inner);
-    status_of(outcome)
+    on_open!(in alloc; handle, CLOSED, |state| status_of(state.add_template(alloc, id, effect, slots)))
 }
 
 /// Links the template with an id. The link gets another id, and the bindings in three parts of a text: principal,
@@ -209,12 +197,7 @@ pub extern "C" fn cedar_policies_link(
     ensures { Changes (Links template.now id.now text.now values.now)
         handle.old.held.value result handle.new.held.value }
 {
-    let Some(mut inner) = take(alloc, handle) else {
-        return CLOSED;
-    };
-    let outcome = inner.kept.link(alloc, template, id, text, values);
-    *handle = opened(inner);
-    status_of(outcome)
+    on_open!(in alloc; handle, CLOSED, |state| status_of(state.link(alloc, template, id, text, values)))
 }
 
 /// Removes the link with an id.
@@ -232,12 +215,7 @@ pub extern "C" fn cedar_policies_link(
 pub extern "C" fn cedar_policies_unlink(alloc: Global, handle: &mut Policies, id: &[u8]) -> u32
     ensures { Changes (RemovesById unlink_step id.now) handle.old.held.value result handle.new.held.value }
 {
-    let Some(mut inner) = take(alloc, handle) else {
-        return CLOSED;
-    };
-    let outcome = inner.kept.unlink(alloc, id);
-    *handle = opened(inner);
-    status_of(outcome)
+    on_open!(in alloc; handle, CLOSED, |state| status_of(state.unlink(alloc, id)))
 }
 
 /// Removes the static policy with an id.
@@ -259,12 +237,7 @@ pub extern "C" fn cedar_policies_remove_static(
 ) -> u32
     ensures { Changes (RemovesById remove_static_step id.now) handle.old.held.value result handle.new.held.value }
 {
-    let Some(mut inner) = take(alloc, handle) else {
-        return CLOSED;
-    };
-    let outcome = inner.kept.remove_static(alloc, id);
-    *handle = opened(inner);
-    status_of(outcome)
+    on_open!(in alloc; handle, CLOSED, |state| status_of(state.remove_static(alloc, id)))
 }
 
 /// Removes the template with an id.
@@ -287,12 +260,7 @@ pub extern "C" fn cedar_policies_remove_template(
 ) -> u32
     ensures { Changes (RemovesById remove_template_step id.now) handle.old.held.value result handle.new.held.value }
 {
-    let Some(mut inner) = take(alloc, handle) else {
-        return CLOSED;
-    };
-    let outcome = inner.kept.remove_template(alloc, id);
-    *handle = opened(inner);
-    status_of(outcome)
+    on_open!(in alloc; handle, CLOSED, |state| status_of(state.remove_template(alloc, id)))
 }
 
 /// Merges another set into this one, as `PolicySet::merge_policyset` does. Stores each renamed id, followed by its new
@@ -316,17 +284,7 @@ pub extern "C" fn cedar_policies_merge(
     ensures merges { ChangesBy
         (λ b r i j. MergesSet b rename r i j) other.old.held.value handle.old.held.value result handle.new.held.value }
 {
-    let Some(mut inner) = take(alloc, handle) else {
-        return CLOSED;
-    };
-    let Some(beside) = take(alloc, other) else {
-        *handle = opened(inner);
-        return CLOSED;
-    };
-    let outcome = inner.kept.merge(alloc, &beside.kept, rename);
-    *handle = opened(inner);
-    *other = opened(beside);
-    status_of(outcome)
+    on_both!(in alloc; handle, other, |state, beside| status_of(state.merge(alloc, beside, rename)))
 }
 
 /// Stores the ids of the bodies (`kind` 0) or of the policies (`kind` 1) as the result, in order.
@@ -342,12 +300,7 @@ pub extern "C" fn cedar_policies_merge(
 pub extern "C" fn cedar_policies_ids(alloc: Global, handle: &mut Policies, kind: u32) -> u32
     ensures { Changes (ListsIds kind) handle.old.held.value result handle.new.held.value }
 {
-    let Some(mut inner) = take(alloc, handle) else {
-        return CLOSED;
-    };
-    let outcome = inner.kept.ids(alloc, kind);
-    *handle = opened(inner);
-    status_of(outcome)
+    on_open!(in alloc; handle, CLOSED, |state| status_of(state.ids(alloc, kind)))
 }
 
 /// Fills the handle `to` with a copy of the policy set of `from`. The copy has no result and no last error.
@@ -363,12 +316,7 @@ pub extern "C" fn cedar_policies_copy(alloc: Global, from: &mut Policies, to: &m
     ensures same { from.new.held.value ≡ from.old.held.value }
     ensures fills { Fills CopiesSet from.old.held.value result to.old.held.value to.new.held.value }
 {
-    let Some(inner) = take(alloc, from) else {
-        return CLOSED;
-    };
-    let made = inner.kept.copy(alloc);
-    *from = opened(inner);
-    fill(alloc, to, made)
+    on_open!(in alloc; from, CLOSED, |state| fill(alloc, to, state.copy(alloc)))
 }
 
 /// Writes to `out` whether both sets have equal bodies and policies, in the same order.
@@ -389,17 +337,10 @@ pub extern "C" fn cedar_policies_equal(
     ensures other { other.new.held.value ≡ other.old.held.value }
     ensures compares { Compares one.old.held.value other.old.held.value result out.old out.new }
 {
-    let Some(inner) = take(alloc, one) else {
-        return CLOSED;
-    };
-    let Some(beside) = take(alloc, other) else {
-        *one = opened(inner);
-        return CLOSED;
-    };
-    *out = inner.kept.is_equal(&beside.kept);
-    *one = opened(inner);
-    *other = opened(beside);
-    0
+    on_both!(in alloc; one, other, |state, beside| {
+        *out = state.is_equal(beside);
+        0
+    })
 }
 
 /// Copies the bytes of the result, from position `from` on, as many as fit. Returns the number of all bytes, which is 0
@@ -414,12 +355,7 @@ pub extern "C" fn cedar_policies_result(
     ensures same { handle.new.held.value ≡ handle.old.held.value }
     ensures copies { CopiesResult handle.old.held.value from out.old result out.new }
 {
-    let Some(inner) = take(alloc, handle) else {
-        return 0;
-    };
-    let told = copy_out(inner.kept.answer.bytes(), from, out);
-    *handle = opened(inner);
-    told
+    on_open!(in alloc; handle, 0, |state| copy_out(state.answer.bytes(), from, out))
 }
 
 /// Copies the spans of the texts of the result within its bytes, from the text at position `from` on, as many as fit.
@@ -434,12 +370,7 @@ pub extern "C" fn cedar_policies_result_spans(
     ensures same { handle.new.held.value ≡ handle.old.held.value }
     ensures copies { CopiesSpans handle.old.held.value from out.old result out.new }
 {
-    let Some(inner) = take(alloc, handle) else {
-        return 0;
-    };
-    let told = copy_out(inner.kept.answer.spans(), from, out);
-    *handle = opened(inner);
-    told
+    on_open!(in alloc; handle, 0, |state| copy_out(state.answer.spans(), from, out))
 }
 
 /// Copies the text of the last error of a call on the set, as much as fits. Returns the length of the whole text, which
@@ -453,10 +384,5 @@ pub extern "C" fn cedar_policies_error_text(
     ensures same { handle.new.held.value ≡ handle.old.held.value }
     ensures copies { CopiesErrorText handle.old.held.value out.old result out.new }
 {
-    let Some(inner) = take(alloc, handle) else {
-        return 0;
-    };
-    let told = copy_out(&inner.kept.refusal, 0, out);
-    *handle = opened(inner);
-    told
+    on_open!(in alloc; handle, 0, |state| copy_out(&state.refusal, 0, out))
 }

@@ -7,7 +7,8 @@ ghost use Rattle.cedar_c.specs.PolicyCalls.{Changes, CopiesNodes};
 ghost use Rattle.cedar_c.specs.PolicyReads.{ChangesAndCounts, ChangesAndReports};
 
 use crate::copying::copy_out;
-use crate::policies::{CLOSED, Policies, opened, take};
+use crate::handles::{CLOSED, on_open};
+use crate::policies::{Policies, opened, take};
 use cedar_c_bodies::{AnnotationAt, Body, BodyLists};
 use cedar_c_lists::{Span, status_of, write_bool, write_result};
 use cedar_c_trees::Node;
@@ -44,9 +45,6 @@ pub extern "C" fn cedar_policies_add_static_with(
       nodes = nodes.now;
     })) handle.old.held.value result handle.new.held.value }
 {
-    let Some(mut inner) = take(alloc, handle) else {
-        return CLOSED;
-    };
     let lists = BodyLists {
         text,
         body: *body,
@@ -54,9 +52,7 @@ pub extern "C" fn cedar_policies_add_static_with(
         uids,
         nodes,
     };
-    let outcome = inner.kept.add_static_with(alloc, id, lists);
-    *handle = opened(inner);
-    status_of(outcome)
+    on_open!(in alloc; handle, CLOSED, |state| status_of(state.add_static_with(alloc, id, lists)))
 }
 
 /// Adds a template with these bytes as its id, from the lists that `cedar_policies_add_static_with` takes. It may have
@@ -89,9 +85,6 @@ pub extern "C" fn cedar_policies_add_template_with(
       nodes = nodes.now;
     })) handle.old.held.value result handle.new.held.value }
 {
-    let Some(mut inner) = take(alloc, handle) else {
-        return CLOSED;
-    };
     let lists = BodyLists {
         text,
         body: *body,
@@ -99,9 +92,7 @@ pub extern "C" fn cedar_policies_add_template_with(
         uids,
         nodes,
     };
-    let outcome = inner.kept.add_template_with(alloc, id, lists);
-    *handle = opened(inner);
-    status_of(outcome)
+    on_open!(in alloc; handle, CLOSED, |state| status_of(state.add_template_with(alloc, id, lists)))
 }
 
 /// Writes the kind of the principal constraint (`which` 0), the action constraint (1) or the resource constraint (2) of
@@ -128,12 +119,7 @@ pub extern "C" fn cedar_policies_scope(
     ensures { ChangesAndCounts (AnswersScope which id.now)
         handle.old.held.value result handle.new.held.value kind.old kind.new }
 {
-    let Some(mut inner) = take(alloc, handle) else {
-        return CLOSED;
-    };
-    let outcome = inner.kept.scope(alloc, id, which);
-    *handle = opened(inner);
-    write_result(outcome, kind)
+    on_open!(in alloc; handle, CLOSED, |state| write_result(state.scope(alloc, id, which), kind))
 }
 
 /// Writes to `has` whether the policy or template with an id has a clause. If it has, stores the nodes of the clause,
@@ -157,12 +143,7 @@ pub extern "C" fn cedar_policies_clause(
     ensures { ChangesAndReports (AnswersClause id.now)
         handle.old.held.value result handle.new.held.value has.old has.new }
 {
-    let Some(mut inner) = take(alloc, handle) else {
-        return CLOSED;
-    };
-    let outcome = inner.kept.clause(alloc, id);
-    *handle = opened(inner);
-    write_bool(outcome, has)
+    on_open!(in alloc; handle, CLOSED, |state| write_bool(state.clause(alloc, id), has))
 }
 
 /// Stores the nodes of the condition of the policy or template with an id, and their text as the result.
@@ -179,12 +160,7 @@ pub extern "C" fn cedar_policies_clause(
 pub extern "C" fn cedar_policies_condition(alloc: Global, handle: &mut Policies, id: &[u8]) -> u32
     ensures { Changes (AnswersCondition id.now) handle.old.held.value result handle.new.held.value }
 {
-    let Some(mut inner) = take(alloc, handle) else {
-        return CLOSED;
-    };
-    let outcome = inner.kept.condition(alloc, id);
-    *handle = opened(inner);
-    status_of(outcome)
+    on_open!(in alloc; handle, CLOSED, |state| status_of(state.condition(alloc, id)))
 }
 
 /// Copies the nodes of the last expression, from position `from` on, as many as fit. Returns the number of all nodes,
@@ -199,10 +175,5 @@ pub extern "C" fn cedar_policies_result_nodes(
     ensures same { handle.new.held.value ≡ handle.old.held.value }
     ensures copies { CopiesNodes handle.old.held.value from out.old result out.new }
 {
-    let Some(inner) = take(alloc, handle) else {
-        return 0;
-    };
-    let told = copy_out(&inner.kept.nodes, from, out);
-    *handle = opened(inner);
-    told
+    on_open!(in alloc; handle, 0, |state| copy_out(&state.nodes, from, out))
 }

@@ -3,7 +3,8 @@ ghost use Rattle.std.specs.Prelude.{◌≡◌};
 ghost use Rattle.cedar_c_sets.specs.Sets.{CopiesSet, MergesSet};
 ghost use Rattle.cedar_c.specs.PolicyCalls.{ChangesBy, Fills};
 
-use crate::policies::{CLOSED, Policies, fill, opened, take};
+use crate::handles::{CLOSED, on_both, on_open};
+use crate::policies::{Policies, fill, opened, take};
 use cedar_c_lists::status_of;
 use std::alloc::Global;
 
@@ -24,12 +25,7 @@ pub extern "C" fn cedar_policies_deep_copy(
     ensures same { from.new.held.value ≡ from.old.held.value }
     ensures fills { Fills CopiesSet from.old.held.value result to.old.held.value to.new.held.value }
 {
-    let Some(inner) = take(alloc, from) else {
-        return CLOSED;
-    };
-    let made = inner.kept.deep_copy(alloc);
-    *from = opened(inner);
-    fill(alloc, to, made)
+    on_open!(in alloc; from, CLOSED, |state| fill(alloc, to, state.deep_copy(alloc)))
 }
 
 /// Merges a deep copy of another set into this one, as `cedar_policies_merge` does. Stores each renamed id, followed by
@@ -53,15 +49,5 @@ pub extern "C" fn cedar_policies_merge_deep_copy(
     ensures merges { ChangesBy
         (λ b r i j. MergesSet b rename r i j) other.old.held.value handle.old.held.value result handle.new.held.value }
 {
-    let Some(mut inner) = take(alloc, handle) else {
-        return CLOSED;
-    };
-    let Some(beside) = take(alloc, other) else {
-        *handle = opened(inner);
-        return CLOSED;
-    };
-    let outcome = inner.kept.merge_deep_copy(alloc, &beside.kept, rename);
-    *handle = opened(inner);
-    *other = opened(beside);
-    status_of(outcome)
+    on_both!(in alloc; handle, other, |state, beside| status_of(state.merge_deep_copy(alloc, beside, rename)))
 }

@@ -2,7 +2,8 @@
 ghost use Rattle.cedar_c_sets.specs.Naming.{AnswersNaming, policies_naming, templates_naming};
 ghost use Rattle.cedar_c.specs.PolicyCalls.{Changes};
 
-use crate::policies::{CLOSED, Policies, opened, take};
+use crate::handles::{CLOSED, on_open};
+use crate::policies::{Policies, opened, take};
 use cedar_c_lists::status_of;
 use std::alloc::Global;
 
@@ -21,12 +22,7 @@ pub extern "C" fn cedar_policies_naming(alloc: Global, handle: &mut Policies, ui
     ensures { Changes (AnswersNaming policies_naming uid.now)
         handle.old.held.value result handle.new.held.value }
 {
-    let Some(mut inner) = take(alloc, handle) else {
-        return CLOSED;
-    };
-    let outcome = inner.kept.naming(alloc, uid);
-    *handle = opened(inner);
-    status_of(outcome)
+    on_open!(in alloc; handle, CLOSED, |state| status_of(state.naming(alloc, uid)))
 }
 
 /// Stores the ids of the templates with slots that name a uid as the result, with or without links, in the order of the
@@ -48,10 +44,5 @@ pub extern "C" fn cedar_policies_templates_naming(
     ensures { Changes (AnswersNaming templates_naming uid.now)
         handle.old.held.value result handle.new.held.value }
 {
-    let Some(mut inner) = take(alloc, handle) else {
-        return CLOSED;
-    };
-    let outcome = inner.kept.templates_naming(alloc, uid);
-    *handle = opened(inner);
-    status_of(outcome)
+    on_open!(in alloc; handle, CLOSED, |state| status_of(state.templates_naming(alloc, uid)))
 }

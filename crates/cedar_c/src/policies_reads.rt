@@ -8,7 +8,8 @@ ghost use Rattle.cedar_c_sets.specs.Validity.{Validates};
 ghost use Rattle.cedar_c.specs.PolicyCalls.{Changes};
 ghost use Rattle.cedar_c.specs.PolicyReads.{ChangesAndReports, CountsHandle};
 
-use crate::policies::{CLOSED, Policies, opened, take};
+use crate::handles::{CLOSED, on_open};
+use crate::policies::{Policies, opened, take};
 use cedar_c_lists::{status_of, write_bool, write_result};
 use std::alloc::Global;
 
@@ -32,12 +33,7 @@ pub extern "C" fn cedar_policies_get(
     ensures same { handle.new.held.value ≡ handle.old.held.value }
     ensures tells { CountsHandle (λ b r. KindAt b id.now r) handle.old.held.value result told.old told.new }
 {
-    let Some(inner) = take(alloc, handle) else {
-        return CLOSED;
-    };
-    let outcome = inner.kept.kind(alloc, id);
-    *handle = opened(inner);
-    write_result(outcome, told)
+    on_open!(in alloc; handle, CLOSED, |state| write_result(state.kind(alloc, id), told))
 }
 
 /// Writes the effect of the policy or template with an id to `told`: 0 is permit, 1 is forbid.
@@ -61,12 +57,7 @@ pub extern "C" fn cedar_policies_effect(
     ensures tells { CountsHandle (λ b r. ReadsAt bound_body IsEffectOf b id.now r)
         handle.old.held.value result told.old told.new }
 {
-    let Some(inner) = take(alloc, handle) else {
-        return CLOSED;
-    };
-    let outcome = inner.kept.effect(alloc, id);
-    *handle = opened(inner);
-    write_result(outcome, told)
+    on_open!(in alloc; handle, CLOSED, |state| write_result(state.effect(alloc, id), told))
 }
 
 /// Writes the slots of the static policy or the template with an id to `told`, as a sum: 1 for the principal, 2 for the
@@ -91,12 +82,7 @@ pub extern "C" fn cedar_policies_slots(
     ensures tells { CountsHandle (λ b r. ReadsAt body_at IsSlotsOf b id.now r)
         handle.old.held.value result told.old told.new }
 {
-    let Some(inner) = take(alloc, handle) else {
-        return CLOSED;
-    };
-    let outcome = inner.kept.slots(alloc, id);
-    *handle = opened(inner);
-    write_result(outcome, told)
+    on_open!(in alloc; handle, CLOSED, |state| write_result(state.slots(alloc, id), told))
 }
 
 /// Writes to `has` whether the policy or template with an id has an annotation with a key. Stores its value as the
@@ -122,12 +108,7 @@ pub extern "C" fn cedar_policies_annotation(
     ensures { ChangesAndReports (AnswersAnnotation id.now key.now)
         handle.old.held.value result handle.new.held.value has.old has.new }
 {
-    let Some(mut inner) = take(alloc, handle) else {
-        return CLOSED;
-    };
-    let outcome = inner.kept.annotation(alloc, id, key);
-    *handle = opened(inner);
-    write_bool(outcome, has)
+    on_open!(in alloc; handle, CLOSED, |state| write_bool(state.annotation(alloc, id, key), has))
 }
 
 /// Stores the annotations of the policy or template with an id as the result, in order of key: each key, followed by
@@ -145,12 +126,7 @@ pub extern "C" fn cedar_policies_annotation(
 pub extern "C" fn cedar_policies_annotations(alloc: Global, handle: &mut Policies, id: &[u8]) -> u32
     ensures { Changes (AnswersAt bound_body AreAnnotations id.now) handle.old.held.value result handle.new.held.value }
 {
-    let Some(mut inner) = take(alloc, handle) else {
-        return CLOSED;
-    };
-    let outcome = inner.kept.annotations(alloc, id);
-    *handle = opened(inner);
-    status_of(outcome)
+    on_open!(in alloc; handle, CLOSED, |state| status_of(state.annotations(alloc, id)))
 }
 
 /// Stores the bindings of the policy with an id as the result: three texts, for principal, action and resource. A text
@@ -168,12 +144,7 @@ pub extern "C" fn cedar_policies_annotations(alloc: Global, handle: &mut Policie
 pub extern "C" fn cedar_policies_env(alloc: Global, handle: &mut Policies, id: &[u8]) -> u32
     ensures { Changes (AnswersAt policy_at AreBoundIn id.now) handle.old.held.value result handle.new.held.value }
 {
-    let Some(mut inner) = take(alloc, handle) else {
-        return CLOSED;
-    };
-    let outcome = inner.kept.env(alloc, id);
-    *handle = opened(inner);
-    status_of(outcome)
+    on_open!(in alloc; handle, CLOSED, |state| status_of(state.env(alloc, id)))
 }
 
 /// Stores the id of the template of the policy with an id as the result. For a static policy it is its own id.
@@ -190,12 +161,7 @@ pub extern "C" fn cedar_policies_env(alloc: Global, handle: &mut Policies, id: &
 pub extern "C" fn cedar_policies_template_id(alloc: Global, handle: &mut Policies, id: &[u8]) -> u32
     ensures { Changes (AnswersAt policy_at IsTemplateId id.now) handle.old.held.value result handle.new.held.value }
 {
-    let Some(mut inner) = take(alloc, handle) else {
-        return CLOSED;
-    };
-    let outcome = inner.kept.template_id(alloc, id);
-    *handle = opened(inner);
-    status_of(outcome)
+    on_open!(in alloc; handle, CLOSED, |state| status_of(state.template_id(alloc, id)))
 }
 
 /// Stores the ids of the policies that use the static policy or the template with an id as the result, in order.
@@ -212,12 +178,7 @@ pub extern "C" fn cedar_policies_template_id(alloc: Global, handle: &mut Policie
 pub extern "C" fn cedar_policies_linked(alloc: Global, handle: &mut Policies, id: &[u8]) -> u32
     ensures { Changes (AnswersLinked id.now) handle.old.held.value result handle.new.held.value }
 {
-    let Some(mut inner) = take(alloc, handle) else {
-        return CLOSED;
-    };
-    let outcome = inner.kept.linked(alloc, id);
-    *handle = opened(inner);
-    status_of(outcome)
+    on_open!(in alloc; handle, CLOSED, |state| status_of(state.linked(alloc, id)))
 }
 
 /// Stores the uids of the unknowns in the condition of the policy with an id as the result: ascending, each once.
@@ -238,12 +199,7 @@ pub extern "C" fn cedar_policies_unknown_entities(
 ) -> u32
     ensures { Changes (AnswersAt policy_at AreUnknownIn id.now) handle.old.held.value result handle.new.held.value }
 {
-    let Some(mut inner) = take(alloc, handle) else {
-        return CLOSED;
-    };
-    let outcome = inner.kept.unknown_entities(alloc, id);
-    *handle = opened(inner);
-    status_of(outcome)
+    on_open!(in alloc; handle, CLOSED, |state| status_of(state.unknown_entities(alloc, id)))
 }
 
 /// Validates a copy of the set, as `PolicySet::try_validate` does. The first fault determines the status.
@@ -262,12 +218,7 @@ pub extern "C" fn cedar_policies_unknown_entities(
 pub extern "C" fn cedar_policies_validate(alloc: Global, handle: &mut Policies) -> u32
     ensures { Changes Validates handle.old.held.value result handle.new.held.value }
 {
-    let Some(mut inner) = take(alloc, handle) else {
-        return CLOSED;
-    };
-    let outcome = inner.kept.validate(alloc);
-    *handle = opened(inner);
-    status_of(outcome)
+    on_open!(in alloc; handle, CLOSED, |state| status_of(state.validate(alloc)))
 }
 
 /// Stores the text of the set, from its `Display`, as the result.
@@ -282,12 +233,7 @@ pub extern "C" fn cedar_policies_validate(alloc: Global, handle: &mut Policies) 
 pub extern "C" fn cedar_policies_text(alloc: Global, handle: &mut Policies) -> u32
     ensures { Changes AnswersText handle.old.held.value result handle.new.held.value }
 {
-    let Some(mut inner) = take(alloc, handle) else {
-        return CLOSED;
-    };
-    let outcome = inner.kept.text(alloc);
-    *handle = opened(inner);
-    status_of(outcome)
+    on_open!(in alloc; handle, CLOSED, |state| status_of(state.text(alloc)))
 }
 
 /// Stores the text of the policy with an id, from its `Display`, as the result.
@@ -304,12 +250,7 @@ pub extern "C" fn cedar_policies_text(alloc: Global, handle: &mut Policies) -> u
 pub extern "C" fn cedar_policies_policy_text(alloc: Global, handle: &mut Policies, id: &[u8]) -> u32
     ensures { Changes (AnswersAt policy_at IsPolicyText id.now) handle.old.held.value result handle.new.held.value }
 {
-    let Some(mut inner) = take(alloc, handle) else {
-        return CLOSED;
-    };
-    let outcome = inner.kept.policy_text(alloc, id);
-    *handle = opened(inner);
-    status_of(outcome)
+    on_open!(in alloc; handle, CLOSED, |state| status_of(state.policy_text(alloc, id)))
 }
 
 /// Stores the text of the static policy or the template with an id, from its `Display`, as the result.
@@ -330,10 +271,5 @@ pub extern "C" fn cedar_policies_template_text(
 ) -> u32
     ensures { Changes (AnswersAt body_at IsBodyText id.now) handle.old.held.value result handle.new.held.value }
 {
-    let Some(mut inner) = take(alloc, handle) else {
-        return CLOSED;
-    };
-    let outcome = inner.kept.template_text(alloc, id);
-    *handle = opened(inner);
-    status_of(outcome)
+    on_open!(in alloc; handle, CLOSED, |state| status_of(state.template_text(alloc, id)))
 }

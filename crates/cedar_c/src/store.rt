@@ -10,6 +10,7 @@ ghost use Rattle.cedar_c.specs.StoreCalls.{ReadsBoolOfStore, Boxes, Changes, Com
 ghost use Rattle.cedar_c.specs.StoreCalls.{CopiesSpans, Counts, Fills, FillsBy, HasNoTexts, HasInputStore};
 
 use crate::copying::copy_out;
+use crate::handles::{CLOSED, on_both, on_open};
 use crate::keys::hasher_of;
 use crate::store_handle::{Held, Inner};
 use cedar_c_lists::{Edge, Reason, Span, status_of, write_bool};
@@ -27,9 +28,6 @@ pub struct Store {
     is_open: bool,
     ghost agrees: { is_open ≡ is_some held.value },
 }
-
-// The status of a closed handle.
-pub(crate) const CLOSED: u32 = 2;
 
 // Creates a closed handle.
 fn closed(alloc: Global) -> Store
@@ -150,18 +148,13 @@ pub extern "C" fn cedar_store_build(
     ensures { Changes (BuildsListed text.now uids.now count edges.now mode)
         handle.old.held.value result handle.new.held.value }
 {
-    let Some(mut inner) = take(alloc, handle) else {
-        return CLOSED;
-    };
     let lists = EntityLists {
         text,
         uids,
         count,
         edges,
     };
-    let outcome = inner.kept.build(alloc, lists, mode);
-    *handle = opened(inner);
-    status_of(outcome)
+    on_open!(in alloc; handle, CLOSED, |state| status_of(state.build(alloc, lists, mode)))
 }
 
 /// Adds the entities in lists to the store, as `Entities::add_entities` does. The lists have the form that
@@ -193,18 +186,13 @@ pub extern "C" fn cedar_store_add(
     ensures { Changes (AddsListed text.now uids.now count edges.now mode)
         handle.old.held.value result handle.new.held.value }
 {
-    let Some(mut inner) = take(alloc, handle) else {
-        return CLOSED;
-    };
     let lists = EntityLists {
         text,
         uids,
         count,
         edges,
     };
-    let outcome = inner.kept.add(alloc, lists, mode);
-    *handle = opened(inner);
-    status_of(outcome)
+    on_open!(in alloc; handle, CLOSED, |state| status_of(state.add(alloc, lists, mode)))
 }
 
 /// Upserts the entities in lists, as `Entities::upsert_entities` does. The lists have the form that `cedar_store_build`
@@ -234,18 +222,13 @@ pub extern "C" fn cedar_store_upsert(
     ensures { Changes (UpsertsListed text.now uids.now count edges.now mode)
         handle.old.held.value result handle.new.held.value }
 {
-    let Some(mut inner) = take(alloc, handle) else {
-        return CLOSED;
-    };
     let lists = EntityLists {
         text,
         uids,
         count,
         edges,
     };
-    let outcome = inner.kept.upsert(alloc, lists, mode);
-    *handle = opened(inner);
-    status_of(outcome)
+    on_open!(in alloc; handle, CLOSED, |state| status_of(state.upsert(alloc, lists, mode)))
 }
 
 /// Removes the entities with the uids in parts of a text, as `Entities::remove_entities` does, with the mode of this
@@ -271,12 +254,7 @@ pub extern "C" fn cedar_store_remove(
 ) -> u32
     ensures { Changes (RemovesListed text.now uids.now mode) handle.old.held.value result handle.new.held.value }
 {
-    let Some(mut inner) = take(alloc, handle) else {
-        return CLOSED;
-    };
-    let outcome = inner.kept.remove(alloc, text, uids, mode);
-    *handle = opened(inner);
-    status_of(outcome)
+    on_open!(in alloc; handle, CLOSED, |state| status_of(state.remove(alloc, text, uids, mode)))
 }
 
 /// Returns the number of entities, which is 0 for a closed handle.
@@ -285,12 +263,7 @@ pub extern "C" fn cedar_store_len(alloc: Global, handle: &mut Store) -> usize
     ensures same { handle.new.held.value ≡ handle.old.held.value }
     ensures count { Counts handle.old.held.value result }
 {
-    let Some(inner) = take(alloc, handle) else {
-        return 0;
-    };
-    let count = inner.kept.store.len();
-    *handle = opened(inner);
-    count
+    on_open!(in alloc; handle, 0, |state| state.store.len())
 }
 
 /// Writes to `out` whether the store has an entity with a uid.
@@ -312,12 +285,7 @@ pub extern "C" fn cedar_store_has(
     ensures same { handle.new.held.value ≡ handle.old.held.value }
     ensures asks { ReadsBoolOfStore (λ S r. ReadsPresence S uid.now r) handle.old.held.value result out.old out.new }
 {
-    let Some(mut inner) = take(alloc, handle) else {
-        return CLOSED;
-    };
-    let told = inner.kept.has(alloc, uid);
-    *handle = opened(inner);
-    write_bool(told, out)
+    on_open!(in alloc; handle, CLOSED, |state| write_bool(state.has(alloc, uid), out))
 }
 
 /// Writes to `out` whether the entity with the uid in `child` is a descendant of the uid in `ancestor`.
@@ -342,12 +310,7 @@ pub extern "C" fn cedar_store_is_descendant_of(
     ensures asks { ReadsBoolOfStore
         (λ S r. ReadsAncestry S child.now ancestor.now r) handle.old.held.value result out.old out.new }
 {
-    let Some(mut inner) = take(alloc, handle) else {
-        return CLOSED;
-    };
-    let told = inner.kept.is_descendant_of(alloc, child, ancestor);
-    *handle = opened(inner);
-    write_bool(told, out)
+    on_open!(in alloc; handle, CLOSED, |state| write_bool(state.is_descendant_of(alloc, child, ancestor), out))
 }
 
 /// Stores the ancestors of the entity with a uid as the result, in ascending order of uid.
@@ -364,12 +327,7 @@ pub extern "C" fn cedar_store_is_descendant_of(
 pub extern "C" fn cedar_store_ancestors(alloc: Global, handle: &mut Store, uid: &[u8]) -> u32
     ensures { Changes (Listing has_ancestor IsAncestorIn uid.now) handle.old.held.value result handle.new.held.value }
 {
-    let Some(mut inner) = take(alloc, handle) else {
-        return CLOSED;
-    };
-    let outcome = inner.kept.ancestors(alloc, uid);
-    *handle = opened(inner);
-    status_of(outcome)
+    on_open!(in alloc; handle, CLOSED, |state| status_of(state.ancestors(alloc, uid)))
 }
 
 /// Stores the parents of the entity with a uid as the result, in ascending order of uid.
@@ -386,12 +344,7 @@ pub extern "C" fn cedar_store_ancestors(alloc: Global, handle: &mut Store, uid: 
 pub extern "C" fn cedar_store_parents(alloc: Global, handle: &mut Store, uid: &[u8]) -> u32
     ensures { Changes (Listing has_parent IsParent uid.now) handle.old.held.value result handle.new.held.value }
 {
-    let Some(mut inner) = take(alloc, handle) else {
-        return CLOSED;
-    };
-    let outcome = inner.kept.parents(alloc, uid);
-    *handle = opened(inner);
-    status_of(outcome)
+    on_open!(in alloc; handle, CLOSED, |state| status_of(state.parents(alloc, uid)))
 }
 
 /// Validates a copy of the store, as `Entities::try_validate` does. The first fault determines the status.
@@ -412,12 +365,7 @@ pub extern "C" fn cedar_store_parents(alloc: Global, handle: &mut Store, uid: &[
 pub extern "C" fn cedar_store_validate(alloc: Global, handle: &mut Store) -> u32
     ensures { Changes Validates handle.old.held.value result handle.new.held.value }
 {
-    let Some(mut inner) = take(alloc, handle) else {
-        return CLOSED;
-    };
-    let outcome = inner.kept.validate(alloc);
-    *handle = opened(inner);
-    status_of(outcome)
+    on_open!(in alloc; handle, CLOSED, |state| status_of(state.validate(alloc)))
 }
 
 /// Fills the handle `to` with the slice of the store of `from` at the uids in parts of a text. The slice has no result,
@@ -442,12 +390,7 @@ pub extern "C" fn cedar_store_slice(
     ensures same { from.new.held.value ≡ from.old.held.value }
     ensures fills { Fills (SlicesAt text.now uids.now) from.old.held.value result to.old.held.value to.new.held.value }
 {
-    let Some(mut inner) = take(alloc, from) else {
-        return CLOSED;
-    };
-    let made = inner.kept.slice(alloc, text, uids);
-    *from = opened(inner);
-    fill(alloc, to, made)
+    on_open!(in alloc; from, CLOSED, |state| fill(alloc, to, state.slice(alloc, text, uids)))
 }
 
 /// Fills the handle `to` with a copy of the store of `from`. The copy has no result, no numbers and no last error.
@@ -463,12 +406,7 @@ pub extern "C" fn cedar_store_copy(alloc: Global, from: &mut Store, to: &mut Sto
     ensures same { from.new.held.value ≡ from.old.held.value }
     ensures fills { Fills Copies from.old.held.value result to.old.held.value to.new.held.value }
 {
-    let Some(inner) = take(alloc, from) else {
-        return CLOSED;
-    };
-    let made = inner.kept.copy(alloc);
-    *from = opened(inner);
-    fill(alloc, to, made)
+    on_open!(in alloc; from, CLOSED, |state| fill(alloc, to, state.copy(alloc)))
 }
 
 /// Writes to `out` whether both stores have deeply equal entities.
@@ -489,17 +427,10 @@ pub extern "C" fn cedar_store_equal(
     ensures other { other.new.held.value ≡ other.old.held.value }
     ensures compares { Compares one.old.held.value other.old.held.value result out.old out.new }
 {
-    let Some(inner) = take(alloc, one) else {
-        return CLOSED;
-    };
-    let Some(beside) = take(alloc, other) else {
-        *one = opened(inner);
-        return CLOSED;
-    };
-    *out = inner.kept.is_equal(&beside.kept);
-    *one = opened(inner);
-    *other = opened(beside);
-    0
+    on_both!(in alloc; one, other, |state, beside| {
+        *out = state.is_equal(beside);
+        0
+    })
 }
 
 /// Copies the bytes of the result, from position `from` on, as many as fit. Returns the number of all bytes, which is 0
@@ -514,12 +445,7 @@ pub extern "C" fn cedar_store_result(
     ensures same { handle.new.held.value ≡ handle.old.held.value }
     ensures copies { CopiesResult handle.old.held.value from out.old result out.new }
 {
-    let Some(inner) = take(alloc, handle) else {
-        return 0;
-    };
-    let told = copy_out(inner.kept.answer.bytes(), from, out);
-    *handle = opened(inner);
-    told
+    on_open!(in alloc; handle, 0, |state| copy_out(state.answer.bytes(), from, out))
 }
 
 /// Copies the spans of the texts of the result within its bytes, from the text at position `from` on, as many as fit.
@@ -534,12 +460,7 @@ pub extern "C" fn cedar_store_result_spans(
     ensures same { handle.new.held.value ≡ handle.old.held.value }
     ensures copies { CopiesSpans handle.old.held.value from out.old result out.new }
 {
-    let Some(inner) = take(alloc, handle) else {
-        return 0;
-    };
-    let told = copy_out(inner.kept.answer.spans(), from, out);
-    *handle = opened(inner);
-    told
+    on_open!(in alloc; handle, 0, |state| copy_out(state.answer.spans(), from, out))
 }
 
 /// Copies the text of the last error of a call on the store, as much as fits. Returns the length of the whole text,
@@ -549,10 +470,5 @@ pub extern "C" fn cedar_store_error_text(alloc: Global, handle: &mut Store, out:
     ensures same { handle.new.held.value ≡ handle.old.held.value }
     ensures copies { CopiesErrorText handle.old.held.value out.old result out.new }
 {
-    let Some(inner) = take(alloc, handle) else {
-        return 0;
-    };
-    let told = copy_out(&inner.kept.refusal, 0, out);
-    *handle = opened(inner);
-    told
+    on_open!(in alloc; handle, 0, |state| copy_out(&state.refusal, 0, out))
 }

@@ -3,7 +3,8 @@ ghost use Rattle.std.specs.Prelude.{◌≡◌};
 ghost use Rattle.cedar_c_stores.specs.Stores.{Copies, SlicesAt};
 ghost use Rattle.cedar_c.specs.StoreCalls.{Fills};
 
-use crate::store::{CLOSED, Store, fill, opened, take};
+use crate::handles::{CLOSED, on_open};
+use crate::store::{Store, fill, opened, take};
 use cedar_c_lists::Span;
 use std::alloc::Global;
 
@@ -20,12 +21,7 @@ pub extern "C" fn cedar_store_deep_copy(alloc: Global, from: &mut Store, to: &mu
     ensures same { from.new.held.value ≡ from.old.held.value }
     ensures fills { Fills Copies from.old.held.value result to.old.held.value to.new.held.value }
 {
-    let Some(inner) = take(alloc, from) else {
-        return CLOSED;
-    };
-    let made = inner.kept.deep_copy(alloc);
-    *from = opened(inner);
-    fill(alloc, to, made)
+    on_open!(in alloc; from, CLOSED, |state| fill(alloc, to, state.deep_copy(alloc)))
 }
 
 /// Fills the handle `to` with a deep copy of the slice of the store of `from` at the uids in parts of a text. The copy
@@ -50,10 +46,5 @@ pub extern "C" fn cedar_store_slice_deep_copy(
     ensures same { from.new.held.value ≡ from.old.held.value }
     ensures fills { Fills (SlicesAt text.now uids.now) from.old.held.value result to.old.held.value to.new.held.value }
 {
-    let Some(mut inner) = take(alloc, from) else {
-        return CLOSED;
-    };
-    let made = inner.kept.slice_deep_copy(alloc, text, uids);
-    *from = opened(inner);
-    fill(alloc, to, made)
+    on_open!(in alloc; from, CLOSED, |state| fill(alloc, to, state.slice_deep_copy(alloc, text, uids)))
 }

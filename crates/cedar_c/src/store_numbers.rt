@@ -4,7 +4,8 @@ ghost use Rattle.cedar_c_stores.specs.Numbers.{ReadsPresenceByNumber, ReadsAnces
 ghost use Rattle.cedar_c.specs.StoreCalls.{Changes};
 ghost use Rattle.cedar_c.specs.StoreNumbers.{ReadsBoolOfState, WritesNumber};
 
-use crate::store::{CLOSED, Store, opened, take};
+use crate::handles::{CLOSED, on_open};
+use crate::store::{Store, opened, take};
 use cedar_c_lists::{status_of, write_bool, write_result};
 use std::alloc::Global;
 
@@ -27,12 +28,7 @@ pub extern "C" fn cedar_store_uid_number(
     ensures { WritesNumber (ReturnsNumber uid.now)
         handle.old.held.value result handle.new.held.value number.old number.new }
 {
-    let Some(mut inner) = take(alloc, handle) else {
-        return CLOSED;
-    };
-    let told = inner.kept.uid_number(alloc, uid);
-    *handle = opened(inner);
-    write_result(told, number)
+    on_open!(in alloc; handle, CLOSED, |state| write_result(state.uid_number(alloc, uid), number))
 }
 
 /// Stores the text of the uid of a number as the result.
@@ -48,12 +44,7 @@ pub extern "C" fn cedar_store_uid_number(
 pub extern "C" fn cedar_store_number_uid(alloc: Global, handle: &mut Store, number: usize) -> u32
     ensures { Changes (NamesNumber number) handle.old.held.value result handle.new.held.value }
 {
-    let Some(mut inner) = take(alloc, handle) else {
-        return CLOSED;
-    };
-    let outcome = inner.kept.number_uid(alloc, number);
-    *handle = opened(inner);
-    status_of(outcome)
+    on_open!(in alloc; handle, CLOSED, |state| status_of(state.number_uid(alloc, number)))
 }
 
 /// Writes to `out` whether the store has an entity with the uid of a number. Does not allocate.
@@ -75,12 +66,7 @@ pub extern "C" fn cedar_store_has_number(
     ensures asks { ReadsBoolOfState (λ k r. ReadsPresenceByNumber k.store k.numbers number r)
         handle.old.held.value result out.old out.new }
 {
-    let Some(inner) = take(alloc, handle) else {
-        return CLOSED;
-    };
-    let told = inner.kept.has_number(number);
-    *handle = opened(inner);
-    write_bool(told, out)
+    on_open!(in alloc; handle, CLOSED, |state| write_bool(state.has_number(number), out))
 }
 
 /// Writes to `out` whether the entity with the uid of the number `child` is a descendant of the uid of the number
@@ -105,10 +91,5 @@ pub extern "C" fn cedar_store_is_descendant_of_numbers(
     ensures asks { ReadsBoolOfState (λ k r. ReadsAncestryByNumbers k.store k.numbers child ancestor r)
         handle.old.held.value result out.old out.new }
 {
-    let Some(inner) = take(alloc, handle) else {
-        return CLOSED;
-    };
-    let told = inner.kept.is_descendant_of_numbers(child, ancestor);
-    *handle = opened(inner);
-    write_bool(told, out)
+    on_open!(in alloc; handle, CLOSED, |state| write_bool(state.is_descendant_of_numbers(child, ancestor), out))
 }

@@ -4,7 +4,8 @@ ghost use Rattle.cedar_c_stores.specs.Queries.{AnswersDescendants, AnswersDescen
 ghost use Rattle.cedar_c.specs.StoreCalls.{Changes, ReadsBoolOfStore};
 ghost use Rattle.cedar_c.specs.StoreValues.{GetsFrom};
 
-use crate::store::{CLOSED, Store, opened, take};
+use crate::handles::{CLOSED, on_open};
+use crate::store::{Store, opened, take};
 use cedar_c_lists::{status_of, write_bool};
 use std::alloc::Global;
 
@@ -22,12 +23,7 @@ use std::alloc::Global;
 pub extern "C" fn cedar_store_descendants(alloc: Global, handle: &mut Store, uid: &[u8]) -> u32
     ensures { Changes (AnswersDescendants uid.now) handle.old.held.value result handle.new.held.value }
 {
-    let Some(mut inner) = take(alloc, handle) else {
-        return CLOSED;
-    };
-    let outcome = inner.kept.descendants(alloc, uid);
-    *handle = opened(inner);
-    status_of(outcome)
+    on_open!(in alloc; handle, CLOSED, |state| status_of(state.descendants(alloc, uid)))
 }
 
 /// Stores the descendants of a uid that have a type as the result, in ascending order of uid.
@@ -50,12 +46,7 @@ pub extern "C" fn cedar_store_descendants_of_type(
     ensures { Changes (AnswersDescendantsOfType uid.now ty.now)
         handle.old.held.value result handle.new.held.value }
 {
-    let Some(mut inner) = take(alloc, handle) else {
-        return CLOSED;
-    };
-    let outcome = inner.kept.descendants_of_type(alloc, uid, ty);
-    *handle = opened(inner);
-    status_of(outcome)
+    on_open!(in alloc; handle, CLOSED, |state| status_of(state.descendants_of_type(alloc, uid, ty)))
 }
 
 /// Writes to `has` whether there is a path over one or more parents from one uid to another. Stores a shortest path as
@@ -79,12 +70,7 @@ pub extern "C" fn cedar_store_path(
     ensures { GetsFrom (AnswersPath from.now to.now)
         handle.old.held.value result handle.new.held.value has.old has.new }
 {
-    let Some(mut inner) = take(alloc, handle) else {
-        return CLOSED;
-    };
-    let told = inner.kept.path(alloc, from, to);
-    *handle = opened(inner);
-    write_bool(told, has)
+    on_open!(in alloc; handle, CLOSED, |state| write_bool(state.path(alloc, from, to), has))
 }
 
 /// Writes to `out` whether one uid reaches another over one or more parents.
@@ -108,10 +94,5 @@ pub extern "C" fn cedar_store_reaches(
     ensures asks { ReadsBoolOfStore
         (λ S r. ReadsReach S from.now to.now r) handle.old.held.value result out.old out.new }
 {
-    let Some(mut inner) = take(alloc, handle) else {
-        return CLOSED;
-    };
-    let told = inner.kept.reaches(alloc, from, to);
-    *handle = opened(inner);
-    write_bool(told, out)
+    on_open!(in alloc; handle, CLOSED, |state| write_bool(state.reaches(alloc, from, to), out))
 }

@@ -7,7 +7,8 @@ ghost use Rattle.cedar_c_stores.specs.Reads.{has_indirect, tags_count, tags_of};
 ghost use Rattle.cedar_c.specs.StoreCalls.{ReadsBoolOfStore, Changes};
 ghost use Rattle.cedar_c.specs.StoreReads.{ReadsBoolOfBoth, ReadsPartial, BecomesPartial, CountsHandle};
 
-use crate::store::{CLOSED, Store, opened, take};
+use crate::handles::{CLOSED, on_both, on_open};
+use crate::store::{Store, opened, take};
 use cedar_c_lists::{status_of, write_bool, write_result};
 use std::alloc::Global;
 
@@ -23,12 +24,7 @@ use std::alloc::Global;
 pub extern "C" fn cedar_store_uids(alloc: Global, handle: &mut Store) -> u32
     ensures { Changes (AnswersOf AreAllUids) handle.old.held.value result handle.new.held.value }
 {
-    let Some(mut inner) = take(alloc, handle) else {
-        return CLOSED;
-    };
-    let outcome = inner.kept.uids(alloc);
-    *handle = opened(inner);
-    status_of(outcome)
+    on_open!(in alloc; handle, CLOSED, |state| status_of(state.uids(alloc)))
 }
 
 /// Writes 2 to `found` if the store has an entity with a uid. Otherwise writes 1 for a partial store, and 0 for another
@@ -51,12 +47,7 @@ pub extern "C" fn cedar_store_entity(
     ensures same { handle.new.held.value ≡ handle.old.held.value }
     ensures tells { CountsHandle (λ S r. FindsAt S uid.now r) handle.old.held.value result found.old found.new }
 {
-    let Some(mut inner) = take(alloc, handle) else {
-        return CLOSED;
-    };
-    let told = inner.kept.entity(alloc, uid);
-    *handle = opened(inner);
-    write_result(told, found)
+    on_open!(in alloc; handle, CLOSED, |state| write_result(state.entity(alloc, uid), found))
 }
 
 /// Makes the store partial. A missing entity is then unknown.
@@ -68,12 +59,10 @@ pub extern "C" fn cedar_store_entity(
 pub extern "C" fn cedar_store_partial(alloc: Global, handle: &mut Store) -> u32
     ensures { BecomesPartial handle.old.held.value result handle.new.held.value }
 {
-    let Some(mut inner) = take(alloc, handle) else {
-        return CLOSED;
-    };
-    inner.kept.make_partial(alloc);
-    *handle = opened(inner);
-    0
+    on_open!(in alloc; handle, CLOSED, |state| {
+        state.make_partial(alloc);
+        0
+    })
 }
 
 /// Writes to `out` whether the store is partial.
@@ -88,12 +77,10 @@ pub extern "C" fn cedar_store_is_partial(alloc: Global, handle: &mut Store, out:
     ensures same { handle.new.held.value ≡ handle.old.held.value }
     ensures asks { ReadsPartial handle.old.held.value result out.old out.new }
 {
-    let Some(inner) = take(alloc, handle) else {
-        return CLOSED;
-    };
-    *out = inner.kept.is_partial();
-    *handle = opened(inner);
-    0
+    on_open!(in alloc; handle, CLOSED, |state| {
+        *out = state.is_partial();
+        0
+    })
 }
 
 /// Stores the indirect ancestors of the entity with a uid as the result, in ascending order of uid.
@@ -114,12 +101,7 @@ pub extern "C" fn cedar_store_indirect_ancestors(
 ) -> u32
     ensures { Changes (Listing has_indirect IsIndirectAncestorIn uid.now) handle.old.held.value result handle.new.held.value }
 {
-    let Some(mut inner) = take(alloc, handle) else {
-        return CLOSED;
-    };
-    let outcome = inner.kept.indirect_ancestors(alloc, uid);
-    *handle = opened(inner);
-    status_of(outcome)
+    on_open!(in alloc; handle, CLOSED, |state| status_of(state.indirect_ancestors(alloc, uid)))
 }
 
 /// Writes to `out` whether the uid in `parent` is a parent of the entity with the uid in `child`.
@@ -144,12 +126,7 @@ pub extern "C" fn cedar_store_is_child_of(
     ensures asks { ReadsBoolOfStore (λ S r. ReadsRelation has_parent S child.now parent.now r)
         handle.old.held.value result out.old out.new }
 {
-    let Some(mut inner) = take(alloc, handle) else {
-        return CLOSED;
-    };
-    let told = inner.kept.is_child_of(alloc, child, parent);
-    *handle = opened(inner);
-    write_bool(told, out)
+    on_open!(in alloc; handle, CLOSED, |state| write_bool(state.is_child_of(alloc, child, parent), out))
 }
 
 /// Writes to `out` whether the uid in `ancestor` is an indirect ancestor of the entity with the uid in `child`.
@@ -174,12 +151,7 @@ pub extern "C" fn cedar_store_is_indirect_descendant_of(
     ensures asks { ReadsBoolOfStore (λ S r. ReadsRelation has_indirect S child.now ancestor.now r)
         handle.old.held.value result out.old out.new }
 {
-    let Some(mut inner) = take(alloc, handle) else {
-        return CLOSED;
-    };
-    let told = inner.kept.is_indirect_descendant_of(alloc, child, ancestor);
-    *handle = opened(inner);
-    write_bool(told, out)
+    on_open!(in alloc; handle, CLOSED, |state| write_bool(state.is_indirect_descendant_of(alloc, child, ancestor), out))
 }
 
 /// Stores the keys of the attributes of the entity with a uid as the result, in byte order.
@@ -196,12 +168,7 @@ pub extern "C" fn cedar_store_is_indirect_descendant_of(
 pub extern "C" fn cedar_store_keys(alloc: Global, handle: &mut Store, uid: &[u8]) -> u32
     ensures { Changes (AnswersAt (AreKeysOf attrs_of) uid.now) handle.old.held.value result handle.new.held.value }
 {
-    let Some(mut inner) = take(alloc, handle) else {
-        return CLOSED;
-    };
-    let outcome = inner.kept.keys(alloc, uid);
-    *handle = opened(inner);
-    status_of(outcome)
+    on_open!(in alloc; handle, CLOSED, |state| status_of(state.keys(alloc, uid)))
 }
 
 /// Stores the keys of the tags of the entity with a uid as the result, in byte order.
@@ -218,12 +185,7 @@ pub extern "C" fn cedar_store_keys(alloc: Global, handle: &mut Store, uid: &[u8]
 pub extern "C" fn cedar_store_tag_keys(alloc: Global, handle: &mut Store, uid: &[u8]) -> u32
     ensures { Changes (AnswersAt (AreKeysOf tags_of) uid.now) handle.old.held.value result handle.new.held.value }
 {
-    let Some(mut inner) = take(alloc, handle) else {
-        return CLOSED;
-    };
-    let outcome = inner.kept.tag_keys(alloc, uid);
-    *handle = opened(inner);
-    status_of(outcome)
+    on_open!(in alloc; handle, CLOSED, |state| status_of(state.tag_keys(alloc, uid)))
 }
 
 /// Writes the number of attributes of the entity with a uid to `count`.
@@ -247,12 +209,7 @@ pub extern "C" fn cedar_store_attrs_len(
     ensures tells { CountsHandle
         (λ S r. ReadsValue attrs_count S uid.now r) handle.old.held.value result count.old count.new }
 {
-    let Some(mut inner) = take(alloc, handle) else {
-        return CLOSED;
-    };
-    let told = inner.kept.attrs_len(alloc, uid);
-    *handle = opened(inner);
-    write_result(told, count)
+    on_open!(in alloc; handle, CLOSED, |state| write_result(state.attrs_len(alloc, uid), count))
 }
 
 /// Writes the number of tags of the entity with a uid to `count`.
@@ -276,12 +233,7 @@ pub extern "C" fn cedar_store_tags_len(
     ensures tells { CountsHandle
         (λ S r. ReadsValue tags_count S uid.now r) handle.old.held.value result count.old count.new }
 {
-    let Some(mut inner) = take(alloc, handle) else {
-        return CLOSED;
-    };
-    let told = inner.kept.tags_len(alloc, uid);
-    *handle = opened(inner);
-    write_result(told, count)
+    on_open!(in alloc; handle, CLOSED, |state| write_result(state.tags_len(alloc, uid), count))
 }
 
 /// Writes to `out` whether the entities with a uid are deeply equal in both stores.
@@ -307,17 +259,7 @@ pub extern "C" fn cedar_store_entity_equal(
     ensures asks { ReadsBoolOfBoth (λ S T r. ComparesAt S T uid.now r)
         handle.old.held.value other.old.held.value result out.old out.new }
 {
-    let Some(mut inner) = take(alloc, handle) else {
-        return CLOSED;
-    };
-    let Some(beside) = take(alloc, other) else {
-        *handle = opened(inner);
-        return CLOSED;
-    };
-    let told = inner.kept.entity_is_equal(alloc, uid, &beside.kept);
-    *handle = opened(inner);
-    *other = opened(beside);
-    write_bool(told, out)
+    on_both!(in alloc; handle, other, |state, beside| write_bool(state.entity_is_equal(alloc, uid, beside), out))
 }
 
 /// Stores the text of the store, from its `Display`, as the result.
@@ -332,12 +274,7 @@ pub extern "C" fn cedar_store_entity_equal(
 pub extern "C" fn cedar_store_text(alloc: Global, handle: &mut Store) -> u32
     ensures { Changes (AnswersOf (λ _ texts. IsOneText texts)) handle.old.held.value result handle.new.held.value }
 {
-    let Some(mut inner) = take(alloc, handle) else {
-        return CLOSED;
-    };
-    let outcome = inner.kept.text(alloc);
-    *handle = opened(inner);
-    status_of(outcome)
+    on_open!(in alloc; handle, CLOSED, |state| status_of(state.text(alloc)))
 }
 
 /// Stores the text of the entity with a uid, from its `Display`, as the result.
@@ -355,10 +292,5 @@ pub extern "C" fn cedar_store_entity_text(alloc: Global, handle: &mut Store, uid
     ensures { Changes
         (AnswersAt (λ _ texts. IsOneText texts) uid.now) handle.old.held.value result handle.new.held.value }
 {
-    let Some(mut inner) = take(alloc, handle) else {
-        return CLOSED;
-    };
-    let outcome = inner.kept.entity_text(alloc, uid);
-    *handle = opened(inner);
-    status_of(outcome)
+    on_open!(in alloc; handle, CLOSED, |state| status_of(state.entity_text(alloc, uid)))
 }

@@ -8,7 +8,8 @@ ghost use Rattle.cedar_c.specs.StoreCalls.{Changes};
 ghost use Rattle.cedar_c.specs.StoreValues.{CopiesNodes, GetsFrom};
 
 use crate::copying::copy_out;
-use crate::store::{CLOSED, Store, opened, take};
+use crate::handles::{CLOSED, on_open};
+use crate::store::{Store, opened, take};
 use cedar_c_lists::{Edge, Span, status_of, write_bool};
 use cedar_c_stores::{Content, EntityLists, Term};
 use cedar_c_trees::Node;
@@ -54,9 +55,6 @@ pub extern "C" fn cedar_store_build_with(
       nodes = nodes.now;
     }) mode) handle.old.held.value result handle.new.held.value }
 {
-    let Some(mut inner) = take(alloc, handle) else {
-        return CLOSED;
-    };
     let lists = EntityLists {
         text,
         uids,
@@ -68,9 +66,7 @@ pub extern "C" fn cedar_store_build_with(
         terms,
         nodes,
     };
-    let outcome = inner.kept.build_with(alloc, lists, content, mode);
-    *handle = opened(inner);
-    status_of(outcome)
+    on_open!(in alloc; handle, CLOSED, |state| status_of(state.build_with(alloc, lists, content, mode)))
 }
 
 /// Adds the entities in lists with their content, as `cedar_store_add` does. The content has the form that
@@ -114,9 +110,6 @@ pub extern "C" fn cedar_store_add_with(
       nodes = nodes.now;
     }) mode) handle.old.held.value result handle.new.held.value }
 {
-    let Some(mut inner) = take(alloc, handle) else {
-        return CLOSED;
-    };
     let lists = EntityLists {
         text,
         uids,
@@ -128,9 +121,7 @@ pub extern "C" fn cedar_store_add_with(
         terms,
         nodes,
     };
-    let outcome = inner.kept.add_with(alloc, lists, content, mode);
-    *handle = opened(inner);
-    status_of(outcome)
+    on_open!(in alloc; handle, CLOSED, |state| status_of(state.add_with(alloc, lists, content, mode)))
 }
 
 /// Upserts the entities in lists with their content, as `cedar_store_upsert` does. The content has the form that
@@ -172,9 +163,6 @@ pub extern "C" fn cedar_store_upsert_with(
       nodes = nodes.now;
     }) mode) handle.old.held.value result handle.new.held.value }
 {
-    let Some(mut inner) = take(alloc, handle) else {
-        return CLOSED;
-    };
     let lists = EntityLists {
         text,
         uids,
@@ -186,9 +174,7 @@ pub extern "C" fn cedar_store_upsert_with(
         terms,
         nodes,
     };
-    let outcome = inner.kept.upsert_with(alloc, lists, content, mode);
-    *handle = opened(inner);
-    status_of(outcome)
+    on_open!(in alloc; handle, CLOSED, |state| status_of(state.upsert_with(alloc, lists, content, mode)))
 }
 
 /// Writes to `has` whether the entity with a uid has an attribute at a key. If it has, stores the nodes of its partial
@@ -214,12 +200,7 @@ pub extern "C" fn cedar_store_get(
     ensures { GetsFrom (GetsAt attrs_of uid.now key.now)
         handle.old.held.value result handle.new.held.value has.old has.new }
 {
-    let Some(mut inner) = take(alloc, handle) else {
-        return CLOSED;
-    };
-    let told = inner.kept.get(alloc, uid, key);
-    *handle = opened(inner);
-    write_bool(told, has)
+    on_open!(in alloc; handle, CLOSED, |state| write_bool(state.get(alloc, uid, key), has))
 }
 
 /// Writes to `has` whether the entity with a uid has a tag at a key. Stores the nodes and their text as
@@ -245,12 +226,7 @@ pub extern "C" fn cedar_store_get_tag(
     ensures { GetsFrom (GetsAt tags_of uid.now key.now)
         handle.old.held.value result handle.new.held.value has.old has.new }
 {
-    let Some(mut inner) = take(alloc, handle) else {
-        return CLOSED;
-    };
-    let told = inner.kept.get_tag(alloc, uid, key);
-    *handle = opened(inner);
-    write_bool(told, has)
+    on_open!(in alloc; handle, CLOSED, |state| write_bool(state.get_tag(alloc, uid, key), has))
 }
 
 /// Copies the nodes of the last value, from position `from` on, as many as fit. Returns the number of all nodes, which
@@ -265,10 +241,5 @@ pub extern "C" fn cedar_store_result_nodes(
     ensures same { handle.new.held.value ≡ handle.old.held.value }
     ensures copies { CopiesNodes handle.old.held.value from out.old result out.new }
 {
-    let Some(inner) = take(alloc, handle) else {
-        return 0;
-    };
-    let told = copy_out(&inner.kept.nodes, from, out);
-    *handle = opened(inner);
-    told
+    on_open!(in alloc; handle, 0, |state| copy_out(&state.nodes, from, out))
 }

@@ -1,10 +1,7 @@
-use Rattle.cedar_c_sets.specs.Sets.{AddsTemplate}
 use Rattle.cedar_c.proofs.PolicyChanges.{changed}
 use Rattle.cedar_c.proofs.policies.cedar_policies_add_template.Goals as goal
 
-pub returns : goal.returns
-returns c =
-    changed (AddsTemplate c.args.id.now c.args.effect c.args.slots) c.args.handle.now.held.value
-    c.opened.result.held.value c.in-Some.inner.value c.deref_mut.result.now c.add_template-outcome.new.self
-    c.add_template-outcome.result c.status_of.result
-    c.in-Some.ensures.value c.deref_mut.ensures.value c.opened.ensures c.status_of.ensures c.add_template-outcome.ensures
+pub returns-in-Some : goal.returns-in-Some
+returns-in-Some c =
+    changed _ c.add_template.result c.in-Some.ensures.value c.deref_mut.ensures.value c.opened.ensures
+    c.status_of-result.ensures c.add_template.ensures

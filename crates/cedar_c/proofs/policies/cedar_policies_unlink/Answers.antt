@@ -1,10 +1,7 @@
-use Rattle.cedar_policy_set.specs.Steps.{unlink_step}
-use Rattle.cedar_c_sets.specs.Sets.{RemovesById}
 use Rattle.cedar_c.proofs.PolicyChanges.{changed}
 use Rattle.cedar_c.proofs.policies.cedar_policies_unlink.Goals as goal
 
-pub returns : goal.returns
-returns c =
-    changed (RemovesById unlink_step c.args.id.now) c.args.handle.now.held.value c.opened.result.held.value
-    c.in-Some.inner.value c.deref_mut.result.now c.unlink-outcome.new.self c.unlink-outcome.result c.status_of.result
-    c.in-Some.ensures.value c.deref_mut.ensures.value c.opened.ensures c.status_of.ensures c.unlink-outcome.ensures
+pub returns-in-Some : goal.returns-in-Some
+returns-in-Some c =
+    changed _ c.unlink.result c.in-Some.ensures.value c.deref_mut.ensures.value c.opened.ensures
+    c.status_of-result.ensures c.unlink.ensures

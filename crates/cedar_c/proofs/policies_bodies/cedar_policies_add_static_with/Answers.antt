@@ -1,16 +1,7 @@
-use Rattle.cedar_c_sets.specs.BodyCalls.{AddsStaticWith}
 use Rattle.cedar_c.proofs.PolicyChanges.{changed}
 use Rattle.cedar_c.proofs.policies_bodies.cedar_policies_add_static_with.Goals as goal
 
-pub returns : goal.returns
-returns c =
-    changed (AddsStaticWith c.args.id.now (record {
-      text = c.args.text.now;
-      body = c.args.body.now;
-      annotations = c.args.annotations.now;
-      uids = c.args.uids.now;
-      nodes = c.args.nodes.now;
-    })) c.args.handle.now.held.value
-    c.opened.result.held.value c.in-Some.inner.value c.deref_mut.result.now c.add_static_with-outcome.new.self
-    c.add_static_with-outcome.result c.status_of.result
-    c.in-Some.ensures.value c.deref_mut.ensures.value c.opened.ensures c.status_of.ensures c.add_static_with-outcome.ensures
+pub returns-in-Some : goal.returns-in-Some
+returns-in-Some c =
+    changed _ c.add_static_with.result c.in-Some.ensures.value c.deref_mut.ensures.value c.opened.ensures
+    c.status_of-result.ensures c.add_static_with.ensures

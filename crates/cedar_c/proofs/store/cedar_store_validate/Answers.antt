@@ -1,9 +1,7 @@
-use Rattle.cedar_c_stores.specs.Stores.{Validates}
 use Rattle.cedar_c.proofs.StoreChanges.{changed}
 use Rattle.cedar_c.proofs.store.cedar_store_validate.Goals as goal
 
-pub returns : goal.returns
-returns c =
-    changed (Validates) c.args.handle.now.held.value c.opened.result.held.value c.in-Some.inner.value
-    c.deref_mut.result.now c.validate-outcome.new.self c.validate-outcome.result c.status_of.result
-    c.in-Some.ensures.value c.deref_mut.ensures.value c.opened.ensures c.status_of.ensures c.validate-outcome.ensures
+pub returns-in-Some : goal.returns-in-Some
+returns-in-Some c =
+    changed _ c.validate.result c.in-Some.ensures.value c.deref_mut.ensures.value c.opened.ensures
+    c.status_of-result.ensures c.validate.ensures

@@ -1,10 +1,7 @@
-use Rattle.cedar_c_stores.specs.Reads.{AnswersAt, AreKeysOf, tags_of}
 use Rattle.cedar_c.proofs.StoreChanges.{changed}
 use Rattle.cedar_c.proofs.store_reads.cedar_store_tag_keys.Goals as goal
 
-pub returns : goal.returns
-returns c =
-    changed (AnswersAt (AreKeysOf tags_of) c.args.uid.now) c.args.handle.now.held.value
-    c.opened.result.held.value c.in-Some.inner.value c.deref_mut.result.now c.tag_keys-outcome.new.self
-    c.tag_keys-outcome.result c.status_of.result
-    c.in-Some.ensures.value c.deref_mut.ensures.value c.opened.ensures c.status_of.ensures c.tag_keys-outcome.ensures
+pub returns-in-Some : goal.returns-in-Some
+returns-in-Some c =
+    changed _ c.tag_keys.result c.in-Some.ensures.value c.deref_mut.ensures.value c.opened.ensures
+    c.status_of-result.ensures c.tag_keys.ensures

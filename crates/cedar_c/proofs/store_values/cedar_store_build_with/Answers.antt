@@ -1,18 +1,7 @@
-use Rattle.cedar_c_stores.specs.Contents.{BuildsFromLists}
 use Rattle.cedar_c.proofs.StoreChanges.{changed}
 use Rattle.cedar_c.proofs.store_values.cedar_store_build_with.Goals as goal
 
-pub returns : goal.returns
-returns c =
-    changed (BuildsFromLists (record {
-      text = c.args.text.now;
-      uids = c.args.uids.now;
-      count = c.args.count;
-      edges = c.args.edges.now;
-      above = c.args.above.now;
-      terms = c.args.terms.now;
-      nodes = c.args.nodes.now;
-    }) c.args.mode)
-    c.args.handle.now.held.value c.opened.result.held.value c.in-Some.inner.value c.deref_mut.result.now
-    c.build_with-outcome.new.self c.build_with-outcome.result c.status_of.result
-    c.in-Some.ensures.value c.deref_mut.ensures.value c.opened.ensures c.status_of.ensures c.build_with-outcome.ensures
+pub returns-in-Some : goal.returns-in-Some
+returns-in-Some c =
+    changed _ c.build_with.result c.in-Some.ensures.value c.deref_mut.ensures.value c.opened.ensures
+    c.status_of-result.ensures c.build_with.ensures
