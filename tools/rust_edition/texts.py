@@ -19,8 +19,9 @@ CODE = [
     (r'\buse std::mem::replace;', 'use std::mem;'),
     (r'\bErr\(ParseErrors::(\w+)\)(?= *(?:=>|\|))', r'Err(ParseErrors::\1(_))'),
 ]
-# a trait is imported if a file uses one of these methods of it
+# a trait is imported if a file uses one of these methods of it, a function or a constant if it uses one of these macros
 METHODS = {
+    'take': ['on_open', 'on_both'], 'opened': ['on_open', 'on_both'], 'CLOSED': ['on_both'],
     'StaticallyTyped': ['type_of'], 'TCNode': ['add_edge_to', 'add_edges_to', 'out_edges', 'get_key'], 'Hash': ['hash'],
     'Deref': ['deref'], 'Write': ['write_all', 'flush'], 'Read': ['read'],
 }
