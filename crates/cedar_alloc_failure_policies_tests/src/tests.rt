@@ -4,6 +4,7 @@ mod actions;
 mod annotations;
 mod bindings;
 mod bodies;
+mod cases;
 mod constraints;
 mod looking;
 mod maps;

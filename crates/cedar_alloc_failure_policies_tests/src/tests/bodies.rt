@@ -1,6 +1,7 @@
 // Tests of bodies.
+use super::cases::{made_on, of_parts, under_another_id};
 use super::id;
-use super::parts::{Parts, effect, parts, principal, resource};
+use super::parts::{effect, parts, principal, resource};
 use cedar_alloc_failures::{
     CallOutcome, Calls, Row, both, check_failures, is_worded, judged, made, on, same_copied,
     unmade, with,
@@ -10,24 +11,9 @@ use cedar_ids::policy_id::PolicyID;
 use std::alloc::{AllocError, Global};
 use std::fmt::Display;
 
-fn of_parts(alloc: Global, text: &str, made: Parts) -> Result<TemplateBody, AllocError> {
-    let ((id, notes), (action, clause)) = made;
-    TemplateBody::new(
-        alloc,
-        id,
-        None,
-        notes,
-        effect(text),
-        principal(text),
-        action,
-        resource(text),
-        clause,
-    )
-}
-
 pub(super) fn body(alloc: Global, text: &str) -> Option<TemplateBody> {
     match parts(alloc, text) {
-        Some(made) => of_parts(alloc, text, made).ok(),
+        Some(made) => of_parts!(TemplateBody, alloc, text, made).ok(),
         None => None,
     }
 }
@@ -56,7 +42,11 @@ const BODIES: &str = "
 
 fn new(alloc: Global, number: usize, row: Row<'_>) -> CallOutcome {
     with(alloc, number, parts(alloc, row.given), |parts| {
-        made(alloc, of_parts(alloc, row.given, parts), row.want)
+        made(
+            alloc,
+            of_parts!(TemplateBody, alloc, row.given, parts),
+            row.want,
+        )
     })
 }
 
@@ -72,19 +62,7 @@ pub(super) fn has_id_and_text<T: Display>(
 }
 
 fn under_another_id(alloc: Global, number: usize, row: Row<'_>) -> CallOutcome {
-    let (text, name) = row.given.split_once(", ").unwrap_or((row.given, ""));
-    match both(id(alloc, name), body(alloc, text)) {
-        Some((id, body)) => {
-            let tried = with(alloc, number, Some(id), |id| {
-                judged(alloc, body.new_id(id), row.want, |body| {
-                    has_id_and_text(alloc, body.id(), body, row.want)
-                })
-            });
-            drop(body);
-            tried
-        }
-        None => unmade(),
-    }
+    under_another_id!(alloc, number, row, body, ", ", |body, id| body.new_id(id))
 }
 
 impl Calls for OnBodies {
@@ -92,26 +70,28 @@ impl Calls for OnBodies {
         match row.call {
             "TemplateBody::new" => new(alloc, number, row),
             "TemplateBody::new_id" => under_another_id(alloc, number, row),
-            "TemplateBody::principal_constraint_expr" => {
-                on(alloc, number, body(alloc, row.given), |body| {
-                    made(alloc, body.principal_constraint_expr(alloc), row.want)
-                })
-            }
-            "TemplateBody::action_constraint_expr" => {
-                on(alloc, number, body(alloc, row.given), |body| {
-                    made(alloc, body.action_constraint_expr(alloc), row.want)
-                })
-            }
-            "TemplateBody::resource_constraint_expr" => {
-                on(alloc, number, body(alloc, row.given), |body| {
-                    made(alloc, body.resource_constraint_expr(alloc), row.want)
-                })
-            }
-            "TemplateBody::condition" => {
-                on(alloc, number, body(alloc, row.given), |body| {
-                    made(alloc, body.condition(alloc), row.want)
-                })
-            }
+            "TemplateBody::principal_constraint_expr" => made_on!(
+                alloc,
+                number,
+                row,
+                body,
+                principal_constraint_expr
+            ),
+            "TemplateBody::action_constraint_expr" => made_on!(
+                alloc,
+                number,
+                row,
+                body,
+                action_constraint_expr
+            ),
+            "TemplateBody::resource_constraint_expr" => made_on!(
+                alloc,
+                number,
+                row,
+                body,
+                resource_constraint_expr
+            ),
+            "TemplateBody::condition" => made_on!(alloc, number, row, body, condition),
             "TemplateBody::clone" => same_copied(alloc, number, body(alloc, row.given)),
             "TemplateBodyImpl::clone" => same_copied(alloc, number, inner(alloc, row.given)),
             _ => unmade(),

@@ -4,6 +4,7 @@ ghost use Rattle.std.specs.Prelude.{◌≡◌, [], IfSome};
 ghost use Rattle.cedar_terms.specs.Walk.{slots_of};
 
 use super::bodies::has_id_and_text;
+use super::cases::{made_on, under_another_id};
 use super::parts::values;
 use super::statics::unlinked;
 use super::templates::shared;
@@ -140,19 +141,14 @@ fn from_shared_clause(alloc: Global, number: usize, row: Row<'_>) -> CallOutcome
 }
 
 fn under_another_id(alloc: Global, number: usize, row: Row<'_>) -> CallOutcome {
-    let (text, name) = row.given.split_once("; ").unwrap_or((row.given, ""));
-    match both(id(alloc, name), policy(alloc, text)) {
-        Some((name, policy)) => {
-            let tried = with(alloc, number, Some(name), |name| {
-                judged(alloc, policy.new_id(alloc, name), row.want, |policy| {
-                    has_id_and_text(alloc, policy.id(), policy, row.want)
-                })
-            });
-            drop(policy);
-            tried
-        }
-        None => unmade(),
-    }
+    under_another_id!(
+        alloc,
+        number,
+        row,
+        policy,
+        "; ",
+        |policy, id| policy.new_id(alloc, id)
+    )
 }
 
 // Returns whether the template of a link has this id, or there is no link.
@@ -187,26 +183,22 @@ impl Calls for OnPolicies {
             "Policy::from_when_clause_annos" => from_shared_clause(alloc, number, row),
             "Policy::new_id" => under_another_id(alloc, number, row),
             "Policy::new_template_id" => under_another_template_id(alloc, number, row),
-            "Policy::principal_constraint" => {
-                on(alloc, number, policy(alloc, row.given), |policy| {
-                    made(alloc, policy.principal_constraint(alloc), row.want)
-                })
-            }
-            "Policy::resource_constraint" => {
-                on(alloc, number, policy(alloc, row.given), |policy| {
-                    made(alloc, policy.resource_constraint(alloc), row.want)
-                })
-            }
-            "Policy::action_constraint" => {
-                on(alloc, number, policy(alloc, row.given), |policy| {
-                    made(alloc, policy.action_constraint(alloc), row.want)
-                })
-            }
-            "Policy::condition" => {
-                on(alloc, number, policy(alloc, row.given), |policy| {
-                    made(alloc, policy.condition(alloc), row.want)
-                })
-            }
+            "Policy::principal_constraint" => made_on!(
+                alloc,
+                number,
+                row,
+                policy,
+                principal_constraint
+            ),
+            "Policy::resource_constraint" => made_on!(
+                alloc,
+                number,
+                row,
+                policy,
+                resource_constraint
+            ),
+            "Policy::action_constraint" => made_on!(alloc, number, row, policy, action_constraint),
+            "Policy::condition" => made_on!(alloc, number, row, policy, condition),
             "Policy::unknown_entities" => {
                 on(alloc, number, policy(alloc, row.given), |policy| {
                     judged(alloc, policy.unknown_entities(alloc), row.want, |uids| {

@@ -1,7 +1,8 @@
 // Tests of static policies.
 use super::bodies::has_id_and_text;
+use super::cases::{of_parts, under_another_id};
 use super::id;
-use super::parts::{Parts, effect, parts, principal, resource};
+use super::parts::{effect, parts, principal, resource};
 use super::templates::{template, two};
 use cedar_alloc_failures::{
     CallOutcome, Calls, Row, both, check_failures, is_worded, judged, made, on, same_copied,
@@ -10,24 +11,9 @@ use cedar_alloc_failures::{
 use cedar_policy::{Policy, StaticPolicy, Template, UnexpectedSlotError};
 use std::alloc::{AllocError, Global};
 
-fn of_parts(alloc: Global, text: &str, made: Parts) -> Result<StaticPolicy, UnexpectedSlotError> {
-    let ((id, notes), (action, clause)) = made;
-    StaticPolicy::new(
-        alloc,
-        id,
-        None,
-        notes,
-        effect(text),
-        principal(text),
-        action,
-        resource(text),
-        clause,
-    )
-}
-
 pub(super) fn unlinked(alloc: Global, text: &str) -> Option<StaticPolicy> {
     match parts(alloc, text) {
-        Some(made) => of_parts(alloc, text, made).ok(),
+        Some(made) => of_parts!(StaticPolicy, alloc, text, made).ok(),
         None => None,
     }
 }
@@ -51,19 +37,14 @@ const STATICS: &str = "
 ";
 
 fn under_another_id(alloc: Global, number: usize, row: Row<'_>) -> CallOutcome {
-    let (text, name) = two(row.given);
-    match both(id(alloc, name), unlinked(alloc, text)) {
-        Some((id, policy)) => {
-            let tried = with(alloc, number, Some(id), |id| {
-                judged(alloc, policy.new_id(id), row.want, |policy| {
-                    has_id_and_text(alloc, policy.id(), policy, row.want)
-                })
-            });
-            drop(policy);
-            tried
-        }
-        None => unmade(),
-    }
+    under_another_id!(
+        alloc,
+        number,
+        row,
+        unlinked,
+        ", ",
+        |policy, id| policy.new_id(id)
+    )
 }
 
 fn linked(alloc: Global, number: usize, row: Row<'_>) -> CallOutcome {
@@ -84,7 +65,11 @@ impl Calls for OnStatics {
         match row.call {
             "StaticPolicy::new" => {
                 with(alloc, number, parts(alloc, row.given), |parts| {
-                    made(alloc, of_parts(alloc, row.given, parts), row.want)
+                    made(
+                        alloc,
+                        of_parts!(StaticPolicy, alloc, row.given, parts),
+                        row.want,
+                    )
                 })
             }
             "StaticPolicy::try_from" => {

@@ -1,8 +1,9 @@
 // Tests of templates.
 use super::actions::action;
 use super::bodies::{body, has_id_and_text};
+use super::cases::{made_on, of_parts, under_another_id};
 use super::id;
-use super::parts::{Parts, effect, parts, principal, resource, values};
+use super::parts::{effect, parts, principal, resource, values};
 use cedar_action::ActionTypesError;
 use cedar_alloc_failures::{
     CallOutcome, Calls, Row, both, check_failures, copied, counted, is_worded, judged, made, on,
@@ -18,24 +19,9 @@ use cedar_terms::slot::{Slot, SlotId};
 use std::alloc::{AllocError, Global};
 use std::rc::Rc;
 
-fn of_parts(alloc: Global, text: &str, made: Parts) -> Result<Template, AllocError> {
-    let ((id, notes), (action, clause)) = made;
-    Template::new(
-        alloc,
-        id,
-        None,
-        notes,
-        effect(text),
-        principal(text),
-        action,
-        resource(text),
-        clause,
-    )
-}
-
 pub(super) fn template(alloc: Global, text: &str) -> Option<Template> {
     match parts(alloc, text) {
-        Some(made) => of_parts(alloc, text, made).ok(),
+        Some(made) => of_parts!(Template, alloc, text, made).ok(),
         None => None,
     }
 }
@@ -104,19 +90,14 @@ fn new_shared(alloc: Global, number: usize, row: Row<'_>) -> CallOutcome {
 }
 
 fn under_another_id(alloc: Global, number: usize, row: Row<'_>) -> CallOutcome {
-    let (text, name) = two(row.given);
-    match both(id(alloc, name), template(alloc, text)) {
-        Some((id, template)) => {
-            let tried = with(alloc, number, Some(id), |id| {
-                judged(alloc, template.new_id(id), row.want, |template| {
-                    has_id_and_text(alloc, template.id(), template, row.want)
-                })
-            });
-            drop(template);
-            tried
-        }
-        None => unmade(),
-    }
+    under_another_id!(
+        alloc,
+        number,
+        row,
+        template,
+        ", ",
+        |template, id| template.new_id(id)
+    )
 }
 
 impl Calls for OnTemplates {
@@ -124,7 +105,11 @@ impl Calls for OnTemplates {
         match row.call {
             "Template::new" => {
                 with(alloc, number, parts(alloc, row.given), |parts| {
-                    made(alloc, of_parts(alloc, row.given, parts), row.want)
+                    made(
+                        alloc,
+                        of_parts!(Template, alloc, row.given, parts),
+                        row.want,
+                    )
                 })
             }
             "Template::new_shared" => new_shared(alloc, number, row),
@@ -134,11 +119,7 @@ impl Calls for OnTemplates {
                 })
             }
             "Template::new_id" => under_another_id(alloc, number, row),
-            "Template::condition" => {
-                on(alloc, number, template(alloc, row.given), |template| {
-                    made(alloc, template.condition(alloc), row.want)
-                })
-            }
+            "Template::condition" => made_on!(alloc, number, row, template, condition),
             "Template::clone" => same_copied(alloc, number, template(alloc, row.given)),
             "Template::try_validate" => {
                 with(alloc, number, template(alloc, row.given), |template| {
