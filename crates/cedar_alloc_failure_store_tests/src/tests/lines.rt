@@ -1,5 +1,6 @@
 // Tests of the functions that lines share, and of those that read and run lines on policy sets. Fields are separated by
 // spaces, or by tabs for `read_fields`.
+use super::commands::{are_words, command_in, prepared_by, taken_by};
 use super::stores::are_written;
 use cedar_alloc_failures::{
     Answer, CallOutcome, Calls, Row, ample_if, check_failures, is_worded, judged, made, refuse,
@@ -177,74 +178,16 @@ fn read(alloc: Global, number: usize, row: Row<'_>) -> CallOutcome {
 
 // Returns the command with this text.
 fn command(alloc: Global, text: &str) -> Option<PolicyCommand> {
-    let fields: Result<Vec<&str>, std::alloc::AllocError> = text.split(' ').collect(alloc);
-    match fields {
-        Ok(fields) => {
-            let mut known = KnownTypes::new(alloc);
-            let command = read_policy_command(alloc, &mut known, fields.as_slice());
-            drop(known);
-            drop(fields);
-            match command {
-                Ok(command) => command,
-                Err(_) => None,
-            }
-        }
-        Err(_) => None,
-    }
+    command_in!(alloc, text, KnownTypes, read_policy_command)
 }
 
 // Runs commands on sets. Returns whether all succeeded.
 fn prepared(alloc: Global, sets: &mut PolicySets, texts: &str) -> bool {
-    for text in texts.split(';') {
-        if !text.trim().is_empty() {
-            match command(alloc, text.trim()) {
-                Some(command) => {
-                    let mut out = Vec::new(alloc);
-                    let taken = sets.take(alloc, command, &mut out).is_ok();
-                    drop(out);
-                    if !taken {
-                        return false;
-                    }
-                }
-                None => return false,
-            }
-        }
-    }
-    true
-}
-
-// Returns whether bytes have these words. Tabs and ends of lines count as spaces.
-fn are_words(bytes: &[u8], want: &str) -> bool {
-    match str::from_utf8(bytes) {
-        Ok(text) => cedar_alloc_failures::has_words(text, want),
-        Err(_) => false,
-    }
+    prepared_by!(alloc, sets, texts)
 }
 
 fn taken(alloc: Global, number: usize, row: Row<'_>) -> CallOutcome {
-    let (before, text) = row.given.rsplit_once(';').unwrap_or(("", row.given));
-    let mut sets = PolicySets::new(alloc);
-    let well = prepared(alloc, &mut sets, before);
-    let tried = match command(alloc, text.trim()) {
-        Some(command) if well => {
-            let mut out = Vec::new(alloc);
-            refuse(alloc, number);
-            let answer = sets.take(alloc, command, &mut out);
-            let refused = stop_failing(alloc);
-            let answer = match answer {
-                Ok(()) => ample_if(are_words(out.as_slice(), row.want)),
-                Err(_) => Answer::Memory,
-            };
-            drop(out);
-            CallOutcome { answer, refused }
-        }
-        command => {
-            drop(command);
-            unmade()
-        }
-    };
-    drop(sets);
-    tried
+    taken_by!(alloc, number, row, PolicySets)
 }
 
 fn fields_taken(alloc: Global, number: usize, row: Row<'_>) -> CallOutcome {
@@ -303,26 +246,35 @@ fn are_known(alloc: Global, known: &mut KnownTypes, before: &str) -> bool {
     }
 }
 
+// Runs a call that finds a uid, with the types of the uids before its text cached.
+macro_rules! with_known {
+    ($alloc:ident, $number:ident, $row:ident, $before:ident, |$known:ident| $call:expr) => {{
+        let mut cache = KnownTypes::new($alloc);
+        let well = are_known($alloc, &mut cache, $before);
+        let tried = if well {
+            let $known = &mut cache;
+            refuse($alloc, $number);
+            judged($alloc, $call, $row.want, |uid| match uid {
+                Some(uid) => is_worded($alloc, uid, $row.want),
+                None => $row.want == "none",
+            })
+        } else {
+            unmade()
+        };
+        drop(cache);
+        tried
+    }};
+}
+
 fn shared(alloc: Global, number: usize, row: Row<'_>) -> CallOutcome {
     let (before, text) = row.given.rsplit_once(' ').unwrap_or(("", row.given));
-    let mut known = KnownTypes::new(alloc);
-    let well = are_known(alloc, &mut known, before);
-    let tried = if well {
-        refuse(alloc, number);
-        judged(
-            alloc,
-            uid_of_text(alloc, &mut known, text),
-            row.want,
-            |uid| match uid {
-                Some(uid) => is_worded(alloc, uid, row.want),
-                None => row.want == "none",
-            },
-        )
-    } else {
-        unmade()
-    };
-    drop(known);
-    tried
+    with_known!(
+        alloc,
+        number,
+        row,
+        before,
+        |known| uid_of_text(alloc, known, text)
+    )
 }
 
 // Parses the last word into the buffer of the first word, with the type of the word between them cached.
@@ -335,24 +287,13 @@ fn uid_in_room(
 ) -> CallOutcome {
     let mut room = room;
     let (before, text) = words.rsplit_once(' ').unwrap_or(("", words));
-    let mut known = KnownTypes::new(alloc);
-    let well = are_known(alloc, &mut known, before);
-    let tried = if well {
-        refuse(alloc, number);
-        judged(
-            alloc,
-            uid_in(alloc, &mut known, &mut room, text),
-            row.want,
-            |uid| match uid {
-                Some(uid) => is_worded(alloc, uid, row.want),
-                None => row.want == "none",
-            },
-        )
-    } else {
-        unmade()
-    };
-    drop(known);
-    tried
+    with_known!(
+        alloc,
+        number,
+        row,
+        before,
+        |known| uid_in(alloc, known, &mut room, text)
+    )
 }
 
 // Copies the second word into the buffer of the first word.

@@ -1,4 +1,5 @@
 // Tests of the functions that read and run lines on the store. Fields are separated by spaces.
+use super::commands::{are_words, command_in, prepared_by, taken_by};
 use cedar_alloc_failures::{
     Answer, CallOutcome, Calls, Row, ample_if, check_failures, is_worded, judged, refuse,
     stop_failing, unmade,
@@ -123,74 +124,16 @@ fn waits(alloc: Global, number: usize, row: Row<'_>) -> CallOutcome {
 
 // Returns the command with this text.
 fn command(alloc: Global, text: &str) -> Option<EntityCommand> {
-    let fields: Result<Vec<&str>, std::alloc::AllocError> = text.split(' ').collect(alloc);
-    match fields {
-        Ok(fields) => {
-            let mut known = KnownUids::new(alloc);
-            let command = read_entity_command(alloc, &mut known, fields.as_slice());
-            drop(known);
-            drop(fields);
-            match command {
-                Ok(command) => command,
-                Err(_) => None,
-            }
-        }
-        Err(_) => None,
-    }
+    command_in!(alloc, text, KnownUids, read_entity_command)
 }
 
 // Runs commands on a store. Returns whether all succeeded.
 fn prepared(alloc: Global, store: &mut LineStore, texts: &str) -> bool {
-    for text in texts.split(';') {
-        if !text.trim().is_empty() {
-            match command(alloc, text.trim()) {
-                Some(command) => {
-                    let mut out = Vec::new(alloc);
-                    let taken = store.take(alloc, command, &mut out).is_ok();
-                    drop(out);
-                    if !taken {
-                        return false;
-                    }
-                }
-                None => return false,
-            }
-        }
-    }
-    true
-}
-
-// Returns whether bytes have these words. Tabs and ends of lines count as spaces.
-fn are_words(bytes: &[u8], want: &str) -> bool {
-    match str::from_utf8(bytes) {
-        Ok(text) => cedar_alloc_failures::has_words(text, want),
-        Err(_) => false,
-    }
+    prepared_by!(alloc, store, texts)
 }
 
 fn taken(alloc: Global, number: usize, row: Row<'_>) -> CallOutcome {
-    let (before, text) = row.given.rsplit_once(';').unwrap_or(("", row.given));
-    let mut store = LineStore::new(alloc);
-    let well = prepared(alloc, &mut store, before);
-    let tried = match command(alloc, text.trim()) {
-        Some(command) if well => {
-            let mut out = Vec::new(alloc);
-            refuse(alloc, number);
-            let answer = store.take(alloc, command, &mut out);
-            let refused = stop_failing(alloc);
-            let answer = match answer {
-                Ok(()) => ample_if(are_words(out.as_slice(), row.want)),
-                Err(_) => Answer::Memory,
-            };
-            drop(out);
-            CallOutcome { answer, refused }
-        }
-        command => {
-            drop(command);
-            unmade()
-        }
-    };
-    drop(store);
-    tried
+    taken_by!(alloc, number, row, LineStore)
 }
 
 impl Calls for OnStores {
