@@ -261,8 +261,14 @@ class Moves(ClusterTest):
         for target in ("a", "b"):
             with self.assertRaisesRegex(MoveError, "another move is running"):
                 await asyncio.to_thread(Move(self.admin_directory, self.tenant, target, lock_seconds=0.2).run)
+        waiting = asyncio.create_task(
+            asyncio.to_thread(Move(self.admin_directory, self.tenant, "b", lock_seconds=120).run)
+        )
+        await asyncio.sleep(0.5)
+        self.assertFalse(waiting.done())
         go_on.set()
         await first
+        self.assertEqual((await waiting).seconds, 0)
         await self.check_contents("b")
         again = await asyncio.to_thread(Move(self.admin_directory, self.tenant, "b").run)
         self.assertEqual(again.seconds, 0)
